@@ -2,33 +2,26 @@
 -- for the same.
 use Rattle.std.proofs.Common.{◌≡◌, ℕ, suc, zero, inl, inr, List, [], ◌∷◌, Bool}
 use Rattle.std.proofs.Common.{true, false, not, ◌&&◌, if◌then◌else◌, refl, ap, ◌∙◌}
-use Rattle.std.proofs.Common.{Option, None, Some, nat_lt, ◌==◌, ◌||◌, ◌+◌, find, drop}
-use Rattle.std.proofs.Common.{length, min, is_some, slice_get, encode_utf8, codes}
-use Rattle.std.specs.List.{list_any}
+use Rattle.std.proofs.Common.{Option, None, Some, find}
+use Rattle.std.proofs.Common.{is_some, slice_get, codes}
 use Rattle.std.specs.Option.{option_map_or}
 use Rattle.std.specs.Str.{bytes_eq, chars}
-use Rattle.clap.specs.Facts.{explicit_source, parser_of_value, unwrap_or_range}
-use Rattle.clap.specs.Faults.{count_fault, set_fault, action_fault, use_fault, settle_fault}
+use Rattle.clap.specs.Facts.{parser_of_value}
+use Rattle.clap.specs.Faults.{count_fault, action_fault, use_fault, settle_fault}
 use Rattle.clap.specs.Faults.{react_fault, option_fault, long_fault, short_fault, bundle_step_fault}
-use Rattle.clap.specs.Faults.{flags_fault, bundle_fault, flag_word_fault, other_fault}
-use Rattle.clap.specs.Faults.{word_fault, positional_fault, stray_fault, step_fault, turn_fault}
-use Rattle.clap.specs.Faults.{walk_fault, given_default_fault, default_fault, defaults_fault}
-use Rattle.clap.specs.Faults.{check_fault, level_fault, entered_fault, built_fault, fault_of}
+use Rattle.clap.specs.Faults.{flags_fault, flag_word_fault, other_fault}
+use Rattle.clap.specs.Faults.{stray_fault, step_fault, turn_fault}
+use Rattle.clap.specs.Faults.{walk_fault, defaults_fault}
+use Rattle.clap.specs.Faults.{level_fault, entered_fault, built_fault, fault_of}
 use Rattle.clap.specs.Kinds.{Kinds, IsAmong, or_else, values_kinds}
-use Rattle.clap.specs.Kinds.{range_kinds, request_kinds, check_kinds}
+use Rattle.clap.specs.Kinds.{request_kinds}
 use Rattle.clap.specs.Simple.{App, Shape, argument_words, built, entered, label_of, names_of}
-use Rattle.clap.specs.Values.{refused_kind}
-use Rattle.clap.specs.ValueTests.{accepts}
-use Rattle.clap.specs.Lexer.{long_of, short_of}
-use Rattle.clap.specs.Matches.{count_text}
-use Rattle.clap.specs.Takes.{is_given}
-use Rattle.clap.specs.Walk.{action_of, answers_to, arg_by_id, arg_by_index, arg_by_long}
-use Rattle.clap.specs.Walk.{arg_by_short, attached_value, count_of, finished, has_row}
-use Rattle.clap.specs.Walk.{is_empty, is_pending, settled, takes_several, takes_values}
-use Rattle.clap.specs.Walk.{walk, walk_from, word_met, most_values, values_or_missing}
+use Rattle.clap.specs.Walk.{answers_to, arg_by_long}
+use Rattle.clap.specs.Walk.{settled}
+use Rattle.clap.specs.Walk.{walk, walk_from}
 use Rattle.clap.specs.Walk.{Held, Names, Row, Rule, Step, Text, Waiting, Walk, idle}
-use Rattle.clap.specs.Walk.{option, positional, next, trailing, subcommand, value}
-use Rattle.clap.specs.Walk.{reacted, walked, with_default, nothing_held, subcommand_met}
+use Rattle.clap.specs.Walk.{value}
+use Rattle.clap.specs.Walk.{walked, with_default, nothing_held, subcommand_met}
 use Rattle.clap.specs.declared.builder.action.ArgAction.{ArgAction}
 use Rattle.clap.specs.declared.builder.action.ArgAction.TheVariants as action
 use Rattle.clap.specs.declared.builder.value_parser.ValueParser.{ValueParser}
@@ -77,83 +70,43 @@ alike_option : {X : Type 0} (f : X → Kinds) (o : Option X) (e : Kinds)
 alike_option f None e p q = q
 alike_option f (Some x) e p q = p x
 
+ruleset alike = (alike_none, alike_one, alike_or, alike_if, alike_option)
+
 -- one use of an argument
 alike_values : (ignore_case : Bool) (parser : ValueParser) (values : List Text)
     → Alike (values_kinds ignore_case parser values)
 alike_values ignore_case parser [] = alike_none
 alike_values ignore_case parser (v ∷ vs) =
-    alike_or _ _
-    (alike_if (accepts ignore_case parser v) [] _ alike_none (alike_one (refused_kind parser)))
-    (alike_values ignore_case parser vs)
+    alike_or _ _ (search alike) (alike_values ignore_case parser vs)
 
 alike_count : (a : Rule) (values : List Text) (rows : List Row) → Alike (count_fault a values rows)
-alike_count a [] rows =
-    alike_if (accepts a.ignore_case (parser_of_value a.parser)
-    (count_text (min (count_of a.id rows + 1) 255))) [] _ alike_none
-    (alike_one _)
+alike_count a [] rows = search alike
 alike_count a (v ∷ vs) rows = alike_values a.ignore_case (parser_of_value a.parser) (v ∷ vs)
 
 alike_request : (act : ArgAction) → Alike (request_kinds act)
 alike_request action.Set = alike_none
-alike_request action.Append = alike_none
-alike_request action.SetTrue = alike_none
-alike_request action.SetFalse = alike_none
-alike_request action.Count = alike_none
-alike_request action.Help = alike_one _
-alike_request action.HelpShort = alike_one _
-alike_request action.HelpLong = alike_one _
-alike_request action.Version = alike_one _
-
-alike_set : (again : Bool) (a : Rule) (values : List Text) (rows : List Row)
-    → Alike (set_fault again a values rows)
-alike_set again a values rows =
-    alike_or _ _ (alike_if _ _ [] (alike_one _) alike_none) (alike_values _ _ values)
+alike_request other = search alike
 
 alike_action : (act : ArgAction) (again : Bool) (a : Rule) (values : List Text) (rows : List Row)
     → Alike (action_fault act again a values rows)
-alike_action action.Set again a values rows = alike_set again a values rows
-alike_action action.Append again a values rows = alike_values _ _ values
-alike_action action.SetTrue again a values rows = alike_set again a values rows
-alike_action action.SetFalse again a values rows = alike_set again a values rows
 alike_action action.Count again a values rows = alike_count a values rows
-alike_action action.Help again a values rows = alike_one _
-alike_action action.HelpShort again a values rows = alike_one _
-alike_action action.HelpLong again a values rows = alike_one _
-alike_action action.Version again a values rows = alike_one _
-
-range_by : (a b c d e : Bool)
-    → Alike (if a then kind.InvalidValue ∷ []
-    else (if b then (if c then [] else kind.WrongNumberOfValues ∷ [])
-    else (if d then kind.TooFewValues ∷ [] else (if e then kind.TooManyValues ∷ [] else []))))
-range_by true b c d e = alike_one _
-range_by false true true d e = alike_none
-range_by false true false d e = alike_one _
-range_by false false c true e = alike_one _
-range_by false false c false true = alike_one _
-range_by false false c false false = alike_none
-
-alike_range : (least most n : ℕ) → Alike (range_kinds least most n)
-alike_range least most n =
-    range_by (nat_lt 0 least && n == 0) (least == most) (least == n) (nat_lt n least)
-    (nat_lt most n)
+alike_action action.Set again a values rows = search (alike, alike_values)
+alike_action action.SetTrue again a values rows = search (alike, alike_values)
+alike_action action.SetFalse again a values rows = search (alike, alike_values)
+alike_action action.Append again a values rows = alike_values _ _ values
+alike_action other again a values rows = alike_request other
 
 alike_use : (again : Bool) (a : Rule) (values : List Text) (rows : List Row)
     → Alike (use_fault again a values rows)
-alike_use again a values rows =
-    alike_or _ _
-    (alike_range (unwrap_or_range a.range).start_inclusive (most_values a) (length values))
-    (alike_action (action_of a) again a (values_or_missing a values) rows)
+alike_use again a values rows = search (alike, alike_action) depth 7
 
 -- the walk
 alike_settle : (c : List Rule) (again : Bool) (h : Held) → Alike (settle_fault c again h)
-alike_settle c again h =
-    alike_option _ h.pending [] (λ p. alike_option (λ a. use_fault again a p.1 h.rows)
-    (arg_by_id c p.0) [] (λ a. alike_use again a p.1 h.rows) alike_none) alike_none
+alike_settle c again h = search (alike, alike_use)
 
 alike_react : (c : List Rule) (again : Bool) (a : Rule) (values : List Text) (h : Held)
     → Alike (react_fault c again a values h)
-alike_react c again a values h =
-    alike_or _ _ (alike_settle c again h) (alike_use again a values (settled c h).rows)
+alike_react c again a values h = search (alike, alike_settle, alike_use)
 
 alike_option_met : (c : List Rule) (again : Bool) (a : Rule) (v : Option Text) (h : Held)
     → Alike (option_fault c again a v h)
@@ -163,29 +116,22 @@ alike_option_met c again a (Some v) h = alike_react c again a (v ∷ []) h
 alike_long : (c : List Rule) (again : Bool) (o : Option Rule) (v : Option Text) (h : Held)
     → Alike (long_fault c again o v h)
 alike_long c again None v h = alike_one _
-alike_long c again (Some a) v h =
-    alike_if (takes_values a) _ _ (alike_option_met c again a v h)
-    (alike_if (is_some v) _ _ (alike_one _) (alike_react c again a [] h))
+alike_long c again (Some a) v h = search (alike, alike_option_met, alike_react)
 
 alike_short : (c : List Rule) (again : Bool) (o : Option Rule) (rest : Text) (h : Held)
     (more : Held → Kinds)
     → ((k : Held) → Alike (more k))
     → Alike (short_fault c again o rest h more)
 alike_short c again None rest h more p = alike_one _
-alike_short c again (Some a) rest h more p =
-    alike_if (takes_values a) _ _ (alike_option_met c again a (attached_value rest) h)
-    (alike_or _ _ (alike_react c again a [] h) (p (reacted c a [] h)))
+alike_short c again (Some a) rest h more p = search (alike, alike_option_met, alike_react, p)
 
 alike_bundle_step : (c : List Rule) (again : Bool) (o : Option ℕ) (flags : Text)
     (skip : ℕ) (h : Held) (more : Text → ℕ → Held → Kinds)
     → ((t : Text) (n : ℕ) (k : Held) → Alike (more t n k))
     → Alike (bundle_step_fault c again o flags skip h more)
 alike_bundle_step c again None flags skip h more p = alike_none
-alike_bundle_step c again (Some x) flags zero h more p =
-    let rest = drop (length (encode_utf8 x)) flags in
-    alike_short c again (arg_by_short c x) rest h (more rest 0) (p rest 0)
-alike_bundle_step c again (Some x) flags (suc skip) h more p =
-    p (drop (length (encode_utf8 x)) flags) skip h
+alike_bundle_step c again (Some x) flags zero h more p = search (alike_short, p)
+alike_bundle_step c again (Some x) flags (suc skip) h more p = p _ skip h
 
 alike_flags : (c : List Rule) (again : Bool) (k : ℕ) (flags : Text) (skip : ℕ) (h : Held)
     → Alike (flags_fault c again k flags skip h)
@@ -199,9 +145,7 @@ alike_flag_word : (c : List Rule) (again : Bool) (o : Option (Text × Option Tex
     (word : Text) (h : Held)
     → Alike (flag_word_fault c again o word h)
 alike_flag_word c again (Some p) word h = alike_long c again (arg_by_long c p.0) p.1 h
-alike_flag_word c again None word h =
-    alike_option (λ flags. bundle_fault c again flags h) (short_of word) []
-    (λ flags. alike_flags c again (length flags) flags h.skip (record h { skip = 0 })) alike_none
+alike_flag_word c again None word h = search (alike, alike_flags)
 
 -- no word is a subcommand `help`
 no_help : (named off : Bool) (kinds : Kinds)
@@ -212,9 +156,7 @@ no_help true false kinds e = cc
 no_help false off kinds e = alike_none
 
 alike_no_name : (s : Shape) (word : Text) (h : Held) → Alike (other_fault s None word h)
-alike_no_name s word h =
-    alike_if (bytes_eq word (45 ∷ 45 ∷ [])) [] _ alike_none
-    (alike_flag_word s.rules s.args_override_self (long_of word) word h)
+alike_no_name s word h = search (alike, alike_flag_word)
 
 alike_other : (s : Shape) (name : Option Text) (word : Text) (h : Held)
     → s.disable_help_subcommand ≡ true
@@ -233,15 +175,7 @@ above s names off waiting word h = alike_other s (subcommand_met names waiting w
 
 leaf : (s : Shape) → HasNoHelp s []
 leaf s idle word h = alike_no_name s word h
-leaf s (option id) word h = alike_no_name s word h
-leaf s positional word h = alike_no_name s word h
-
-alike_word : (s : Shape) (names : Names) (is_trailing : Bool) (waiting : Waiting)
-    (word : Text) (h : Held)
-    → HasNoHelp s names
-    → Alike (word_fault s names is_trailing waiting word h)
-alike_word s names is_trailing waiting word h p =
-    alike_if is_trailing [] _ alike_none (p waiting word h)
+leaf s other word h = alike_no_name s word h
 
 in_stray : (topic : Topic) (one : ErrorKind)
     → IsAmong one (kind.UnknownArgument ∷ kind.InvalidSubcommand ∷ [])
@@ -255,22 +189,12 @@ alike_stray s = alike_if s.is_leaf _ _ (alike_one _) (record { same = in_stray }
 
 alike_step : (s : Shape) (position : ℕ) (h : Held) (step : Step)
     → Alike (step_fault s position h step)
-alike_step s position h (next waiting) = alike_none
-alike_step s position h (trailing place) = alike_none
-alike_step s position h (subcommand name) = alike_none
-alike_step s position h value =
-    alike_option (λ a. positional_fault s.rules s.args_override_self a h)
-    (arg_by_index s.rules position) (stray_fault s)
-    (λ a. alike_if (is_pending a h.pending && takes_several a) [] _ alike_none
-    (alike_settle s.rules s.args_override_self h)) (alike_stray s)
+alike_step s position h value = search (alike, alike_settle, alike_stray)
+alike_step s position h other = alike_none
 
 alike_turn : (s : Shape) (names : Names) (w : Walk) (word : Text)
     → HasNoHelp s names → Alike (turn_fault s names w word)
-alike_turn s names w word q =
-    let met = word_met s.rules names w.is_trailing w.waiting w.position word w.held in
-    alike_if (is_some w.stopped) [] _ alike_none (alike_or _ _
-    (alike_word s names w.is_trailing w.waiting word w.held q)
-    (alike_step s w.position met.0 met.1))
+alike_turn s names w word q = search (alike, q, alike_step)
 
 alike_walk : (s : Shape) (names : Names) (w : Walk) (words : List Text)
     → HasNoHelp s names → Alike (walk_fault s names w words)
@@ -281,33 +205,12 @@ alike_walk s names w (word ∷ rest) q =
     (alike_walk s names (walked s.rules names w word) rest q)
 
 -- after the walk
-alike_default : (rows : List Row) (a : Rule) → Alike (default_fault rows a)
-alike_default rows a =
-    alike_if (has_row a.id rows || is_empty a.defaults) []
-    (given_default_fault a a.defaults) alike_none
-    (alike_or _ _ (alike_request (action_of a))
-    (alike_values a.ignore_case (parser_of_value a.parser) a.defaults))
-
 alike_defaults : (rules : List Rule) (rows : List Row) → Alike (defaults_fault rows rules)
 unfolding defaults_fault
 alike_defaults [] rows = alike_none
 alike_defaults (a ∷ rest) rows =
-    alike_or _ _ (alike_default rows a) (alike_defaults rest (with_default rows a))
-
-alike_check : (a b c : Bool) → Alike (check_kinds a b c)
-alike_check true b c = alike_one _
-alike_check false true c = alike_one _
-alike_check false false true = alike_one _
-alike_check false false false = alike_none
-
-alike_checks : (s : Shape) (rows : List Row) (has_subcommand : Bool)
-    → Alike (check_fault s rows has_subcommand)
-alike_checks s rows has_subcommand = alike_check
-    (not has_subcommand
-    && (s.arg_required_else_help && not (list_any (λ r. explicit_source r.source) rows)))
-    (not has_subcommand && s.subcommand_required)
-    (not (s.subcommand_negates_reqs && has_subcommand)
-    && list_any (λ a. a.required && not (is_given a.id rows)) s.rules)
+    alike_or _ _ (search (alike, alike_request, alike_values))
+    (alike_defaults rest (with_default rows a))
 
 alike_level : (s : Shape) (names : Names) (h : Held) (words : List Text)
     (has_subcommand : Bool) (below : Kinds)
@@ -317,8 +220,7 @@ alike_level s names h words has_subcommand below q p =
     let end = (walk s.rules names h words).held in
     alike_or _ _ (alike_walk s names (walk_from h) words q)
     (alike_or _ _ p (alike_or _ _ (alike_settle s.rules s.args_override_self end)
-    (alike_or _ _ (alike_defaults s.rules (settled s.rules end).rows)
-    (alike_checks s (finished s.rules end) has_subcommand))))
+    (alike_or _ _ (alike_defaults s.rules (settled s.rules end).rows) (search alike))))
 
 alike_entered : (a : App) (stop : Option (Text × List Text)) → Alike (entered_fault a stop)
 alike_entered a stop =

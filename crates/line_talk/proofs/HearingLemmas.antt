@@ -2,7 +2,6 @@
 use Rattle.std.proofs.Common.{◌≡◌, ◌≢◌, inr, ℕ, ◌+◌, ◌^◌, ◌<◌, ◌≤◌, List, [], ◌∷◌, ◌++◌}
 use Rattle.std.proofs.Common.{length, refl, sym, ap, ◌∙◌, subst, arith, append_assoc}
 use Rattle.std.proofs.Common.{length-append, Some, Bool, true, false, cond, nat_eq}
-use Rattle.std.proofs.lemmas.List.{append-nil}
 use Rattle.std.proofs.lemmas.Grind.{common_steps}
 use Rattle.line_talk.specs.declared.sink.Stop.{Stop}
 use Rattle.line_talk.specs.declared.sink.Stop.TheVariants.{Memory}
@@ -57,16 +56,16 @@ pub hears_then : {A : Type 0} {turn : Turn A} {over : A → Bool} {a b c : A}
     → HearsAll turn over a begun count xs b line n old mid
     → HearsAll turn over b line n ys c more m mid new
     → HearsAll turn over a begun count (xs ++ ys) c more m old new
-hears_then {A} {turn} {over} {a} {b} {c} {begun} {line} {more} {count} {n} {m} {xs}
-    {ys} {old} {mid} {new} p q = record {
+hears_then {turn = turn} {over} {a} {c = c} {begun} {line} {xs = xs} {ys} {old} {new = new} p q =
+    let behind = heard_behind begun line xs ys p.same_line in
+    record {
       answered =
-          subst (λ (ls : List Line). Answered turn over a ls c old new)
-          (heard_behind begun line xs ys p.same_line) (answered_then p.answered q.answered);
+          subst (λ (ls : List Line). Answered turn over a ls c old new) behind
+          (answered_then p.answered q.answered);
       same_line =
           q.same_line ∙ ap (λ l. begun_after l ys) p.same_line ∙ sym (begun_append begun xs ys);
-      counts = let x = p.counts in let y = q.counts in
-          let z = ap length (heard_behind begun line xs ys p.same_line) in
-          omega (arith, x, y, z, length-append (heard_from begun xs) (heard_from line ys));
+      counts =
+          omega (arith, ap length behind, length-append (heard_from begun xs) (heard_from line ys));
     }
 
 -- one byte that is no LF
@@ -82,7 +81,7 @@ hears_byte {A} turn over a line n b k ne =
           subst (λ (ls : List Line). Answered turn over a ls a k k) (sym none)
           (answered_none turn over a k);
       same_line = sym begun;
-      counts = let l = ap length none in omega (arith, l);
+      counts = omega (arith, ap length none);
     }
 
 heard_lf : (line : Line) (b : ℕ) → b ≡ 10 → heard_from line (b ∷ []) ≡ line ∷ []
@@ -102,7 +101,7 @@ hears_lf {A} turn over a c line n b old new lf going t =
           subst (λ (ls : List Line). Answered turn over a ls c old new) (sym one)
           (answered_one going t);
       same_line = sym begun;
-      counts = let l = ap length one in omega (arith, l);
+      counts = omega (arith, ap length one);
     }
 
 -- what was heard of a piece, and the rest of it
@@ -115,38 +114,6 @@ pub record Hearing {A : Type 0} (turn : Turn A) (over : A → Bool) (old : A) (b
   pub going : over new ≡ false
   pub few : number < 2 ^ 20
 
-pub hearing_start : {A : Type 0} (turn : Turn A) (over : A → Bool) (a : A) (line : Line)
-    (count : ℕ) (piece : List ℕ) (k : SinkState)
-    → over a ≡ false → count < 2 ^ 20 → Hearing turn over a line count piece k a line count piece k
-hearing_start turn over a line count piece k going few = record {
-  front = [];
-  split = refl;
-  all = hears_none turn over a line count k;
-  going = going;
-  few = few;
-}
-
-split_on : (piece front all rest : List ℕ) (b : ℕ)
-    → piece ≡ front ++ all → all ≡ b ∷ rest
-    → piece ≡ (front ++ b ∷ []) ++ rest
-split_on piece front all rest b split e =
-    split ∙ ap (λ l. front ++ l) e ∙ sym (append_assoc front (b ∷ []) rest)
-
-pub hearing_byte : {A : Type 0} {turn : Turn A} {over : A → Bool} {old : A} {begun : Line}
-    {count : ℕ} {piece : List ℕ} {output : SinkState}
-    {new : A} {line : Line} {number : ℕ} {all : List ℕ} {now : SinkState}
-    → Hearing turn over old begun count piece output new line number all now
-    → (b : ℕ) (rest : List ℕ) → all ≡ b ∷ rest → b ≢ 10
-    → Hearing turn over old begun count piece output new (longer_line line b) number rest now
-hearing_byte {A} {turn} {over} {old} {begun} {count} {piece} {output} {new} {line}
-    {number} {all} {now} h b rest e ne = record {
-      front = h.front ++ b ∷ [];
-      split = split_on piece h.front all rest b h.split e;
-      all = hears_then h.all (hears_byte turn over new line number b now ne);
-      going = h.going;
-      few = h.few;
-    }
-
 -- after the reply to the line that ends at an LF
 pub record Replied {A : Type 0} (turn : Turn A) (over : A → Bool) (old : A) (begun : Line)
     (count : ℕ) (piece : List ℕ) (output : SinkState)
@@ -155,128 +122,104 @@ pub record Replied {A : Type 0} (turn : Turn A) (over : A → Bool) (old : A) (b
   pub split : piece ≡ front ++ rest
   pub all : HearsAll turn over old begun count front new (Some []) number output now
 
-pub hearing_line : {A : Type 0} {turn : Turn A} {over : A → Bool} {old : A} {begun : Line}
-    {count : ℕ} {piece : List ℕ} {output : SinkState}
-    {mid : A} {line : Line} {number : ℕ} {all : List ℕ} {between : SinkState}
-    → Hearing turn over old begun count piece output mid line number all between
-    → (b : ℕ) (rest : List ℕ) → all ≡ b ∷ rest → b ≡ 10
-    → (asked : Line) → asked ≡ line
-    → {new : A} {now : SinkState}
-    → TellsTurn turn mid asked new between now
-    → Replied turn over old begun count piece output new (number + 1) rest now
-hearing_line {A} {turn} {over} {old} {begun} {count} {piece} {output} {mid} {line}
-    {number} {all} {between} h b rest e lf asked same {new} {now} t = record {
-      front = h.front ++ b ∷ [];
-      split = split_on piece h.front all rest b h.split e;
-      all =
-          hears_then h.all (hears_lf turn over mid new line number b between now lf h.going
-          (subst (λ (l : Line). TellsTurn turn mid l new between now) same t));
-    }
+module _ {A : Type 0} {turn : Turn A} {over : A → Bool} {old : A} {begun : Line} {count : ℕ}
+    {piece : List ℕ} {output : SinkState} {mid : A} {line : Line} {number : ℕ} {all : List ℕ}
+    {between : SinkState}
+    (h : Hearing turn over old begun count piece output mid line number all between) where
+  split_on : (b : ℕ) (rest : List ℕ) → all ≡ b ∷ rest → piece ≡ (h.front ++ b ∷ []) ++ rest
+  split_on b rest e =
+      h.split ∙ ap (λ l. h.front ++ l) e ∙ sym (append_assoc h.front (b ∷ []) rest)
 
-pub hearing_on : {A : Type 0} {turn : Turn A} {over : A → Bool} {old : A} {begun : Line}
-    {count : ℕ} {piece : List ℕ} {output : SinkState}
-    {new : A} {number : ℕ} {rest : List ℕ} {now : SinkState}
-    → Replied turn over old begun count piece output new number rest now
-    → over new ≡ false → number < 2 ^ 20
-    → Hearing turn over old begun count piece output new (Some []) number rest now
-hearing_on r going few =
-    record { front = r.front; split = r.split; all = r.all; going = going; few = few }
+  pub hearing_byte : (b : ℕ) (rest : List ℕ)
+      → all ≡ b ∷ rest → b ≢ 10
+      → Hearing turn over old begun count piece output mid (longer_line line b) number rest between
+  hearing_byte b rest e ne = record {
+    front = h.front ++ b ∷ [];
+    split = split_on b rest e;
+    all = hears_then h.all (hears_byte turn over mid line number b between ne);
+    going = h.going;
+    few = h.few;
+  }
 
-pub hearing_over : {A : Type 0} {turn : Turn A} {over : A → Bool} {old : A} {begun : Line}
-    {count : ℕ} {piece : List ℕ} {output : SinkState}
-    {new : A} {number : ℕ} {rest : List ℕ} {now : SinkState}
-    → Replied turn over old begun count piece output new number rest now
-    → over new ≡ true
-    → HearsPart (λ lines. Answered turn over old lines new output now × (over new ≡ true))
-    begun piece
-hearing_over {rest = rest} r over_now =
-    record { front = r.front; rest = rest; split = r.split; holds = (r.all.answered, over_now) }
+  pub hearing_line : (b : ℕ) (rest : List ℕ)
+      → all ≡ b ∷ rest → b ≡ 10
+      → (asked : Line) → asked ≡ line
+      → {new : A} {now : SinkState}
+      → TellsTurn turn mid asked new between now
+      → Replied turn over old begun count piece output new (number + 1) rest now
+  hearing_line b rest e lf asked same {new} {now} t = record {
+    front = h.front ++ b ∷ [];
+    split = split_on b rest e;
+    all =
+        hears_then h.all (hears_lf turn over mid new line number b between now lf h.going
+        (subst (λ (l : Line). TellsTurn turn mid l new between now) same t));
+  }
 
-pub hearing_limit : {A : Type 0} {turn : Turn A} {over : A → Bool} {old : A} {begun : Line}
-    {count : ℕ} {piece : List ℕ} {output : SinkState}
-    {new : A} {number : ℕ} {rest : List ℕ} {now : SinkState}
-    → Replied turn over old begun count piece output new number rest now
-    → number ≡ 2 ^ 20
-    → HearsPart
-    (λ lines. Answered turn over old lines new output now × (count + length lines ≡ 2 ^ 20))
-    begun piece
-hearing_limit {rest = rest} r last = record {
-  front = r.front;
-  rest = rest;
-  split = r.split;
-  holds = (r.all.answered, sym r.all.counts ∙ last);
-}
+  pub hearing_stops : (cut : Turn A) (b : ℕ) (rest : List ℕ)
+      → all ≡ b ∷ rest → b ≡ 10
+      → (asked : Line) → asked ≡ line
+      → {new : A} {now : SinkState} {cause : Stop}
+      → Breaks cut mid asked new between now cause
+      → HearsPart (λ lines.
+      StopsBehind turn cut over old lines new output now cause × (count + length lines ≤ 2 ^ 20))
+      begun piece
+  hearing_stops cut b rest e lf asked same {new} {now} {cause} t =
+      let here : Breaks cut mid line new between now cause =
+      subst (λ (l : Line). Breaks cut mid l new between now cause) same t in
+      let stops : StopsBehind turn cut over mid (heard_from line (b ∷ [])) new between now cause
+      = subst (λ (ls : List Line). StopsBehind turn cut over mid ls new between now cause)
+      (sym (heard_lf line b lf)) (stops_one h.going here) in
+      let behind = heard_behind begun line h.front (b ∷ []) h.all.same_line in
+      record {
+        front = h.front ++ b ∷ [];
+        rest = rest;
+        split = split_on b rest e;
+        holds = (
+          subst (λ (ls : List Line). StopsBehind turn cut over old ls new output now cause)
+              behind (stops_then h.all.answered stops),
+          omega (
+            arith,
+            h.all.counts,
+            ap length behind,
+            ap length (heard_lf line b lf),
+            length-append (heard_from begun h.front) (heard_from line (b ∷ [])),
+          ),
+        );
+      }
 
-pub hearing_stops : {A : Type 0} {turn : Turn A} (cut : Turn A) {over : A → Bool}
-    {old : A} {begun : Line} {count : ℕ} {piece : List ℕ} {output : SinkState}
-    {mid : A} {line : Line} {number : ℕ} {all : List ℕ} {between : SinkState}
-    → Hearing turn over old begun count piece output mid line number all between
-    → (b : ℕ) (rest : List ℕ) → all ≡ b ∷ rest → b ≡ 10
-    → (asked : Line) → asked ≡ line
-    → {new : A} {now : SinkState} {cause : Stop}
-    → Breaks cut mid asked new between now cause
-    → HearsPart (λ lines.
-    StopsBehind turn cut over old lines new output now cause × (count + length lines ≤ 2 ^ 20))
-    begun piece
-hearing_stops {A} {turn} cut {over} {old} {begun} {count} {piece} {output} {mid} {line}
-    {number} {all} {between} h b rest e lf asked same {new} {now} {cause} t =
-    let here : Breaks cut mid line new between now cause =
-    subst (λ (l : Line). Breaks cut mid l new between now cause) same t in
-    let stops : StopsBehind turn cut over mid (heard_from line (b ∷ [])) new between now cause
-    = subst (λ (ls : List Line). StopsBehind turn cut over mid ls new between now cause)
-    (sym (heard_lf line b lf)) (stops_one h.going here) in
-    record {
-      front = h.front ++ b ∷ [];
-      rest = rest;
-      split = split_on piece h.front all rest b h.split e;
-      holds = (
-        subst (λ (ls : List Line). StopsBehind turn cut over old ls new output now cause)
-            (heard_behind begun line h.front (b ∷ []) h.all.same_line)
-            (stops_then h.all.answered stops),
-        let counts : number ≡ count + length (heard_from begun h.front) = h.all.counts in
-            let few : number < 2 ^ 20 = h.few in
-            omega (
-              arith,
-              counts,
-              few,
-              ap length (heard_behind begun line h.front (b ∷ []) h.all.same_line),
-              ap length (heard_lf line b lf),
-              length-append (heard_from begun h.front) (heard_from line (b ∷ [])),
-            ),
-      );
-    }
+  pub hearing_memory : (cut : Turn A)
+      → HearsPart (λ lines. StopsBehind turn cut over old lines mid output between Memory
+      × (count + length lines ≤ 2 ^ 20))
+      begun piece
+  hearing_memory cut = record {
+    front = h.front;
+    rest = all;
+    split = h.split;
+    holds = (inr (h.all.answered, refl), omega (arith, h.all.counts));
+  }
 
-pub hearing_memory : {A : Type 0} {turn : Turn A} (cut : Turn A) {over : A → Bool}
-    {old : A} {begun : Line} {count : ℕ} {piece : List ℕ} {output : SinkState}
-    {new : A} {line : Line} {number : ℕ} {rest : List ℕ} {now : SinkState}
-    → Hearing turn over old begun count piece output new line number rest now
-    → HearsPart (λ lines.
-    StopsBehind turn cut over old lines new output now Memory × (count + length lines ≤ 2 ^ 20))
-    begun piece
-hearing_memory cut {begun = begun} {count = count} {number = number} {rest = rest} h =
-    let counts : number ≡ count + length (heard_from begun h.front) = h.all.counts in
-    let few : number < 2 ^ 20 = h.few in
-    record {
-      front = h.front;
-      rest = rest;
-      split = h.split;
-      holds = (inr (h.all.answered, refl), omega (arith, counts, few));
-    }
+module _ {A : Type 0} {turn : Turn A} {over : A → Bool} {old : A} {begun : Line} {count : ℕ}
+    {piece : List ℕ} {output : SinkState} {new : A} {number : ℕ} {rest : List ℕ} {now : SinkState}
+    (r : Replied turn over old begun count piece output new number rest now) where
+  pub hearing_on : over new ≡ false
+      → number < 2 ^ 20
+      → Hearing turn over old begun count piece output new (Some []) number rest now
+  hearing_on going few =
+      record { front = r.front; split = r.split; all = r.all; going = going; few = few }
 
--- the piece was heard to its end
-pub hearing_done : {A : Type 0} {turn : Turn A} {over : A → Bool} {old : A} {begun : Line}
-    {count : ℕ} {piece : List ℕ} {output : SinkState}
-    {new : A} {line : Line} {number : ℕ} {rest : List ℕ} {now : SinkState}
-    → Hearing turn over old begun count piece output new line number rest now
-    → rest ≡ []
-    → HearsAll turn over old begun count piece new line number output now
-    × (over new ≡ false) × (number < 2 ^ 20)
-hearing_done {A} {turn} {over} {old} {begun} {count} {piece} {output} {new} {line}
-    {number} {rest} {now} h none =
-    let whole : h.front ≡ piece =
-    sym (h.split ∙ ap (λ l. h.front ++ l) none ∙ append-nil h.front) in (
-      subst (λ (p : List ℕ). HearsAll turn over old begun count p new line number output now)
-          whole h.all,
-      h.going,
-      h.few,
-    )
+  pub hearing_over : over new ≡ true
+      → HearsPart (λ lines. Answered turn over old lines new output now × (over new ≡ true))
+      begun piece
+  hearing_over over_now =
+      record { front = r.front; rest = rest; split = r.split; holds = (r.all.answered, over_now) }
+
+  pub hearing_limit : number ≡ 2 ^ 20
+      → HearsPart
+      (λ lines. Answered turn over old lines new output now × (count + length lines ≡ 2 ^ 20))
+      begun piece
+  hearing_limit last = record {
+    front = r.front;
+    rest = rest;
+    split = r.split;
+    holds = (r.all.answered, sym r.all.counts ∙ last);
+  }

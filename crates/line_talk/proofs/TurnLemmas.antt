@@ -86,7 +86,5 @@ pub stops_rose : {A : Type 0} {turn cut : Turn A} {over : A → Bool} {a b : A}
     {xs : List Line} {old new : SinkState} {cause : Stop}
     → StopsBehind turn cut over a xs b old new cause → cause ≡ Output → Rose old.faults new.faults
 stops_rose {old = old} {new = new} (inl k) e =
-    let later : old.faults ≤ k.between.faults = k.answered.wrote.later in
-    let rose : Rose k.between.faults new.faults = k.breaks.stopped.rose e in
-    omega (arith, later, rose)
-stops_rose (inr q) e = absurd (grind (arith, e, q.1))
+    omega (arith, k.answered.wrote.later, k.breaks.stopped.rose e)
+stops_rose (inr q) e = absurd cc

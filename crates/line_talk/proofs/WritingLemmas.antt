@@ -1,10 +1,9 @@
 -- How texts that are written in parts go on from one another.
-use Rattle.std.proofs.Common.{◌≡◌, ℕ, List, [], ◌++◌, length, subst, refl, sym, arith}
+use Rattle.std.proofs.Common.{◌≡◌, ℕ, List, [], ◌++◌, refl, sym, arith}
 use Rattle.std.proofs.lemmas.List.{append-nil}
 use Rattle.std.proofs.lemmas.Grind.{common_steps}
 use Rattle.line_talk.specs.declared.sink.Stop.{Stop}
-use Rattle.line_talk.specs.declared.sink.Stop.TheVariants.{Output, Memory}
-use Rattle.line_talk.specs.Causes.{Rose}
+use Rattle.line_talk.specs.declared.sink.Stop.TheVariants.{Memory}
 use Rattle.line_talk.specs.Streams.{SinkState, Wrote}
 use Rattle.line_talk.specs.Writing.{WroteUpTo, Stopped}
 use Rattle.line_talk.proofs.StreamsLemmas.{wrote_none, wrote_then}
@@ -21,22 +20,6 @@ upto_more {old} {mid} {new} {text} {rest} u bytes more e w = record {
   wrote = wrote_then u.wrote w;
 }
 
-pub upto_done : {old new : SinkState} {text : List ℕ} (rest : List ℕ) → WroteUpTo old new text rest
-    → length rest ≡ 0 → Wrote old new text
-upto_done {old} {new} {text} rest u empty =
-    let same : text ≡ u.part = grind (arith, common_steps, u.split, empty) in
-    subst (λ (t : List ℕ). Wrote old new t) (sym same) u.wrote
-
-pub upto_stopped : {old mid new : SinkState} {text rest : List ℕ} → WroteUpTo old mid text rest
-    → Wrote mid new [] → (cause : Stop)
-    → (cause ≡ Output → Rose mid.faults new.faults)
-    → Stopped old new text cause
-upto_stopped {old} {mid} {new} {text} {rest} u w cause rose = record {
-  rest = rest;
-  wrote = upto_more u [] rest refl w;
-  rose = λ e. let r = rose e in let l = u.wrote.later in omega (arith, r, l);
-}
-
 -- a part of a text was written, and then the next part only in part
 pub stopped_within : {old mid new : SinkState} {text rest a : List ℕ} {cause : Stop}
     → WroteUpTo old mid text rest
@@ -46,7 +29,7 @@ stopped_within {old} {mid} {new} {text} {rest} {a} {cause} u b e s = record {
   wrote =
       upto_more u s.wrote.part (s.rest ++ b)
       (grind (arith, common_steps, s.wrote.split, e)) s.wrote.wrote;
-  rose = λ o. let r = s.rose o in let l = u.wrote.later in omega (arith, r, l);
+  rose = λ o. omega (arith, s.rose o);
 }
 
 pub stopped_more : {old new : SinkState} {a : List ℕ} {cause : Stop} (b : List ℕ)

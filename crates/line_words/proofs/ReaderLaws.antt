@@ -1,5 +1,5 @@
 -- Readers and what they read: one law for each, and one for two readers in a row.
-use Rattle.std.proofs.Common.{◌≡◌, ℕ, ◌^◌, ◌<◌, ◌≤◌, Bool, true, false, ◌&&◌, ◌==◌, ◌⊎◌, inl}
+use Rattle.std.proofs.Common.{◌≡◌, ℕ, cond, ◌^◌, ◌<◌, ◌≤◌, Bool, true, false, ◌&&◌, ◌==◌, ◌⊎◌, inl}
 use Rattle.std.proofs.Common.{inr, nat_lt, nat_le, List, [], ◌∷◌, ◌++◌, length, Option, Some}
 use Rattle.std.proofs.Common.{None, refl, ap, sym, subst, ◌∙◌, arith, append_assoc, append-nil}
 use Rattle.std.specs.Fmt.{decimal}
@@ -15,34 +15,25 @@ use Rattle.line_words.specs.Reading.{Reader, ◌>>=◌, ◌then◌, at_end, whol
 use Rattle.line_words.specs.Field.{word_at, is_letter, are_letters, is_key, checked}
 use Rattle.line_words.specs.Field.{number_between, key_at, text_at, code_at, terminator_at}
 use Rattle.line_words.specs.Spelling.{field, number_field, terminator, IsTerminator}
-use Rattle.line_words.proofs.WordLaws.{bind_some, both, some_is, if_some, all_digits}
-use Rattle.line_words.proofs.WordLaws.{NoSpace, IsEnd, word_at_again, word_at_only}
-use Rattle.line_words.proofs.WordLaws.{number_again, number_only, digits-decimal}
+use Rattle.line_words.specs.Field.{number_spelled}
+use Rattle.line_words.proofs.WordLaws.{bind_some, both, some_is, if_some, Lacks, visible_lacks}
+use Rattle.line_words.proofs.WordLaws.{IsEnd, word_at_again, word_at_only, decimal_again}
+use Rattle.line_words.proofs.WordLaws.{decimal_only, digits_visible, digits-decimal}
 
 -- ---- no field has a CR
 
 abbrev pub NoCr : List ℕ → Type 0
-NoCr [] = Unit {0}
-NoCr (b ∷ bs) = ((b == 13) ≡ false) × NoCr bs
+NoCr = Lacks 13
 
 pub NoCr-append : (xs ys : List ℕ) → NoCr xs → NoCr ys → NoCr (xs ++ ys)
 NoCr-append [] ys a b = b
 NoCr-append (x ∷ xs) ys a b = (a.0, NoCr-append xs ys a.1 b)
 
-digits_no_cr : (ds : List ℕ) → all_digits ds ≡ true → NoCr ds
-digits_no_cr [] h = tt
-digits_no_cr (b ∷ bs) h =
-    let p = both _ (all_digits bs) h in (grind (arith, nat_tests, p.0), digits_no_cr bs p.1)
-
-letters_no_cr : (bs : List ℕ) → are_letters bs ≡ true → NoCr bs
-letters_no_cr [] h = tt
-letters_no_cr (b ∷ bs) h =
+pub letters_visible : (bs : List ℕ) → are_letters bs ≡ true → AreVisible bs
+letters_visible [] h = tt
+letters_visible (b ∷ bs) h =
     let p = both (is_letter b) (are_letters bs) h in
-    (grind (arith, nat_tests, p.0), letters_no_cr bs p.1)
-
-visible_no_cr : (bs : List ℕ) → AreVisible bs → NoCr bs
-visible_no_cr [] h = tt
-visible_no_cr (b ∷ bs) h = (grind (arith, nat_tests, h.0), visible_no_cr bs h.1)
+    (grind (arith, nat_tests, p.0), letters_visible bs p.1)
 
 -- ---- what a reader reads
 
@@ -67,11 +58,11 @@ abbrev pub Both : {A B : Type 0} → (List ℕ → A → Type 0)
     → (List ℕ → B → Type 0) → List ℕ → A × B → Type 0
 Both S T front x = (one : List ℕ) × (two : List ℕ) × (front ≡ one ++ two) × S one x.0 × T two x.1
 
-pub then_reads : {A B : Type 0} (Rests : List ℕ → Type 0) (S : List ℕ → A → Type 0)
-    (T : List ℕ → B → Type 0) (first : Reader A) (second : Reader B)
+pub then_reads : {A B : Type 0} {Rests : List ℕ → Type 0} {S : List ℕ → A → Type 0}
+    {T : List ℕ → B → Type 0} {first : Reader A} {second : Reader B}
     → IsReader A IsEnd S first → IsReader B Rests T second
     → IsReader (A × B) Rests (Both S T) (first then second)
-then_reads {A} {B} Rests S T first second f s = record {
+then_reads {A} {B} {Rests} {S} {T} {first} {second} f s = record {
   again = λ front rest x h r.
       let split : front ++ rest ≡ h.0 ++ (h.1 ++ rest) = rw h.2 (append_assoc h.0 h.1 rest) in
       rw (
@@ -97,24 +88,70 @@ then_reads {A} {B} Rests S T first second f s = record {
   clean = λ front x h. rw h.2 (NoCr-append h.0 h.1 (f.clean h.0 x.0 h.3) (s.clean h.1 x.1 h.4));
 }
 
+-- what is spelled passes a test too
+abbrev pub Tested : {A : Type 0} → (List ℕ → A → Type 0) → (A → Bool) → List ℕ → A → Type 0
+Tested S test front x = S front x × (test x ≡ true)
+
+tested_reads : {A : Type 0} {Rests : List ℕ → Type 0} {S : List ℕ → A → Type 0}
+    {read : Reader A} (test : A → Bool)
+    → IsReader A Rests S read
+    → IsReader A Rests (Tested S test) (λ bytes. read bytes >>= λ x. checked (test x.0) x)
+tested_reads {A} {S = S} {read = read} test r = record {
+  again = λ front rest x h end. rw (r.again front rest x h.0 end, h.1) refl;
+  only = λ bytes rest x e.
+      let a = bind_some (read bytes) (λ x. checked (test x.0) x) (x, rest) e in
+      let h = if_some (test a.0.0) (Some a.0) (x, rest) a.2 in
+      let t = r.only bytes a.0.1 a.0.0 a.1 in
+      subst
+      (λ (p : A × List ℕ). (front : List ℕ) × (bytes ≡ front ++ p.1) × Tested S test front p.0)
+      (some_is a.0 (x, rest) h.1)
+      (t.0, t.1, (t.2, h.0));
+  ends = λ front rest x h end. r.ends front rest x h.0 end;
+  clean = λ front x h. r.clean front x h.0;
+}
+
+-- a reader of one word, which is visible: by what it makes of the word and of what follows
+word_reads : {A : Type 0} {S : List ℕ → A → Type 0}
+    (next : List ℕ → List ℕ → Option (A × List ℕ))
+    → ((front rest : List ℕ) (x : A) → S front x
+    → (word : List ℕ) × (front ≡ field word) × AreVisible word
+    × (next word rest ≡ Some (x, rest)))
+    → ((word rest : List ℕ) (r : A × List ℕ) → next word rest ≡ Some r
+    → (rest ≡ r.1) × S (field word) r.0)
+    → IsReader A IsEnd S (λ bytes. word_at bytes >>= λ w. next w.0 w.1)
+word_reads {A} {S} next reads only = record {
+  again = λ front rest x h end.
+      let w = reads front rest x h in
+      rw (w.1, word_at_again w.0 rest (visible_lacks 32 w.0 (omega arith) w.2) end) w.3;
+  only = λ bytes rest x e.
+      let a = bind_some (word_at bytes) (λ w. next w.0 w.1) (x, rest) e in
+      let t = word_at_only bytes a.0.0 a.0.1 a.1 in
+      let o = only a.0.0 a.0.1 (x, rest) a.2 in
+      (field a.0.0, t.parts ∙ ap (λ (r : List ℕ). field a.0.0 ++ r) o.0, o.1);
+  ends = λ front rest x h end. rw (reads front rest x h).1 refl;
+  clean = λ front x h.
+      let w = reads front [] x h in
+      rw w.1 (refl, visible_lacks 13 w.0 (omega arith) w.2);
+}
+
 at_end-only : (rest : List ℕ) → at_end rest ≡ Some tt → rest ≡ []
 at_end-only rest e =
     let h = if_some (length rest == 0) (Some tt) tt e in
     nil_from_length rest (grind (arith, nat_tests, h.0))
 
 -- all the bytes are the spelling of one value
-pub whole-again : {A : Type 0} (Rests : List ℕ → Type 0) (S : List ℕ → A → Type 0)
-    (read : Reader A) (bytes : List ℕ) (x : A)
+pub whole-again : {A : Type 0} {Rests : List ℕ → Type 0} {S : List ℕ → A → Type 0}
+    {read : Reader A} (bytes : List ℕ) (x : A)
     → IsReader A Rests S read → Rests [] → S bytes x → whole read bytes ≡ Some x
-whole-again Rests S read bytes x r nil h =
+whole-again {read = read} bytes x r nil h =
     let front : read bytes ≡ Some (x, []) =
     subst (λ (t : List ℕ). read t ≡ Some (x, [])) (append-nil bytes) (r.again bytes [] x h nil) in
     rw front refl
 
-pub whole-only : {A : Type 0} (Rests : List ℕ → Type 0) (S : List ℕ → A → Type 0)
-    (read : Reader A) (bytes : List ℕ) (x : A)
+pub whole-only : {A : Type 0} {Rests : List ℕ → Type 0} {S : List ℕ → A → Type 0}
+    {read : Reader A} (bytes : List ℕ) (x : A)
     → IsReader A Rests S read → whole read bytes ≡ Some x → S bytes x
-whole-only {A} Rests S read bytes x r e =
+whole-only {A} {S = S} {read = read} bytes x r e =
     let a = bind_some (read bytes) (λ x. at_end x.1 >>= λ _. Some x.0) x e in
     let b = bind_some (at_end a.0.1) (λ _. Some a.0.0) x a.2 in
     let taken = r.only bytes a.0.1 a.0.0 a.1 in
@@ -142,31 +179,31 @@ abbrev pub TextIs : List ℕ → List ℕ → Type 0
 TextIs front text = (word : List ℕ) × (front ≡ field word) × texts.WordSpells word text
 
 abbrev pub CodeIs : List ℕ → ℕ → Type 0
-CodeIs front code = (front ≡ number_field code) × (is_code code ≡ true)
+CodeIs = Tested (NumberIs 0 4294967295) is_code
 
 abbrev pub TerminatorIs : List ℕ → ℕ → Type 0
 TerminatorIs front term = (front ≡ terminator term) × IsTerminator term
 
-number_clean : (n : ℕ) → n < 2 ^ 64 → NoCr (number_field n)
-number_clean n lt = (refl, digits_no_cr (decimal n) (digits-decimal n lt))
-
 pub number_reads : (low high : ℕ)
     → high < 2 ^ 64
     → IsReader ℕ IsEnd (NumberIs low high) (number_between low high)
-number_reads low high small = record {
-  again = λ front rest n h r. rw h.0 (number_again low high n rest h.1 h.2 small r);
-  only =
-      λ bytes rest n e. let t = number_only low high n bytes rest small e in
-      (number_field n, t.0.parts, (refl, t.1, t.2));
-  ends = λ front rest n h r. rw h.0 refl;
-  clean = λ front n h. rw h.0 (number_clean n (omega (arith, h.2, small)));
-}
-
-letters_no_space : (bs : List ℕ) → are_letters bs ≡ true → NoSpace bs
-letters_no_space [] h = tt
-letters_no_space (b ∷ bs) h =
-    let p = both (is_letter b) (are_letters bs) h in
-    (grind (arith, nat_tests, p.0), letters_no_space bs p.1)
+unfolding number_between
+number_reads low high small =
+    word_reads (λ word rest. number_spelled high word >>= λ n. checked (nat_le low n) (n, rest))
+    (λ front rest n h.
+    let lt : n < 2 ^ 64 = omega (arith, h.2, small) in
+    let above : nat_le low n ≡ true = grind (arith, nat_tests, h.1) in (
+      decimal n,
+      h.0,
+      digits_visible (decimal n) (digits-decimal n lt),
+      rw (decimal_again high n h.2 small, above) refl,
+    ))
+    (λ word rest r e.
+    let b = bind_some (number_spelled high word) (λ k. checked (nat_le low k) (k, rest)) r e in
+    let d = if_some (nat_le low b.0) (Some (b.0, rest)) r b.2 in
+    let is = decimal_only high b.0 word small b.1 in
+    subst (λ (p : ℕ × List ℕ). (rest ≡ p.1) × NumberIs low high (field word) p.0)
+    (some_is (b.0, rest) r d.1) (refl, (ap field is.0, grind (arith, nat_tests, d.0), is.1)))
 
 letters : (key : List ℕ) → is_key key ≡ true → are_letters key ≡ true
 letters key h =
@@ -175,95 +212,53 @@ letters key h =
 
 pub key_reads : IsReader (List ℕ) IsEnd KeyIs key_at
 unfolding key_at
-key_reads = record {
-  again =
-      λ front rest key h r.
-      rw (h.0, word_at_again key rest (letters_no_space key (letters key h.1)) r, h.1) refl;
-  only = λ bytes rest key e.
-      let a = bind_some (word_at bytes) (λ word. checked (is_key word.0) word) (key, rest) e in
-      let h = if_some (is_key a.0.0) (Some a.0) (key, rest) a.2 in
-      let t = word_at_only bytes a.0.0 a.0.1 a.1 in
-      subst (λ (p : List ℕ × List ℕ). (front : List ℕ) × (bytes ≡ front ++ p.1) × KeyIs front p.0)
-      (some_is a.0 (key, rest) h.1)
-      (field a.0.0, t.parts, (refl, h.0));
-  ends = λ front rest key h r. rw h.0 refl;
-  clean = λ front key h. rw h.0 (refl, letters_no_cr key (letters key h.1));
-}
-
-visible_no_space : (bs : List ℕ) → AreVisible bs → NoSpace bs
-visible_no_space [] h = tt
-visible_no_space (b ∷ bs) h = (grind (arith, nat_tests, h.0), visible_no_space bs h.1)
+key_reads =
+    word_reads (λ word rest. checked (is_key word) (word, rest))
+    (λ front rest key h. (key, h.0, letters_visible key (letters key h.1), rw h.1 refl))
+    (λ word rest r e.
+    let h = if_some (is_key word) (Some (word, rest)) r e in
+    subst (λ (p : List ℕ × List ℕ). (rest ≡ p.1) × KeyIs (field word) p.0)
+    (some_is (word, rest) r h.1) (refl, (refl, h.0)))
 
 pub text_reads : IsReader (List ℕ) IsEnd TextIs text_at
 unfolding text_at
-text_reads = record {
-  again = λ front rest text h r.
-      let is = each_spelling h.0 text h.2 in
-      rw (h.1, word_at_again h.0 rest (visible_no_space h.0 (visible_only h.0 text is)) r, is) refl;
-  only = λ bytes rest text e.
-      let a =
-      bind_some (word_at bytes) (λ word. text_of word.0 >>= λ t. Some (t, word.1)) (text, rest) e in
-      let b = bind_some (text_of a.0.0) (λ t. Some (t, a.0.1)) (text, rest) a.2 in
-      let t = word_at_only bytes a.0.0 a.0.1 a.1 in
-      subst (λ (p : List ℕ × List ℕ). (front : List ℕ) × (bytes ≡ front ++ p.1) × TextIs front p.0)
-      (some_is (b.0, a.0.1) (text, rest) b.2)
-      (field a.0.0, t.parts, (a.0.0, refl, spells_only a.0.0 b.0 b.1));
-  ends = λ front rest text h r. rw h.1 refl;
-  clean =
-      λ front text h.
-      rw h.1 (refl, visible_no_cr h.0 (visible_only h.0 text (each_spelling h.0 text h.2)));
-}
+text_reads =
+    word_reads (λ word rest. text_of word >>= λ t. Some (t, rest))
+    (λ front rest text h.
+    let is = each_spelling h.0 text h.2 in
+    (h.0, h.1, visible_only h.0 text is, rw is refl))
+    (λ word rest r e.
+    let b = bind_some (text_of word) (λ t. Some (t, rest)) r e in
+    subst (λ (p : List ℕ × List ℕ). (rest ≡ p.1) × TextIs (field word) p.0)
+    (some_is (b.0, rest) r b.2) (refl, (word, refl, spells_only word b.0 b.1)))
 
-code_small : (code : ℕ) → is_code code ≡ true → code ≤ 4294967295
-code_small code h = grind (arith, nat_tests)
+pub u32_reads : IsReader ℕ IsEnd (NumberIs 0 4294967295) (number_between 0 4294967295)
+u32_reads = number_reads 0 4294967295 (omega arith)
 
 pub code_reads : IsReader ℕ IsEnd CodeIs code_at
 unfolding code_at
-code_reads = record {
-  again =
-      λ front rest code h r. rw (
-        h.0,
-        number_again 0 4294967295 code rest (omega arith) (code_small code h.1) (omega arith) r,
-        h.1,
-      ) refl;
-  only = λ bytes rest code e.
-      let a =
-      bind_some (number_between 0 4294967295 bytes) (λ code. checked (is_code code.0) code)
-      (code, rest) e in
-      let h = if_some (is_code a.0.0) (Some a.0) (code, rest) a.2 in
-      let t = number_only 0 4294967295 a.0.0 bytes a.0.1 (omega arith) a.1 in
-      subst (λ (p : ℕ × List ℕ). (front : List ℕ) × (bytes ≡ front ++ p.1) × CodeIs front p.0)
-      (some_is a.0 (code, rest) h.1)
-      (number_field a.0.0, t.0.parts, (refl, h.0));
-  ends = λ front rest code h r. rw h.0 refl;
-  clean = λ front code h. rw h.0 (number_clean code (omega (arith, code_small code h.1)));
-}
+code_reads = tested_reads is_code u32_reads
 
-terminator_small : (term : ℕ) → IsTerminator term → term ≤ 4294967295
-terminator_small term h = grind (arith, nat_tests)
+-- the terminator key, where one is named
+named_reads : IsReader ℕ IsEnd (Tested (NumberIs 0 4294967295) is_terminator)
+    (λ bytes. number_between 0 4294967295 bytes >>= λ key. checked (is_terminator key.0) key)
+named_reads = tested_reads is_terminator u32_reads
 
-terminator_split : (term : ℕ) (none : Bool)
-    → (term == 0) ≡ none → IsTerminator term
-    → ((none ≡ true) × (term ≡ 0)) ⊎ ((none ≡ false) × (is_terminator term ≡ true))
-terminator_split term true e h = inl (refl, grind (arith, nat_tests))
-terminator_split term false e h = inr (refl, grind (arith, nat_tests))
-
-terminator_again : (front rest : List ℕ) (term : ℕ)
-    → TerminatorIs front term → IsNil rest
-    → terminator_at (front ++ rest) ≡ Some (term, rest)
-unfolding terminator_at
-terminator_again front rest term h r =
-    elim (terminator_split term (term == 0) refl h.1) [
-      | inl zero_is ↦ rw (h.0, zero_is.0, r, zero_is.1) refl
-      | inr key_is ↦
-          rw (
-            h.0,
-            key_is.0,
-            number_again 0 4294967295 term rest (omega arith) (terminator_small term h.1)
-                (omega arith) (rw r tt),
-            key_is.1,
-          ) refl
-    ]
+-- no key is named, or one is
+terminator_split : (front : List ℕ) (term : ℕ)
+    → TerminatorIs front term
+    → ((front ≡ []) × (term ≡ 0))
+    ⊎ Tested (NumberIs 0 4294967295) is_terminator front term
+terminator_split front term h = by (term == 0) refl h.0 where
+  by : (none : Bool)
+      → (term == 0) ≡ none
+      → front ≡ cond none [] (number_field term)
+      → ((front ≡ []) × (term ≡ 0))
+      ⊎ Tested (NumberIs 0 4294967295) is_terminator front term
+  by true e is = inl (is, grind (arith, nat_tests, e))
+  by false e is =
+      let key : is_terminator term ≡ true = grind (arith, nat_tests, e, h.1) in
+      inr ((is, omega arith, grind (arith, nat_tests, key)), key)
 
 key_is_not_zero : (key : ℕ) → is_terminator key ≡ true → (key == 0) ≡ false
 key_is_not_zero key h = grind (arith, nat_tests)
@@ -277,39 +272,27 @@ terminator_only [] rest term e =
     (some_is (0, []) (term, rest) e)
     ([], refl, (refl, refl))
 terminator_only (b ∷ bs) rest term e =
-    let a =
-    bind_some (number_between 0 4294967295 (b ∷ bs)) (λ key. checked (is_terminator key.0) key)
-    (term, rest) e in
-    let h = if_some (is_terminator a.0.0) (Some a.0) (term, rest) a.2 in
-    let t = number_only 0 4294967295 a.0.0 (b ∷ bs) a.0.1 (omega arith) a.1 in
-    subst (λ (p : ℕ × List ℕ). (front : List ℕ) × (b ∷ bs ≡ front ++ p.1) × TerminatorIs front p.0)
-    (some_is a.0 (term, rest) h.1) (
-      number_field a.0.0,
-      t.0.parts,
-      (rw (key_is_not_zero a.0.0 h.0) refl, rw (key_is_not_zero a.0.0 h.0) h.0),
-    )
-
-terminator_ends : (front rest : List ℕ) (term : ℕ)
-    → TerminatorIs front term → IsNil rest
-    → IsEnd (front ++ rest)
-terminator_ends front rest term h r =
-    elim (terminator_split term (term == 0) refl h.1) [
-      | inl zero_is ↦ rw (h.0, zero_is.0, r) tt
-      | inr key_is ↦ rw (h.0, key_is.0) refl
-    ]
-
-terminator_clean : (front : List ℕ) (term : ℕ) → TerminatorIs front term → NoCr front
-terminator_clean front term h =
-    elim (terminator_split term (term == 0) refl h.1) [
-      | inl zero_is ↦ rw (h.0, zero_is.0) tt
-      | inr key_is ↦
-          rw (h.0, key_is.0) (number_clean term (omega (arith, terminator_small term h.1)))
-    ]
+    let t = named_reads.only (b ∷ bs) rest term e in
+    let key = key_is_not_zero term t.2.1 in
+    (t.0, t.1, (rw key t.2.0.0, rw key t.2.1))
 
 pub terminator_reads : IsReader ℕ IsNil TerminatorIs terminator_at
+unfolding terminator_at
 terminator_reads = record {
-  again = terminator_again;
+  again = λ front rest term h r.
+      elim (terminator_split front term h) [
+        | inl none ↦ rw (none.0, none.1, r) refl
+        | inr key ↦ rw key.0.0 (rw key.0.0 at (named_reads.again front rest term key (rw r tt)))
+      ];
   only = terminator_only;
-  ends = terminator_ends;
-  clean = terminator_clean;
+  ends = λ front rest term h r.
+      elim (terminator_split front term h) [
+        | inl none ↦ rw (none.0, r) tt
+        | inr key ↦ rw key.0.0 refl
+      ];
+  clean = λ front term h.
+      elim (terminator_split front term h) [
+        | inl none ↦ rw none.0 tt
+        | inr key ↦ named_reads.clean front term key
+      ];
 }

@@ -8,8 +8,9 @@ use Rattle.std.proofs.lemmas.Bool.Decides.{nat_tests}
 use Rattle.std.proofs.lemmas.Fmt.{decimal_digit, decimal_nonempty, first_decimal}
 use Rattle.std.proofs.lemmas.Fmt.{digits_decimal, digits_value-decimal, decimal-digits_value}
 use Rattle.std.proofs.lemmas.Str.Parse.{IsDigitsTest, FoldsDigits, IsNumeralModel, numerals_by_fold}
+use Rattle.story_text.specs.Laws.{AreVisible}
 use Rattle.line_words.specs.Field.{word_of, rest_from_space, word_at, is_digit}
-use Rattle.line_words.specs.Field.{number_from, number_spelled, checked, number_between}
+use Rattle.line_words.specs.Field.{number_from, number_spelled}
 use Rattle.line_words.specs.Reading.{◌>>=◌}
 
 pub bind_some : {A B : Type 0} (r : Option A) (f : A → Option B) (y : B)
@@ -45,16 +46,23 @@ abbrev pub IsEnd : List ℕ → Type 0
 IsEnd [] = Unit {0}
 IsEnd (b ∷ bs) = (b == 32) ≡ true
 
-abbrev pub NoSpace : List ℕ → Type 0
-NoSpace [] = Unit {0}
-NoSpace (b ∷ bs) = ((b == 32) ≡ false) × NoSpace bs
+-- the byte doesn't stand there
+abbrev pub Lacks : ℕ → List ℕ → Type 0
+Lacks byte [] = Unit {0}
+Lacks byte (b ∷ bs) = ((b == byte) ≡ false) × Lacks byte bs
 
-word_again : (w rest : List ℕ) → NoSpace w → IsEnd rest → word_of (w ++ rest) ≡ w
+-- what is visible has no space and no line end
+pub visible_lacks : (byte : ℕ) (bs : List ℕ) → byte ≤ 32 → AreVisible bs → Lacks byte bs
+visible_lacks byte [] low h = tt
+visible_lacks byte (b ∷ bs) low h =
+    (grind (arith, nat_tests, h.0), visible_lacks byte bs low h.1)
+
+word_again : (w rest : List ℕ) → Lacks 32 w → IsEnd rest → word_of (w ++ rest) ≡ w
 word_again [] [] n e = refl
 word_again [] (b ∷ bs) n e = rw e refl
 word_again (x ∷ xs) rest n e = rw n.0 (ap (λ (t : List ℕ). x ∷ t) (word_again xs rest n.1 e))
 
-rest_again : (w rest : List ℕ) → NoSpace w → IsEnd rest → rest_from_space (w ++ rest) ≡ rest
+rest_again : (w rest : List ℕ) → Lacks 32 w → IsEnd rest → rest_from_space (w ++ rest) ≡ rest
 rest_again [] [] n e = refl
 rest_again [] (b ∷ bs) n e = rw e refl
 rest_again (x ∷ xs) rest n e = rw n.0 (rest_again xs rest n.1 e)
@@ -80,7 +88,7 @@ rest_ends [] = tt
 rest_ends (b ∷ bs) = rest_end b bs (b == 32) refl (rest_ends bs)
 
 pub word_at_again : (w rest : List ℕ)
-    → NoSpace w → IsEnd rest
+    → Lacks 32 w → IsEnd rest
     → word_at (32 ∷ (w ++ rest)) ≡ Some (w, rest)
 unfolding word_at
 word_at_again w rest n e = rw (word_again w rest n e, rest_again w rest n e) refl
@@ -208,44 +216,11 @@ decimal_only high n (b ∷ c ∷ bs) small e =
       t.2,
     )
 
-pub digits_no_space : (ds : List ℕ) → all_digits ds ≡ true → NoSpace ds
-digits_no_space [] h = tt
-digits_no_space (b ∷ bs) h =
+pub digits_visible : (ds : List ℕ) → all_digits ds ≡ true → AreVisible ds
+digits_visible [] h = tt
+digits_visible (b ∷ bs) h =
     let p = both (is_digit b) (all_digits bs) h in
-    (grind (arith, nat_tests, p.0), digits_no_space bs p.1)
-
-pub number_again : (low high n : ℕ) (rest : List ℕ)
-    → low ≤ n → n ≤ high → high < 2 ^ 64 → IsEnd rest
-    → number_between low high (32 ∷ (decimal n ++ rest)) ≡ Some (n, rest)
-unfolding number_between
-number_again low high n rest lo hi small e =
-    let lt : n < 2 ^ 64 = omega (arith, hi, small) in
-    let above : nat_le low n ≡ true = grind (arith, nat_tests, lo) in
-    rw (
-      word_at_again (decimal n) rest (digits_no_space (decimal n) (digits_decimal own n lt)) e,
-      decimal_again high n hi small,
-      above,
-    ) refl
-
-pub number_only : (low high n : ℕ) (bytes rest : List ℕ)
-    → high < 2 ^ 64
-    → number_between low high bytes ≡ Some (n, rest)
-    → Takes bytes (decimal n) rest × (low ≤ n) × (n ≤ high)
-unfolding number_between
-number_only low high n bytes rest small e =
-    let a =
-    bind_some (word_at bytes)
-    (λ word. number_spelled high word.0 >>= λ k. checked (nat_le low k) (k, word.1)) (n, rest) e in
-    let b =
-    bind_some (number_spelled high a.0.0) (λ k. checked (nat_le low k) (k, a.0.1)) (n, rest) a.2 in
-    let d = if_some (nat_le low b.0) (Some (b.0, a.0.1)) (n, rest) b.2 in
-    let w = word_at_only bytes a.0.0 a.0.1 a.1 in
-    let is = decimal_only high b.0 a.0.0 small b.1 in
-    let taken : Takes bytes (decimal b.0) a.0.1 =
-    subst (λ (t : List ℕ). Takes bytes t a.0.1) is.0 w in
-    subst (λ (p : ℕ × List ℕ). Takes bytes (decimal p.0) p.1 × (low ≤ p.0) × (p.0 ≤ high))
-    (some_is (b.0, a.0.1) (n, rest) d.1)
-    (taken, grind (arith, nat_tests, d.0), is.1)
+    (grind (arith, nat_tests, p.0), digits_visible bs p.1)
 
 pub digits-decimal : (n : ℕ) → n < 2 ^ 64 → all_digits (decimal n) ≡ true
 digits-decimal n lt = digits_decimal own n lt

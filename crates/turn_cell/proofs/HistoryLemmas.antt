@@ -1,7 +1,9 @@
 -- Lists of entries, of numbers and of views.
 use Rattle.std.proofs.Common.{◌≡◌, ◌⊎◌, ℕ, zero, suc, ◌+◌, ◌<◌, ◌≤◌, List, []}
 use Rattle.std.proofs.Common.{◌∷◌, ◌++◌, length, get_or, set, sym, refl, ap}
-use Rattle.std.proofs.Common.{◌∙◌, subst, ⊎_elim, inl, inr, arith, append_assoc}
+use Rattle.std.proofs.Common.{◌≢◌, ◌^◌, ◌%◌, length-set, get_or-set_other, get_or-set_same}
+use Rattle.std.proofs.Common.{mod-eq_of_lt}
+use Rattle.std.proofs.Common.{◌∙◌, subst, inl, inr, arith, append_assoc, append-nil}
 use mathlib.Core.Option.{some, some-injective, some-ne-none}
 use lib.ListN.{get_elem?}
 use Rattle.turn_cell.specs.declared.view.View.{View}
@@ -12,8 +14,14 @@ use Rattle.turn_cell.specs.Views.{ticket_count, tickets_out}
 
 module _ {A : Type 0} where
   pub nil_right : (xs : List A) → xs ++ [] ≡ xs
-  nil_right [] = refl
-  nil_right (x ∷ xs) = ap (λ (l : List A). x ∷ l) (nil_right xs)
+  nil_right xs = append-nil xs
+
+  -- one index has one item
+  pub one_item : (l : List A) (i j : ℕ) (a b : A)
+      → i ≡ j → get_elem? l i ≡ some a → get_elem? l j ≡ some b
+      → a ≡ b
+  one_item l i j a b same at_i at_j =
+      some-injective a b (sym at_i ∙ (ap (λ (k : ℕ). get_elem? l k) same ∙ at_j))
 
   pub each_append : (P : A → Type 0) (xs ys : List A) → Each P xs → Each P ys → Each P (xs ++ ys)
   each_append P [] ys a b = b
@@ -44,16 +52,8 @@ module _ {A : Type 0} where
       → Continues Q log seen
   continues_map P Q log seen f s = (s.0, s.1, each_map P Q s.0 f s.2)
 
-  abbrev head_or : A → List A → A
-  head_or d [] = d
-  head_or d (x ∷ xs) = x
-
-  abbrev tail_of : List A → List A
-  tail_of [] = []
-  tail_of (x ∷ xs) = xs
-
   cons_same : (x y : A) (xs ys : List A) → x ∷ xs ≡ y ∷ ys → (x ≡ y) × (xs ≡ ys)
-  cons_same x y xs ys e = (ap (head_or x) e, ap tail_of e)
+  cons_same x y xs ys e = (cc, cc)
 
   -- the longer of two beginnings goes on from each
   pub longer_first : (P : A → Type 0) (a b ra rb : List A)
@@ -76,29 +76,23 @@ module _ {A : Type 0} where
       let t = longer_second P xs ys ra rb same.1 each in
       (t.0, (λ i. same.0 i ∷ t.1 i), t.2)
 
+  each_last : (P : A → Type 0) (xs ys : List A) → Each P (xs ++ ys) → Each P ys
+  each_last P [] ys a = a
+  each_last P (x ∷ xs) ys a = each_last P xs ys a.1
+
+  each_two : (P Q : A → Type 0) (xs : List A)
+      → Each P xs → Each Q xs → Each (λ x. P x × Q x) xs
+  each_two P Q [] a b = tt
+  each_two P Q (x ∷ xs) a b = ((a.0, b.0), each_two P Q xs a.1 b.1)
+
   -- and the whole list goes on from it
   pub longer_whole : (P Q : A → Type 0) (a b ra rb : List A)
       → a ++ ra ≡ b ++ rb → Each P ra → Each Q rb
       → Continues (λ x. P x × Q x) (a ++ ra) (longer_list a b)
-  longer_whole P Q [] b ra rb e p q = (rb, e, each_two rb (each_last b rb (subst (Each P) e p)) q)
-    where
-      each_last : (xs ys : List A) → Each P (xs ++ ys) → Each P ys
-      each_last [] ys a = a
-      each_last (x ∷ xs) ys a = each_last xs ys a.1
-
-      each_two : (xs : List A) → Each P xs → Each Q xs → Each (λ x. P x × Q x) xs
-      each_two [] a b = tt
-      each_two (x ∷ xs) a b = ((a.0, b.0), each_two xs a.1 b.1)
+  longer_whole P Q [] b ra rb e p q =
+      (rb, e, each_two P Q rb (each_last P b rb (subst (Each P) e p)) q)
   longer_whole P Q (x ∷ xs) [] ra rb e p q =
-      (ra, refl, each_both ra p (each_after (x ∷ xs) ra (subst (Each Q) (sym e) q)))
-    where
-      each_after : (xs ys : List A) → Each Q (xs ++ ys) → Each Q ys
-      each_after [] ys a = a
-      each_after (x ∷ xs) ys a = each_after xs ys a.1
-
-      each_both : (xs : List A) → Each P xs → Each Q xs → Each (λ x. P x × Q x) xs
-      each_both [] a b = tt
-      each_both (x ∷ xs) a b = ((a.0, b.0), each_both xs a.1 b.1)
+      (ra, refl, each_two P Q ra p (each_last Q (x ∷ xs) ra (subst (Each Q) (sym e) q)))
   longer_whole P Q (x ∷ xs) (y ∷ ys) ra rb e p q =
       let t = longer_whole P Q xs ys ra rb (cons_same x y (xs ++ ra) (ys ++ rb) e).1 p q in
       (t.0, ap (λ (l : List A). x ∷ l) t.1, t.2)
@@ -114,20 +108,6 @@ module _ {A : Type 0} where
   longer_left [] (y ∷ ys) low = absurd (omega arith)
   longer_left (x ∷ xs) [] low = refl
   longer_left (x ∷ xs) (y ∷ ys) low = let t = longer_left xs ys (omega arith) in omega arith
-
-  pub longer_one : (P Q : A → Type 0) (a b : List A)
-      → Continues P (longer_list a b) a
-      → Continues Q (longer_list a b) b
-      → (longer_list a b ≡ a) ⊎ (longer_list a b ≡ b)
-  longer_one P Q a b s t = of a b s.0 t.0 (sym s.1 ∙ t.1)
-    where
-      of : (a b p q : List A) → a ++ p ≡ b ++ q → (longer_list a b ≡ a) ⊎ (longer_list a b ≡ b)
-      of [] b p q e = inr refl
-      of (x ∷ xs) [] p q e = inl refl
-      of (x ∷ xs) (y ∷ ys) p q e = let same = cons_same x y (xs ++ p) (ys ++ q) e in ⊎_elim
-          (λ (t : longer_list xs ys ≡ xs). inl (ap (λ (l : List A). x ∷ l) t))
-          (λ (t : longer_list xs ys ≡ ys). inr (λ i. same.0 i ∷ t i))
-          (of xs ys p q same.1)
 
 pub among_head : (n : ℕ) (xs : List ℕ) → 0 < length xs → get_or xs 0 0 ≡ n → IsAmong n xs
 among_head n [] low e = absurd (omega arith)
@@ -146,8 +126,23 @@ pub among_either : (n : ℕ) (xs ys : List ℕ) → IsAmong n (xs ++ ys) → IsA
 among_either n [] ys h = inr h
 among_either n (x ∷ xs) ys (inl e) = inl (inl e)
 among_either n (x ∷ xs) ys (inr h) =
-    ⊎_elim (λ (t : IsAmong n xs). inl (inr t)) (λ (t : IsAmong n ys). inr t)
-    (among_either n xs ys h)
+    elim (among_either n xs ys h) [ inl t ↦ inl (inr t) | inr t ↦ inr t ]
+
+-- word i grew by one
+pub record Grows (words words' : List ℕ) (i : ℕ) : Type 0 where
+  pub long : length words' ≡ length words
+  pub here : get_or words' i 0 ≡ get_or words i 0 + 1
+  pub elsewhere : (k : ℕ) → k ≢ i → get_or words' k 0 ≡ get_or words k 0
+
+pub grows : (words : List ℕ) (i : ℕ)
+    → i < length words → get_or words i 0 + 1 < 2 ^ 64
+    → Grows words (set words i ((get_or words i 0 + 1) % 2 ^ 64)) i
+grows words i low small =
+    let n : ℕ = (get_or words i 0 + 1) % 2 ^ 64 in record {
+      long = length-set words i n;
+      here = get_or-set_same words i n 0 low ∙ mod-eq_of_lt small;
+      elsewhere = λ k other. get_or-set_other words i k n 0 other;
+    }
 
 module _ {E : Type 0} where
   ticket_count_le : (s : Stage E) → ticket_count s ≤ 1

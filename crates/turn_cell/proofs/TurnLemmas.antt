@@ -1,12 +1,12 @@
 -- What a turn tells at its end, from what its steps told.
 use Rattle.std.proofs.Common.{◌≡◌, ℕ, ◌+◌, ◌^◌, ◌%◌, ◌<◌, List, [], ◌∷◌, ◌++◌}
-use Rattle.std.proofs.Common.{length, sym, refl, ap, ◌∙◌, subst, ⊎_elim, arith}
-use Rattle.std.proofs.Common.{Bool, true, false, Option, Some, None, length-append}
+use Rattle.std.proofs.Common.{length, get_or, inl, inr, sym, refl, ap, ◌∙◌, subst, arith}
+use Rattle.std.proofs.Common.{Option, Some, None, length-append}
 use mathlib.Core.Option.{none}
 use Rattle.std.specs.Option.{IsSome}
 use Rattle.atomic_table.specs.Table.{Me, State, rest, step, Allows}
 use Rattle.turn_cell.specs.declared.view.View.{View}
-use Rattle.turn_cell.specs.declared.view.Stage.TheVariants.{Idle, Waits}
+use Rattle.turn_cell.specs.declared.view.Stage.TheVariants.{Waits}
 use Rattle.turn_cell.specs.History.{IsAmong}
 use Rattle.turn_cell.specs.Views.{at_stage, HasValue, MayLeave, HasNumberFirst, tag_in}
 use Rattle.turn_cell.specs.Steps.{PassesOn, Raises, FindsValue, TakesValue}
@@ -15,17 +15,10 @@ use Rattle.turn_cell.proofs.HistoryLemmas.{among_head}
 use Rattle.turn_cell.proofs.StepLemmas.{raises, passes}
 
 module _ {T : Type 0} where
-  abbrev pub held_or : Option T → List (ℕ × Option T) → Option T
-  held_or d [] = d
-  held_or d (x ∷ xs) = x.1
-
-  abbrev pub got_or : T → Option T → T
-  got_or d None = d
-  got_or d (Some x) = x
-
   pub held_same : (c more : List (ℕ × Option T)) (a b : Option T)
       → c ≡ (0, a) ∷ more → c ≡ (0, b) ∷ rest c → b ≡ a
-  held_same c more a b e f = ap (held_or b) (sym f ∙ e)
+  held_same c more a b e f =
+      ap (λ (l : List (ℕ × Option T)). (get_or l 0 (0, b)).1) (sym f ∙ e)
 
 module _ {T E G : Type 0} (entries : T → List E) (by : E → ℕ) (tag : T → G) where
   abbrev M : Type 0
@@ -43,31 +36,19 @@ module _ {T E G : Type 0} (entries : T → List E) (by : E → ℕ) (tag : T →
       let value = k.0 in
       let found : result ≡ Some value =
       held_same m'.1 [] (Some value) result (ap (λ (z : M). z.1) k.1) held in
-      let same : value ≡ x = ap (got_or x) (sym found ∙ some_is) in
+      let same : value ≡ x = cc (found, some_is) in
       let at_value : TakesValue entries by tag m0 value n =
       (t, now ∙ (λ i. ((k.1 i).0, (0, None) ∷ rest (k.1 i).1)), k.2) in
       subst (λ (y : T). TakesValue entries by tag m0 y n) same at_value
 
-  abbrev item_or : G → Option G → G
-  item_or d None = d
-  item_or d (Some g) = g
-
-  abbrev NoItem : Option G → Type 0
-  NoItem None = Unit {0}
-  NoItem (Some g) = ⊥
-
   tag_found : (o : Option T) (g : G) → tag_in tag o ≡ Some g → (x : T) × (o ≡ Some x) × (g ≡ tag x)
-  tag_found None g e = absurd (subst NoItem e tt)
-  tag_found (Some x) g e = (x, refl, ap (item_or g) (sym e))
+  tag_found None g e = absurd cc
+  tag_found (Some x) g e = (x, refl, cc)
 
   pub tag_shown : (o : Option T) (value : T)
       → IsSome o → ((x : T) → o ≡ Some x → tag value ≡ tag x)
       → tag_in tag o ≡ Some (tag value)
-  tag_shown None value some_is same = absurd (subst (λ (b : Bool). IsFalse b) some_is tt)
-    where
-      IsFalse : Bool → Type 0
-      IsFalse false = Unit {0}
-      IsFalse true = ⊥
+  tag_shown None value some_is same = absurd cc
   tag_shown (Some x) value some_is same = ap Some (sym (same x refl))
 
   abbrev V : Type 0
@@ -84,21 +65,17 @@ module _ {T E G : Type 0} (entries : T → List E) (by : E → ℕ) (tag : T →
       → MayLeave entries by tag v value
       → length (entries value) ≡ length v.seen
       → entries value ≡ v.seen
-  kept_seen v value may same = ⊎_elim
-      (λ (e : entries value ≡ v.seen). e)
-      (λ (t : (e : E) × (entries value ≡ v.seen ++ e ∷ []) × (by e ≡ v.number)).
-      let long = ap length t.1 ∙ length-append v.seen (t.0 ∷ []) in
-      absurd (omega (arith, long, same)))
-      may.1
+  kept_seen v value may same = elim may.1 [
+    | inl e ↦ e
+    | inr t ↦ absurd (omega (arith, ap length t.1, length-append v.seen (t.0 ∷ []), same))
+  ]
 
   pub one_more : (v : V) (value : T)
       → MayLeave entries by tag v value
       → (length (entries value) ≡ length v.seen → ⊥)
       → (e : E) × (entries value ≡ v.seen ++ e ∷ []) × (by e ≡ v.number)
-  one_more v value may differ = ⊎_elim
-      (λ (e : entries value ≡ v.seen). absurd (differ (ap length e)))
-      (λ (t : (e : E) × (entries value ≡ v.seen ++ e ∷ []) × (by e ≡ v.number)). t)
-      may.1
+  one_more v value may differ =
+      elim may.1 [ inl e ↦ absurd (differ (ap length e)) | inr t ↦ t ]
 
   module _ (first : T) where
     abbrev R : State (Option T) V → Type 0
@@ -150,12 +127,3 @@ module _ {T E G : Type 0} (entries : T → List E) (by : E → ℕ) (tag : T →
       is
       ∙ ap (λ (l : List E). let v : V = at_stage m0.0 m0.0.stage l in (v, (0, Some value) ∷ []))
       (sym same)
-
-  pub passed_to : (m0 m1 m2 : M) (value : T)
-      → m1 ≡ (at_stage m0.0 m0.0.stage (entries value), (0, Some value) ∷ [])
-      → PassesOn (step {S = Option T} 0 0 0 0 none) m1 0 m2
-      → m2 ≡ (at_stage m0.0 Idle (entries value), [])
-  passed_to m0 m1 m2 value is told =
-      told
-      ∙ ap (λ (z : M).
-      let v : V = at_stage z.0 Idle z.0.seen in let c : List (ℕ × Option T) = [] in (v, c)) is

@@ -23,7 +23,7 @@ loop-byte-preserved-in-Ok g c =
 
 pub returns-in-Err-answer-clause-err : goal.returns-in-Err-answer-clause-err
 returns-in-Err-answer-clause-err g c =
-    hearing_stops _ c.loop-byte.invariant.0 _ _ (next_byte _ _ c.loop-byte-test.true)
+    hearing_stops c.loop-byte.invariant.0 _ _ _ (next_byte _ _ c.loop-byte-test.true)
     c.if-byte-ne10.false _ c.line.ensures.value c.in-Err-answer.ensures.err
 
 pub returns-then-is_over-clause-leads : goal.returns-then-is_over-clause-leads
@@ -43,10 +43,10 @@ pub returns-in_default-clause-err : goal.returns-in_default-clause-err
 returns-in_default-clause-err g c =
     let not_last : c.loop-byte.count + 1 ≢ 2 ^ 20 = c.if-count-eq-MOST_LINES.false in
     let room : c.loop-byte.count < 2 ^ 20 = c.loop-byte.invariant.0.few in
-    rw c.make_room.ensures.state (hearing_memory _
+    rw c.make_room.ensures.state (hearing_memory
     (hearing_on (hearing_line c.loop-byte.invariant.0 _ _ (next_byte _ _ c.loop-byte-test.true)
     c.if-byte-ne10.false _ c.line.ensures.value c.in-Ok-answer.ensures.ok)
-    (grind (arith, c.is_over.ensures, c.if-is_over.false)) (omega (arith, room, not_last))))
+    (grind (arith, c.is_over.ensures, c.if-is_over.false)) (omega (arith, room, not_last))) _)
 
 pub loop-byte-preserved : goal.loop-byte-preserved
 loop-byte-preserved g c =

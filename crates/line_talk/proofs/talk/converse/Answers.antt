@@ -20,29 +20,29 @@ loop-room-init g c = (
 pub returns-in-End-clause-value : goal.returns-in-End-clause-value
 returns-in-End-clause-value g c =
     rw ((g.met.L.Link.read_keeps _ _ c.in-End.ensures.beside).0, ← c.make_room.ensures.state)
-    (talk_end _ c.loop-room.invariant.0 c.in-End.ensures.value (c.in-End.ensures.ended ∙ or-true _)
+    (talk_end c.loop-room.invariant.0 _ c.in-End.ensures.value (c.in-End.ensures.ended ∙ or-true _)
     (c.in-End.ensures.at_end refl) c.loop-room-test.true)
 
 pub returns-in-Failed-clause-value : goal.returns-in-Failed-clause-value
 returns-in-Failed-clause-value g c =
     rw ((g.met.L.Link.read_keeps _ _ c.in-Failed.ensures.beside).0, ← c.make_room.ensures.state)
-    (talk_fault _ c.loop-room.invariant.0 c.in-Failed.ensures.value c.loop-room-test.true)
+    (talk_fault c.loop-room.invariant.0 _ c.in-Failed.ensures.value c.loop-room-test.true)
 
 pub returns-in-Ok-Over-clause-value : goal.returns-in-Ok-Over-clause-value
 returns-in-Ok-Over-clause-value g c =
     rw ((g.met.L.Link.write_keeps _ _ c.in-Ok-Over.ensures.beside).0, ← c.make_room.ensures.state)
-    (talk_over _ c.loop-room.invariant.0 c.split_at.result.0.now
+    (talk_over c.loop-room.invariant.0 c.split_at.result.0.now
     (rw c.split_at.ensures.front c.in-Bytes.ensures.value)
-    (omega (arith, c.split_at.ensures.front_len, c.in-Bytes.ensures.within))
+    (omega (arith, c.split_at.ensures.front_len, c.in-Bytes.ensures.within)) _
     (rw ((g.met.L.Link.read_keeps _ _ c.in-Bytes.ensures.beside).0, c.in-Ok-Over.field-0-is)
     at c.in-Ok-Over.ensures.leads))
 
 pub returns-in-Ok-Limit-clause-value : goal.returns-in-Ok-Limit-clause-value
 returns-in-Ok-Limit-clause-value g c =
     rw ((g.met.L.Link.write_keeps _ _ c.in-Ok-Limit.ensures.beside).0, ← c.make_room.ensures.state)
-    (talk_limit _ c.loop-room.invariant.0 c.split_at.result.0.now
+    (talk_limit c.loop-room.invariant.0 c.split_at.result.0.now
     (rw c.split_at.ensures.front c.in-Bytes.ensures.value)
-    (omega (arith, c.split_at.ensures.front_len, c.in-Bytes.ensures.within))
+    (omega (arith, c.split_at.ensures.front_len, c.in-Bytes.ensures.within)) _
     (rw ((g.met.L.Link.read_keeps _ _ c.in-Bytes.ensures.beside).0, c.in-Ok-Limit.field-0-is)
     at c.in-Ok-Limit.ensures.leads))
 
@@ -65,7 +65,7 @@ returns-in-Err-clause-write_fault g c =
 
 pub returns-clause-value : goal.returns-clause-value
 returns-clause-value g c =
-    rw (← c.make_room.ensures.state) (talk_full _ c.loop-room.invariant.0 (omega arith))
+    rw (← c.make_room.ensures.state) (talk_full c.loop-room.invariant.0 _ (omega arith))
 
 pub loop-room-preserved : goal.loop-room-preserved
 loop-room-preserved g c =

@@ -2,8 +2,7 @@ use Rattle.std.proofs.Common.{◌∙◌, sym, ap, arith, length, subst}
 use Rattle.std.specs.Option.{IsSome}
 use mathlib.Core.Option.{none}
 use Rattle.atomic_table.specs.Table.{step}
-use Rattle.turn_cell.proofs.SeatLemmas.{joins}
-use Rattle.turn_cell.proofs.JoinLemmas.{learn_end, joined_numbered}
+use Rattle.turn_cell.proofs.JoinLemmas.{joins, learn_end, joined_numbered}
 use Rattle.turn_cell.proofs.HistoryLemmas.{longer_left, longer_right}
 use Rattle.turn_cell.proofs.StepLemmas.{learns}
 use Rattle.turn_cell.proofs.cell.Cell.join.Goals as goal
