@@ -1,6 +1,6 @@
 -- How answered lines go on from one another.
 use Rattle.std.proofs.Common.{◌≡◌, inl, inr, ℕ, List, [], ◌∷◌, ◌++◌, refl, sym, ap}
-use Rattle.std.proofs.Common.{◌∙◌, subst, append_assoc, Bool, false, ◌≤◌, arith}
+use Rattle.std.proofs.Common.{◌∙◌, subst, append_assoc, Bool, false, arith}
 use Rattle.std.proofs.lemmas.List.{append-nil}
 use Rattle.std.proofs.lemmas.Grind.{flat_map-append}
 use Rattle.line_talk.specs.declared.sink.Stop.{Stop}

@@ -13,41 +13,22 @@ use Rattle.command_words.specs.declared.words.Action.{Action}
 use Rattle.command_words.proofs.words.command_with.Goals as goal
 
 -- what is asked for, by what was given
-no_files : (action : Action) (folder : Text) (all : Option (List Text)) (budget : Option ℕ)
-    → None ≡ all
-    → None ≡ asked_for action (Some folder) all budget
-no_files action folder None budget e = refl
-no_files action folder (Some names) budget e = cc
+no_budget : (action : Action) (folder : Text) (all : Option (List Text))
+    → None ≡ asked_for action (Some folder) all None
+no_budget action folder None = refl
+no_budget action folder (Some names) = refl
 
-no_budget : (action : Action) (folder : Text) (all : Option (List Text)) (budget : Option ℕ)
-    → None ≡ budget
-    → None ≡ asked_for action (Some folder) all budget
-no_budget action folder None budget e = refl
-no_budget action folder (Some names) None e = refl
-no_budget action folder (Some names) (Some b) e = cc
-
-too_many : (action : Action) (folder : Text) (names : List Text) (all : Option (List Text))
-    (budget : Option ℕ)
-    → Some names ≡ all → 64 < length names
-    → None ≡ asked_for action (Some folder) all budget
-too_many action folder names None budget e many = cc
-too_many action folder names (Some given) None e many = refl
-too_many action folder names (Some given) (Some b) e many =
-    let same : names ≡ given = cc in
-    let more : 64 < length given = rw same at many in
-    grind (arith, nat_tests)
+too_many : (action : Action) (folder : Text) (names : List Text) (budget : Option ℕ)
+    → 64 < length names
+    → None ≡ asked_for action (Some folder) (Some names) budget
+too_many action folder names None many = refl
+too_many action folder names (Some b) many = grind (arith, nat_tests)
 
 as_asked : (action : Action) (folder : Text) (names : List Text) (b : ℕ)
-    (all : Option (List Text)) (budget : Option ℕ)
-    → Some names ≡ all → Some b ≡ budget → length names ≤ 64
+    → length names ≤ 64
     → Some (record { action = action; folder = folder; names = names; budget = b })
-    ≡ asked_for action (Some folder) all budget
-as_asked action folder names b None budget e f few = cc
-as_asked action folder names b (Some given) None e f few = cc
-as_asked action folder names b (Some given) (Some n) e f few =
-    let same : names ≡ given = cc in let count : b ≡ n = cc in
-    let less : length given ≤ 64 = rw same at few in
-    grind (arith, nat_tests, same, count)
+    ≡ asked_for action (Some folder) (Some names) (Some b)
+as_asked action folder names b few = grind (arith, nat_tests)
 
 -- what the matches give, by their rows
 files_are : (f : Found) (files : Text) {all : Option (List Text)}
@@ -63,43 +44,36 @@ budget_is f e w = e ∙ ap budget_given w
 
 pub returns-in_default : goal.returns-in_default
 returns-in_default c =
-    let f = found_of c.args.matches.now in
-    no_files c.args.action c.args.folder.now (all_of c.args.files.now (rows_of f))
-    (budget_given (first_of (codes "budget") (rows_of f)))
-    (files_are f c.args.files.now c.in_default.ensures)
+    rw (← files_are (found_of c.args.matches.now) c.args.files.now c.in_default.ensures) refl
 
 pub returns-in_default-budget_given : goal.returns-in_default-budget_given
 returns-in_default-budget_given c =
-    let f = found_of c.args.matches.now in
-    no_budget c.args.action c.args.folder.now (all_of c.args.files.now (rows_of f))
-    (budget_given (first_of (codes "budget") (rows_of f)))
-    (budget_is f c.in_default-budget_given.ensures.value c.word_given.ensures)
+    rw (← budget_is (found_of c.args.matches.now) c.in_default-budget_given.ensures.value
+    c.word_given.ensures)
+    (no_budget _ _ _)
 
 pub returns-then-given-gt-MOST_STORIES : goal.returns-then-given-gt-MOST_STORIES
 returns-then-given-gt-MOST_STORIES c =
-    let f = found_of c.args.matches.now in
-    too_many c.args.action c.args.folder.now (map (λ (s : Bor Text). s.now) c.in-Some.given.now)
-    (all_of c.args.files.now (rows_of f)) (budget_given (first_of (codes "budget") (rows_of f)))
-    (files_are f c.args.files.now c.in-Some.ensures)
+    rw (← files_are (found_of c.args.matches.now) c.args.files.now c.in-Some.ensures)
+    (too_many _ _ (map (λ (s : Bor Text). s.now) c.in-Some.given.now) _
     (omega (
       arith,
       length-map c.in-Some.given.now (λ (s : Bor Text). s.now),
       c.if-given-gt-MOST_STORIES.true,
-    ))
+    )))
 
 pub returns : goal.returns
 returns c =
     let f = found_of c.args.matches.now in
     let names = c.in_ok-names.ensures.items_if_clones_equal (λ x y h. h) in
-    as_asked c.args.action c.args.folder.now
-    (map (λ (s : Bor Text). s.now) c.in_ok-names.names.items) c.in-Some-budget_given.budget
-    (all_of c.args.files.now (rows_of f)) (budget_given (first_of (codes "budget") (rows_of f)))
-    (ap (λ (l : List (Bor Text)). Some (map (λ (s : Bor Text). s.now) l)) names
-    ∙ files_are f c.args.files.now c.in-Some.ensures)
-    (budget_is f c.in-Some-budget_given.ensures.value c.word_given.ensures)
+    rw (
+      ← (ap (λ (l : List (Bor Text)). Some (map (λ (s : Bor Text). s.now) l)) names
+          ∙ files_are f c.args.files.now c.in-Some.ensures),
+      ← budget_is f c.in-Some-budget_given.ensures.value c.word_given.ensures,
+    ) (as_asked _ _ (map (λ (s : Bor Text). s.now) c.in_ok-names.names.items) _
     (omega (
       arith,
       ap (λ (l : List (Bor Text)). length l) names,
       length-map c.in_ok-names.names.items (λ (s : Bor Text). s.now),
       c.if-given-gt-MOST_STORIES.false,
-    ))
+    )))
