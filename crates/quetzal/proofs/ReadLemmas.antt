@@ -1,12 +1,11 @@
 -- What a reader's parts answer, put together.
-use Rattle.std.proofs.Common.{◌≡◌, ◌≢◌, ℕ, ◌+◌, ◌-◌, ◌%◌, ◌<◌, ◌≤◌, Bool, true, false, ◌&&◌}
-use Rattle.std.proofs.Common.{List, [], ◌∷◌, ◌++◌, length, take, drop, replicate, Option}
-use Rattle.std.proofs.Common.{Result, Ok, Err, refl, ap, sym, subst, ◌∙◌, arith, IsTrue}
+use Rattle.std.proofs.Common.{◌≡◌, ℕ, ◌+◌, ◌-◌, ◌%◌, ◌≤◌, true}
+use Rattle.std.proofs.Common.{List, [], ◌∷◌, ◌++◌, length, take, replicate}
+use Rattle.std.proofs.Common.{Result, Ok, Err, refl, sym, subst, ◌∙◌, arith}
 use Rattle.quetzal.proofs.OrderLemmas.{and_left, and_right}
 use Rattle.std.proofs.lemmas.Bool.Decides.{nat_tests}
-use Rattle.std.proofs.lemmas.Grind.{common_steps}
 use Rattle.std.proofs.lemmas.List.{length-append, length-take, length-replicate}
-use Rattle.glulx_image.specs.Header.{IsLaidOut, ramstart, extstart, endmem, stack_size}
+use Rattle.glulx_image.specs.Header.{IsLaidOut, ramstart, extstart, endmem}
 use Rattle.vm_heap.specs.HeapMap.{is_heap, heap_end}
 use Rattle.vm_heap.specs.declared.block.Block.{Block}
 use Rattle.vm_memory.specs.MemoryMap.{original}
@@ -14,11 +13,11 @@ use Rattle.vm_undo.specs.SavedState.{IsHeapOver}
 use Rattle.vm_undo.specs.declared.saved.Saved.{Saved}
 use Rattle.quetzal.specs.Chunks.{Pieces}
 use Rattle.quetzal.specs.Fault.{FailsOnSave}
-use Rattle.quetzal.specs.Heap.{IsHeapIn, ReadsHeap, heap_fits, is_placed}
+use Rattle.quetzal.specs.Heap.{ReadsHeap, heap_fits, is_placed}
 use Rattle.quetzal.specs.Memory.{is_size}
-use Rattle.quetzal.specs.Save.{rom, image_memory, memory_loaded, identity, ram_in}
-use Rattle.quetzal.specs.Save.{origin, IsStackOf, RefusesSave, IsStateIn, IsStateOf}
-use Rattle.quetzal.specs.Save.{HasNoHeap, ReadsHeapOf, ReadsStack, ReadsMemory, ReadsStory}
+use Rattle.quetzal.specs.Save.{rom, memory_loaded, identity, ram_in}
+use Rattle.quetzal.specs.Save.{IsStackOf, RefusesSave, IsStateIn, IsStateOf}
+use Rattle.quetzal.specs.Save.{ReadsHeapOf, ReadsStack, ReadsMemory, ReadsStory}
 use Rattle.quetzal.specs.declared.fault.SaveFault.{SaveFault}
 use Rattle.quetzal.specs.declared.fault.SaveFault.TheVariants.{NotSave, Cut, OtherStory, BadRuns}
 use Rattle.quetzal.specs.declared.fault.SaveFault.TheVariants.{BadStack, BadHeap, NoMemory}

@@ -1,7 +1,7 @@
 -- What a reader answers is the state that the bytes spell.
-use Rattle.std.proofs.Common.{◌≡◌, ◌≢◌, ℕ, zero, suc, ◌+◌, ◌<◌, ◌≤◌, Bool, true, false, ◌&&◌}
-use Rattle.std.proofs.Common.{nat_le, nat_lt, cond, List, [], ◌∷◌, ◌++◌, length, Option, Some}
-use Rattle.std.proofs.Common.{None, Result, Ok, Err, refl, ap, sym, subst, ◌∙◌, arith, IsTrue}
+use Rattle.std.proofs.Common.{◌≡◌, ℕ, zero, suc, ◌+◌, ◌<◌, ◌≤◌, Bool, true, false}
+use Rattle.std.proofs.Common.{nat_le, nat_lt, cond, List, [], ◌∷◌, length, Option, Some}
+use Rattle.std.proofs.Common.{None, Result, Ok, Err, refl, ap, sym, subst, ◌∙◌, arith}
 use Rattle.std.proofs.Math.ListN.{get_or}
 use Rattle.std.proofs.lemmas.Bool.Decides.{nat_tests}
 use Rattle.std.proofs.lemmas.List.Sorted.{IsNonDecreasingBy-from_all_adjacent, IsPermutation-refl}
@@ -13,21 +13,21 @@ use Rattle.std.specs.Str.{bytes_eq}
 use Rattle.glulx_image.specs.Header.{IsLaidOut, ramstart, endmem, stack_size}
 use Rattle.vm_heap.specs.Allocation.{with_block}
 use Rattle.vm_heap.specs.declared.block.Block.{Block}
-use Rattle.vm_stack.specs.Saved.{SavedStack}
 use Rattle.vm_stack.specs.SavedTest.{is_saved_stack}
 use Rattle.vm_stack.proofs.SavedTests.{saved_decided}
 use Rattle.vm_undo.specs.declared.saved.Saved.{Saved}
 use Rattle.quetzal.specs.Chunks.{Pieces, parts_of}
 use Rattle.quetzal.specs.Heap.{HaveOrder, IsHeapIn, heap_fits, heap_listed}
-use Rattle.quetzal.specs.Save.{identity, memory_loaded, ram_in, IsStackOf, RefusesSave}
-use Rattle.quetzal.specs.Save.{IsStateIn, HasNoHeap, ReadsSave, ReadsHeapOf}
+use Rattle.quetzal.specs.Save.{identity, ram_in, IsStackOf, RefusesSave}
+use Rattle.quetzal.specs.Save.{IsStateIn, IsStateOf, HasNoHeap, ReadsSave, ReadsHeapOf}
 use Rattle.quetzal.specs.Save.{ReadsStack, ReadsMemory, ReadsStory, ReadsParts, canon}
+use Rattle.quetzal.specs.Save.{GivesState, SaveIsReadAs}
 use Rattle.quetzal.specs.State.{FindsState, by_address, heap_in_chunk, is_stack_of}
 use Rattle.quetzal.specs.State.{state_in, state_of, state_over, state_with}
 use Rattle.quetzal.specs.declared.fault.SaveFault.{SaveFault}
 use Rattle.quetzal.specs.declared.fault.SaveFault.TheVariants.{NotSave, Cut, OtherStory, BadRuns}
 use Rattle.quetzal.specs.declared.fault.SaveFault.TheVariants.{BadStack, BadHeap, NoMemory}
-use Rattle.quetzal.specs.Returns.{GivesStateBack}
+use Rattle.quetzal.specs.Returns.{HasRom, GivesStateBack}
 use Rattle.quetzal.proofs.OrderLemmas.{and_left, and_right, fits-order, same_order}
 use Rattle.quetzal.proofs.WriteLemmas.{written_reads}
 
@@ -246,3 +246,23 @@ reader_finds image bytes result laid h = parts_finds image (parts_of bytes) resu
 pub state_given_back : GivesStateBack
 state_given_back image s laid is kept =
     reader_finds image (canon image s) (Ok s) laid (written_reads image s laid is kept)
+
+gives : (s : Saved) (result : Result Saved SaveFault)
+    → FindsState (Some s) result → GivesState s result
+gives s (Ok t) h = ap (or_else s) (sym h) where
+  or_else : Saved → Option Saved → Saved
+  or_else d None = d
+  or_else d (Some t) = t
+gives s (Err NoMemory) h = refl
+gives s (Err NotSave) h = absurd (grind (arith, h))
+gives s (Err Cut) h = absurd (grind (arith, h))
+gives s (Err OtherStory) h = absurd (grind (arith, h))
+gives s (Err BadRuns) h = absurd (grind (arith, h))
+gives s (Err BadStack) h = absurd (grind (arith, h))
+gives s (Err BadHeap) h = absurd (grind (arith, h))
+
+pub read_back : (image : List ℕ) (s : Saved)
+    → IsLaidOut image → IsStateOf image s → HasRom s.memory → SaveIsReadAs image (canon image s) s
+read_back image s laid is kept result h =
+    gives s result (subst (λ found. FindsState found result) (state_given_back image s laid is kept)
+    (reader_finds image (canon image s) result laid h))
