@@ -4,16 +4,16 @@ use Rattle.std.proofs.Common.{arith, sym, ap, length-append, nat_le, inl, inr, s
 use Rattle.std.proofs.Common.{append_assoc, replicate}
 use Rattle.std.proofs.Math.Seq.{take-length, drop-length}
 use Rattle.std.proofs.lemmas.Bool.{cases_Bool, leb-true}
-use Rattle.std.proofs.lemmas.List.{length-replicate, take-append-drop, length-take-le, append-nil, take-take}
+use Rattle.std.proofs.lemmas.List.{length-replicate, length-take-le, append-nil, take-take}
 use Rattle.byteorder.specs.Endian.{big_bytes}
 use Rattle.byteorder.specs.Numbers.{length-bytes_high_first}
-use Rattle.vm_stack.specs.Frame.{fresh_frame, frame_len_of, locals_len, locals_pos_of, padding_len}
+use Rattle.vm_stack.specs.Frame.{frame_head, fresh_frame, frame_len_of, locals_len, locals_pos_of, padding_len}
 use Rattle.vm_stack.specs.StackState.{number, replaced_within}
 use Rattle.vm_stack.specs.Head.{StandsWhole, IsHead}
 use Rattle.vm_stack.specs.declared.head.Head.{Head}
-use Rattle.vm_stack.proofs.NumberLemmas.{number_within}
+use Rattle.vm_stack.proofs.NumberLemmas.{number_within, number_taken}
 use Rattle.vm_stack.proofs.FrameLemmas.{aligned_up, first_word, second_word}
-use Rattle.vm_stack.proofs.ChainLemmas.{length_replaced}
+use Rattle.vm_stack.proofs.LocalLemmas.{length_replaced}
 
 -- a frame that stands whole does so with more bytes on top
 pub stands_below : (xs ys : List ℕ) (frame : ℕ) (head : Head)
@@ -40,19 +40,14 @@ stands_in xs n frame head le within s =
     let above = s.above in
     let span = s.span in
     let size = length-take-le n xs le in
-    let whole = take-append-drop n xs in
     record {
       above = above;
       span = span;
       below = omega (arith, within, le, size);
       locals = ap (λ (n : ℕ). frame + n)
-          (number_within (take n xs) (drop n xs) (frame + 4)
-          (omega (arith, above, span, within, le, size))
-          ∙ ap (λ (zs : List ℕ). number 4 zs (frame + 4)) whole) ∙ s.locals;
+          (number_taken xs n (frame + 4) (omega (arith, above, span, within)) le) ∙ s.locals;
       values = ap (λ (n : ℕ). frame + n)
-          (number_within (take n xs) (drop n xs) frame
-          (omega (arith, above, span, within, le, size))
-          ∙ ap (λ (zs : List ℕ). number 4 zs frame) whole) ∙ s.values;
+          (number_taken xs n frame (omega (arith, above, span, within)) le) ∙ s.values;
     }
 
 -- a number before what is put at a place
@@ -67,8 +62,7 @@ number_before xs new at place le =
           rw e (sym (number_within (take at xs ++ new) (drop (at + length new) xs) place
           (omega (arith, le, size, more)))
           ∙ (sym (number_within (take at xs) new place (omega (arith, le, size)))
-          ∙ (number_within (take at xs) (drop at xs) place (omega (arith, le, size))
-          ∙ ap (λ (zs : List ℕ). number 4 zs place) (take-append-drop at xs))))
+          ∙ number_taken xs at place le (omega (arith, inside))))
           )
       | inr e ↦ rw e refl
     ]
@@ -140,22 +134,17 @@ fresh_seam : (low a b f z l : List ℕ)
     → low ++ ((a ++ b ++ f) ++ z ++ l) ≡ low ++ (a ++ (b ++ (f ++ (z ++ l))))
 fresh_seam low a b f z l = simp append_assoc refl
 
-fresh_lengths : (low a b f z l : List ℕ)
-    → length (low ++ ((a ++ b ++ f) ++ z ++ l))
-    ≡ length low + (length a + length b + length f + length z + length l)
-fresh_lengths low a b f z l = simp length-append refl
-
 length_fresh : (low format : List ℕ)
     → length (low ++ fresh_frame format) ≡ length low + frame_len_of format
 length_fresh low format =
-    let e = fresh_lengths low (big_bytes 4 (frame_len_of format)) (big_bytes 4 (locals_pos_of format))
-    format (replicate (padding_len format) 0) (replicate (locals_len format) 0) in
-    let a = length-bytes_high_first 4 (frame_len_of format) in
-    let b = length-bytes_high_first 4 (locals_pos_of format) in
+    let a = length-append low (fresh_frame format) in
     let z = length-replicate {A = ℕ} (padding_len format) 0 in
     let l = length-replicate {A = ℕ} (locals_len format) 0 in
+    let b = length-append (frame_head format ++ replicate (padding_len format) 0)
+    (replicate (locals_len format) 0) in
+    let d = length-append (frame_head format) (replicate (padding_len format) 0) in
     let up = aligned_up (8 + length format) in
-    omega (arith, e, a, b, z, l, up)
+    omega (arith, a, z, l, b, d, up)
 
 -- what is known of a new frame
 pub fresh_head : (low format : List ℕ) (head locals : ℕ)
