@@ -2,14 +2,13 @@
 use Rattle.std.proofs.Common.{◌≡◌, ℕ, zero, suc, add-zero, min, ◌^◌, ◌+◌, ◌-◌, ◌*◌, ◌/◌, ◌%◌, ◌<◌}
 use Rattle.std.proofs.Common.{◌≤◌, List, [], ◌∷◌, ◌++◌, length, get_or, take, drop, replicate}
 use Rattle.std.proofs.Common.{slice_index, refl, ap, sym, ◌∙◌, arith, inl, inr, ◌⊎◌}
-use Rattle.std.proofs.lemmas.List.{same_lists, places, get_or-take, get_or-drop, get_or_append_left}
+use Rattle.std.proofs.lemmas.List.{same_lists, get_or-take, get_or-drop, get_or_append_left}
 use Rattle.std.proofs.lemmas.List.{get_or-append_right, get_or_default, length-append, length-drop}
 use Rattle.std.proofs.lemmas.List.{length-take, length-replicate, get_or-replicate, get_or_past}
-use Rattle.std.proofs.lemmas.List.{drop_all, take_rest, take_more, drop-drop, append_assoc}
+use Rattle.std.proofs.lemmas.List.{drop_all, take_rest, take_more, append_assoc}
 use Rattle.std.proofs.lemmas.List.{append-nil, take_all, nil_from_length}
 use Rattle.std.proofs.lemmas.List.FromFn.{get_or-map-range_with_len, length-map-range_with_len}
 use Rattle.std.proofs.lemmas.Bool.{cases_lt, lt-ltb, le-ltb}
-use Rattle.std.specs.Prelude.{slice_index_or}
 use Rattle.byteorder.specs.Endian.{big_number, big_from}
 use Rattle.vm_memory.specs.MemoryMap.{replaced, original, number_at, KeepsRom}
 use Rattle.vm_memory.specs.Code.{IsCode}
@@ -216,9 +215,7 @@ slice_page rom ramstart rows size at n fits high one held =
     let f : (at + i) % 256 ≡ at % 256 + i = omega arith in
     get_or-take n (drop (at % 256) page) i 0 l ∙ get_or-drop (at % 256) page i 0
     ∙ get_or_default page (at % 256 + i) 0 (slice_index rom (at + i)) (omega arith)
-    ∙ sym (byte_above rom ramstart rows (at + i) (omega arith)
-    ∙ ap (λ p. slice_index_or p ((at + i) % 256) (slice_index rom (at + i))) (ap
-    (page_in rows) e) ∙ ap (λ k. slice_index_or page k (slice_index rom (at + i))) f))
+    ∙ sym (byte_above rom ramstart rows (at + i) (omega arith) ∙ rw (e, f) refl))
 
 pub slice_image : (rom : List ℕ) (ramstart : ℕ) (rows : Rows) (size at n : ℕ) → at + n ≤ size
     → ramstart ≤ at → at % 256 + n ≤ 256 → length (page_in rows (at / 256)) ≤ at % 256
@@ -231,10 +228,8 @@ slice_image rom ramstart rows size at n fits high one past within =
     let e : (at + i) / 256 ≡ at / 256 = omega arith in
     get_or-take n (drop at rom) i 0 l ∙ get_or-drop at rom i 0
     ∙ sym (byte_above rom ramstart rows (at + i) (omega arith)
-    ∙ ap (λ p. slice_index_or p ((at + i) % 256) (slice_index rom (at + i))) (ap
-    (page_in rows) e)
-    ∙ get_or_past (page_in rows (at / 256)) ((at + i) % 256) (slice_index rom (at + i))
-    (omega arith)))
+    ∙ rw e (get_or_past (page_in rows (at / 256)) ((at + i) % 256) (slice_index rom (at + i))
+    (omega arith))))
 
 -- a number depends on its bytes alone
 pub big_from_same : (i n : ℕ) (xs ys : List ℕ) → ((k : ℕ) → k < i + n
@@ -255,46 +250,35 @@ pub byte_from : (rom : List ℕ) (ramstart : ℕ) (rows : Rows) (size at k : ℕ
 byte_from rom ramstart rows size at k l = sym (get_or-drop at (laid rom ramstart rows size) k 0
     ∙ byte_laid rom ramstart rows size (at + k) 0 l)
 
-two_of : (rom : List ℕ) (ramstart : ℕ) (rows : Rows) (size at k : ℕ) → at + 2 ≤ size → k < 2
-    → slice_index (byte_of rom ramstart rows at ∷ byte_of rom ramstart rows
-    (at + 1) ∷ []) k ≡ slice_index (drop at (laid rom ramstart rows size)) k
-two_of rom ramstart rows size at zero fits l = ap (byte_of rom ramstart rows) (sym (add-zero at))
+first_byte : (rom : List ℕ) (ramstart : ℕ) (rows : Rows) (size at : ℕ) → at + 1 ≤ size
+    → byte_of rom ramstart rows at ≡ slice_index (drop at (laid rom ramstart rows size)) 0
+first_byte rom ramstart rows size at fits =
+    ap (byte_of rom ramstart rows) (sym (add-zero at))
     ∙ byte_from rom ramstart rows size at 0 (omega arith)
-two_of rom ramstart rows size at (suc zero) fits l = byte_from rom ramstart rows size at 1
-    (omega arith)
-two_of rom ramstart rows size at (suc (suc k)) fits l = absurd (omega arith)
 
-four_of : (rom : List ℕ) (ramstart : ℕ) (rows : Rows) (size at k : ℕ) → at + 4 ≤ size → k < 4
-    → slice_index (byte_of rom ramstart rows at ∷ byte_of rom ramstart rows
-    (at + 1) ∷ byte_of rom ramstart rows (at + 2) ∷ byte_of rom ramstart rows
-    (at + 3) ∷ []) k ≡ slice_index (drop at (laid rom ramstart rows size)) k
-four_of rom ramstart rows size at zero fits l = ap (byte_of rom ramstart rows) (sym
-    (add-zero at)) ∙ byte_from rom ramstart rows size at 0 (omega arith)
-four_of rom ramstart rows size at (suc zero) fits l = byte_from rom ramstart rows size at 1
-    (omega arith)
-four_of rom ramstart rows size at (suc (suc zero)) fits l = byte_from rom ramstart rows size at 2
-    (omega arith)
-four_of rom ramstart rows size at (suc (suc
-    (suc zero))) fits l = byte_from rom ramstart rows size at 3 (omega arith)
-four_of rom ramstart rows size at (suc (suc (suc (suc k)))) fits l = absurd (omega arith)
+pub number_of_one : (rom : List ℕ) (ramstart : ℕ) (rows : Rows) (size at : ℕ) → at + 1 ≤ size
+    → number_at 1 (laid rom ramstart rows size) at ≡ byte_of rom ramstart rows at
+number_of_one rom ramstart rows size at fits =
+    let e = first_byte rom ramstart rows size at fits in omega (arith, e)
 
 pub number_of_two : (rom : List ℕ) (ramstart : ℕ) (rows : Rows) (size at : ℕ) → at + 2 ≤ size
     → big_number 2 (byte_of rom ramstart rows at ∷ byte_of rom ramstart rows
     (at + 1) ∷ []) ≡ number_at 2 (laid rom ramstart rows size) at
 number_of_two rom ramstart rows size at fits =
-    big_from_same 0 2 (byte_of rom ramstart rows at ∷ byte_of rom ramstart rows (at + 1) ∷ [])
-    (drop at (laid rom ramstart rows size)) (λ k l. two_of rom ramstart rows size at k fits
-    (omega arith))
+    let a = first_byte rom ramstart rows size at (omega arith) in
+    let b = byte_from rom ramstart rows size at 1 (omega arith) in
+    omega (arith, a, b)
 
 pub number_of_four : (rom : List ℕ) (ramstart : ℕ) (rows : Rows) (size at : ℕ) → at + 4 ≤ size
     → big_number 4 (byte_of rom ramstart rows at ∷ byte_of rom ramstart rows
     (at + 1) ∷ byte_of rom ramstart rows (at + 2) ∷ byte_of rom ramstart rows
     (at + 3) ∷ []) ≡ number_at 4 (laid rom ramstart rows size) at
 number_of_four rom ramstart rows size at fits =
-    big_from_same 0 4 (byte_of rom ramstart rows at ∷ byte_of rom ramstart rows
-    (at + 1) ∷ byte_of rom ramstart rows (at + 2) ∷ byte_of rom ramstart rows (at + 3) ∷ [])
-    (drop at (laid rom ramstart rows size)) (λ k l. four_of rom ramstart rows size at k fits
-    (omega arith))
+    let a = first_byte rom ramstart rows size at (omega arith) in
+    let b = byte_from rom ramstart rows size at 1 (omega arith) in
+    let c = byte_from rom ramstart rows size at 2 (omega arith) in
+    let d = byte_from rom ramstart rows size at 3 (omega arith) in
+    omega (arith, a, b, c, d)
 
 -- one more byte at an address
 pub take_byte : (rom : List ℕ) (ramstart : ℕ) (rows : Rows) (size at i : ℕ) → at ≤ i → i < size
@@ -308,17 +292,6 @@ take_byte rom ramstart rows size at i from below =
     ∙ take_more (drop at bytes) (i - at) 0 (omega (arith, n, d))
     ∙ ap (λ b. take (i - at) (drop at bytes) ++ b ∷ []) (get_or-drop at bytes (i - at) 0
     ∙ ap (λ k. get_or bytes k 0) (omega arith) ∙ byte_laid rom ramstart rows size i 0 below)
-
-take_parts : (m n : ℕ) (xs : List ℕ) → take m xs ++ take n (drop m xs) ≡ take (m + n) xs
-take_parts m n xs = same_lists _ _ (grind (arith, places)) (λ k d h. grind (arith, places))
-
--- bytes after the bytes before them
-pub take_span : (bytes : List ℕ) (at done some : ℕ)
-    → take done (drop at bytes) ++ take some (drop (at + done) bytes) ≡ take (done + some)
-    (drop at bytes)
-take_span bytes at done some =
-    ap (λ t. take done (drop at bytes) ++ take some t) (sym (drop-drop done at bytes))
-    ∙ take_parts done some (drop at bytes)
 
 pub append_byte : (rom : List ℕ) (ramstart : ℕ) (rows : Rows) (size at i : ℕ)
     (old was new : List ℕ) (b : ℕ) → new ≡ was ++ b ∷ []
@@ -336,16 +309,6 @@ pub laid_alike : (rom : List ℕ) (ramstart : ℕ) (old new : Rows) (size : ℕ)
     → page_in new k ≡ page_in old k) → laid rom ramstart new size ≡ laid rom ramstart old size
 laid_alike rom ramstart old new size same = laid_shows rom ramstart old new size
     (shows_alike rom old new same)
-
-pub number_of_one : (rom : List ℕ) (ramstart : ℕ) (rows : Rows) (size at : ℕ) → at + 1 ≤ size
-    → number_at 1 (laid rom ramstart rows size) at ≡ byte_of rom ramstart rows at
-number_of_one rom ramstart rows size at fits =
-    let e : slice_index (drop at
-    (laid rom ramstart rows size)) 0 ≡ byte_of rom ramstart rows at = get_or-drop at
-    (laid rom ramstart rows size) 0 0
-    ∙ ap (λ k. get_or (laid rom ramstart rows size) k 0) (omega arith)
-    ∙ byte_laid rom ramstart rows size at 0 (omega arith) in
-    omega (arith, e)
 
 -- RAM as a whole
 pub ram_is : (bytes : List ℕ) (n size : ℕ) → size ≡ length bytes

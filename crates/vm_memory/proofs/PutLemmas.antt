@@ -1,7 +1,7 @@
 -- Lemmas on bytes in place of others.
 use Rattle.std.proofs.Common.{◌≡◌, ◌≢◌, ℕ, ◌+◌, ◌-◌, ◌/◌, ◌%◌, ◌<◌, ◌≤◌, List, ◌++◌, length}
 use Rattle.std.proofs.Common.{get_or, take, drop, slice_index, refl, ap, sym, ◌∙◌, arith, subst}
-use Rattle.std.proofs.Common.{Bool, true, false, inl, inr, [], length-take-le}
+use Rattle.std.proofs.Common.{Bool, true, false, inl, inr, length-take-le}
 use Rattle.std.proofs.lemmas.List.{same_lists, places, get_or_append_left, get_or-append_right}
 use Rattle.std.proofs.lemmas.List.{get_or_default, length-append, length-replicate, take-replicate}
 use Rattle.std.proofs.lemmas.List.{replicate-append-replicate}
@@ -103,16 +103,7 @@ put_in_shows rom old new at bytes r is put kept f =
       | inr q ↦ kept k q
     ])
 
--- no byte, or bytes after bytes
-pub puts_none : (rom : List ℕ) (rows : Rows) (at : ℕ) → PutsBytes rom rows rows at []
-puts_none rom rows at = record {
-  inside = λ i low high. absurd
-      (omega arith);
-  below = λ i low. refl;
-  past = λ i high. refl;
-  held = λ n h. h;
-}
-
+-- bytes after bytes
 pub puts_more : (rom : List ℕ) (a b d : Rows) (at to : ℕ) (front next : List ℕ)
     → PutsBytes rom a b at front → to ≡ at + length front → PutsBytes rom b d to next
     → PutsBytes rom a d at (front ++ next)
