@@ -3,6 +3,7 @@ use Rattle.std.proofs.Common.{◌≡◌, ℕ, ◌+◌, ◌<◌, ◌≤◌, Bool,
 use Rattle.std.proofs.Common.{false, ◌&&◌, nat_lt, nat_le, cond, List, [], ◌∷◌}
 use Rattle.std.proofs.Common.{length, refl, ap, sym, ◌∙◌, arith, IsTrue}
 use Rattle.std.proofs.Math.ListN.{get_or}
+use Rattle.std.proofs.lemmas.Bool.{and_parts}
 use Rattle.std.proofs.lemmas.Bool.Decides.{nat_tests}
 use Rattle.std.proofs.lemmas.List.Sorted.{IsNonDecreasingBy-drop}
 use Rattle.std.proofs.lemmas.List.Sorted.{sum_by-IsPermutation, length_permutation}
@@ -146,14 +147,6 @@ same_order from s t up order h =
     same_alike from s t (length_permutation t s order) up
     (λ f. sym (total-sum f s) ∙ sum_by-IsPermutation f t s order ∙ total-sum f t) h
 
-pub and_left : (a b : Bool) → (a && b) ≡ true → a ≡ true
-and_left true b h = refl
-and_left false b h = absurd (grind (arith, h))
-
-pub and_right : (a b : Bool) → (a && b) ≡ true → b ≡ true
-and_right true b h = h
-and_right false b h = absurd (grind (arith, h))
-
 pub fits-filled : (endmem size start : ℕ) (bs : List Block)
     → 0 < length bs → is_heap start bs ≡ true
     → heap_fits endmem size start bs ≡ is_placed endmem size start (heap_end bs)
@@ -165,8 +158,18 @@ pub fits-order : (endmem size start : ℕ) (bs : List Block) → heap_fits endme
     → IsTrue (in_order 0 bs)
 fits-order endmem size start [] h = refl
 fits-order endmem size start (b ∷ bs) h =
-    let heap : is_heap start (b ∷ bs) ≡ true = and_left _ _ h in
+    let heap : is_heap start (b ∷ bs) ≡ true = (and_parts _ _ h).0 in
     in_order-lower (b ∷ bs) 0 start (omega arith) (is_heap-order start (b ∷ bs) heap)
+
+-- blocks that fit in some order are these, where these rise
+pub only_order : (endmem size start : ℕ) (pairs blocks s : List Block)
+    → IsNonDecreasingBy (λ b. b.at) s
+    → HaveOrder endmem size start pairs blocks
+    → IsPermutation pairs s → s ≡ blocks
+only_order endmem size start pairs blocks s up have order =
+    same_order 0 s blocks up
+    (IsPermutation-trans blocks pairs s (IsPermutation-sym pairs blocks have.order) order)
+    (fits-order endmem size start blocks have.fits)
 
 -- blocks by their addresses that don't fit have no order that does
 pub one_order : (endmem size start : ℕ) (pairs blocks s : List Block)
@@ -175,9 +178,6 @@ pub one_order : (endmem size start : ℕ) (pairs blocks s : List Block)
     → IsPermutation pairs s
     → heap_fits endmem size start s ≡ false → ⊥
 one_order endmem size start pairs blocks s up have order bad =
-    let between : IsPermutation blocks s =
-    IsPermutation-trans blocks pairs s (IsPermutation-sym pairs blocks have.order) order in
-    let same : s ≡ blocks =
-    same_order 0 s blocks up between (fits-order endmem size start blocks have.fits) in
+    let same = only_order endmem size start pairs blocks s up have order in
     let both : true ≡ false = sym have.fits ∙ ap (heap_fits endmem size start) (sym same) ∙ bad in
     grind (arith, both)

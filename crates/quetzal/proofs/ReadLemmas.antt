@@ -2,7 +2,7 @@
 use Rattle.std.proofs.Common.{◌≡◌, ℕ, ◌+◌, ◌-◌, ◌%◌, ◌≤◌, true}
 use Rattle.std.proofs.Common.{List, [], ◌∷◌, ◌++◌, length, take, replicate}
 use Rattle.std.proofs.Common.{Result, Ok, Err, refl, sym, subst, ◌∙◌, arith}
-use Rattle.quetzal.proofs.OrderLemmas.{and_left, and_right}
+use Rattle.std.proofs.lemmas.Bool.{and_parts}
 use Rattle.std.proofs.lemmas.Bool.Decides.{nat_tests}
 use Rattle.std.proofs.lemmas.List.{length-append, length-take, length-replicate}
 use Rattle.glulx_image.specs.Header.{IsLaidOut, ramstart, extstart, endmem}
@@ -125,11 +125,11 @@ over_of end size start [] page h =
       ends = λ l. absurd (omega arith);
     })
 over_of end size start (b ∷ bs) page h =
-    let is = and_left (is_heap start (b ∷ bs)) _ h in
-    let placed : is_placed end size start (heap_end (b ∷ bs)) ≡ true =
-    and_right (is_heap start (b ∷ bs)) (is_placed end size start (heap_end (b ∷ bs))) h in
+    let both =
+    and_parts (is_heap start (b ∷ bs)) (is_placed end size start (heap_end (b ∷ bs))) h in
+    let placed : is_placed end size start (heap_end (b ∷ bs)) ≡ true = both.1 in
     record {
-      heap = is;
+      heap = both.0;
       page = grind (arith, nat_tests, placed);
       least = λ l. grind (arith, nat_tests, placed);
       ends = λ l. grind (arith, nat_tests, placed);
