@@ -8,6 +8,7 @@ use Rattle.std.proofs.lemmas.List.{length-take, length-replicate, get_or-replica
 use Rattle.std.proofs.lemmas.List.{drop_all, take_rest, take_more, append_assoc}
 use Rattle.std.proofs.lemmas.List.{append-nil, take_all, nil_from_length}
 use Rattle.std.proofs.lemmas.List.FromFn.{get_or-map-range_with_len, length-map-range_with_len}
+use Rattle.std.proofs.lemmas.List.FromFn.{take-map-range_with_len, fill_by_all}
 use Rattle.std.proofs.lemmas.Bool.{cases_lt, lt-ltb, le-ltb}
 use Rattle.byteorder.specs.Endian.{big_number, big_from}
 use Rattle.vm_memory.specs.MemoryMap.{replaced, original, number_at, KeepsRom}
@@ -37,15 +38,13 @@ pub byte_above : (rom : List ℕ) (ramstart : ℕ) (rows : Rows) (i : ℕ) → r
 unfolding byte_of
 byte_above rom ramstart rows i l = let t = le-ltb i ramstart l in rw t refl
 
--- two lists of bytes are one where they show the same
-pub laid_same : (rom : List ℕ) (ramstart : ℕ) (old new : Rows) (size : ℕ) → ((i : ℕ)
-    → byte_of rom ramstart new i ≡ byte_of rom ramstart old i)
-    → laid rom ramstart new size ≡ laid rom ramstart old size
-laid_same rom ramstart old new size same =
-    let n = length_laid rom ramstart new size in
-    let m = length_laid rom ramstart old size in
-    same_lists _ _ (omega (arith, n, m)) (λ k d l. byte_laid rom ramstart new size k d (omega
-    (arith, n)) ∙ same k ∙ sym (byte_laid rom ramstart old size k d (omega (arith, n))))
+-- the bytes of memory are a list of as many, each of which they show
+laid_is : (rom : List ℕ) (ramstart : ℕ) (rows : Rows) (size : ℕ) (bytes : List ℕ)
+    → length bytes ≡ size → ((k : ℕ) → k < size → byte_of rom ramstart rows k ≡ slice_index bytes k)
+    → laid rom ramstart rows size ≡ bytes
+unfolding laid
+laid_is rom ramstart rows size bytes e same =
+    sym (fill_by_all (byte_of rom ramstart rows) bytes size 0 e (λ k l. sym (same k l)))
 
 pub byte_same : (rom : List ℕ) (ramstart : ℕ) (old new : Rows) (i : ℕ)
     → shown rom new i ≡ shown rom old i → byte_of rom ramstart new i ≡ byte_of rom ramstart old i
@@ -54,29 +53,28 @@ byte_same rom ramstart old new i e = rw e refl
 
 pub laid_shows : (rom : List ℕ) (ramstart : ℕ) (old new : Rows) (size : ℕ) → Shows rom old new
     → laid rom ramstart new size ≡ laid rom ramstart old size
-laid_shows rom ramstart old new size shows = laid_same rom ramstart old new size
-    (λ i. byte_same rom ramstart old new i (shows.same i))
+laid_shows rom ramstart old new size shows =
+    laid_is rom ramstart new size _ (length_laid rom ramstart old size) (λ k l.
+    byte_same rom ramstart old new k (shows.same k) ∙ sym (byte_laid rom ramstart old size k 0 l))
 
 -- bytes that are put into RAM
 pub laid_puts : (rom : List ℕ) (ramstart : ℕ) (old new : Rows) (size at : ℕ) (bytes : List ℕ)
     → PutsBytes rom old new at bytes → ramstart ≤ at → at + length bytes ≤ size
     → laid rom ramstart new size ≡ replaced (laid rom ramstart old size) at bytes
 laid_puts rom ramstart old new size at bytes puts ram inside =
-    let n = length_laid rom ramstart new size in
     let m = length_laid rom ramstart old size in
     let fits : at + length bytes ≤ length (laid rom ramstart old size) = omega (arith, m) in
     let z = length_replaced (laid rom ramstart old size) at bytes fits in
-    same_lists _ _ (omega (arith, n, m, z)) (λ k d l.
-    let below : k < size = omega (arith, n) in
-    let was = byte_laid rom ramstart old size k d below in
-    byte_laid rom ramstart new size k d below ∙ elim (cases_lt k at) [
+    laid_is rom ramstart new size _ (omega (arith, m, z)) (λ k l.
+    let was = byte_laid rom ramstart old size k 0 l in
+    elim (cases_lt k at) [
       | inl low ↦ byte_same rom ramstart old new k (puts.below k low)
-          ∙ sym (byte_before (laid rom ramstart old size) at bytes k d fits low ∙ was)
+          ∙ sym (byte_before (laid rom ramstart old size) at bytes k 0 fits low ∙ was)
       | inr from ↦ elim (cases_lt k (at + length bytes)) [
         | inl high ↦ byte_above rom ramstart new k (omega arith) ∙ puts.inside k from high
-            ∙ sym (byte_within (laid rom ramstart old size) at bytes k d fits from high)
+            ∙ sym (byte_within (laid rom ramstart old size) at bytes k 0 fits from high)
         | inr past ↦ byte_same rom ramstart old new k (puts.past k past)
-            ∙ sym (byte_after (laid rom ramstart old size) at bytes k d fits past ∙ was)
+            ∙ sym (byte_after (laid rom ramstart old size) at bytes k 0 fits past ∙ was)
       ]
     ])
 
@@ -94,19 +92,16 @@ byte_none rom ramstart i = elim (cases_lt i ramstart) [
 pub laid_original : (rom : List ℕ) (ramstart size : ℕ) → length rom ≤ size
     → laid rom ramstart [] size ≡ original rom size
 laid_original rom ramstart size within =
-    let n = length_laid rom ramstart [] size in
     let m = length-append rom (replicate (size - length rom) 0) in
     let z = length-replicate {A = ℕ} (size - length rom) 0 in
-    same_lists _ _ (omega (arith, n, m, z)) (λ k d l.
-    let below : k < size = omega (arith, n) in
-    byte_laid rom ramstart [] size k d below ∙ byte_none rom ramstart k
+    laid_is rom ramstart [] size _ (omega (arith, m, z)) (λ k l.
+    byte_none rom ramstart k
     ∙ elim (cases_lt k (length rom)) [
-      | inl low ↦ get_or_default rom k 0 d low
-          ∙ sym (get_or_append_left rom (replicate (size - length rom) 0) d k low)
+      | inl low ↦ sym (get_or_append_left rom (replicate (size - length rom) 0) 0 k low)
       | inr high ↦ get_or_past rom k 0 high
           ∙ sym (get_or-append_right rom (replicate (size - length rom) 0)
-          (length rom) k d refl high
-          ∙ get_or-replicate (size - length rom) (k - length rom) 0 d (omega arith))
+          (length rom) k 0 refl high
+          ∙ get_or-replicate (size - length rom) (k - length rom) 0 0 (omega arith))
     ])
 
 -- another size, where nothing is held past the smaller one
@@ -116,51 +111,36 @@ pub laid_cuts : (rom : List ℕ) (ramstart : ℕ) (old new : Rows) (was size lea
     → laid rom ramstart new size ≡ take size (laid rom ramstart old was) ++ replicate
     (size - length (laid rom ramstart old was)) 0
 laid_cuts rom ramstart old new was size least cuts a b which ram within =
-    let n = length_laid rom ramstart new size in
     let m = length_laid rom ramstart old was in
     let t = length-take size (laid rom ramstart old was) in
     let z = length-replicate {A = ℕ} (size - length (laid rom ramstart old was)) 0 in
     let s = length-append (take size (laid rom ramstart old was)) (replicate (size - length
     (laid rom ramstart old was)) 0) in
-    same_lists _ _ (omega (arith, n, m, t, z, s)) (λ k d l.
-    let below : k < size = omega (arith, n) in
-    byte_laid rom ramstart new size k d below ∙ elim (cases_lt k least) [
+    laid_is rom ramstart new size _ (omega (arith, m, t, z, s)) (λ k l.
+    elim (cases_lt k least) [
       | inl low ↦
           byte_same rom ramstart old new k (cuts.below k low)
-          ∙ sym (get_or_append_left (take size (laid rom ramstart old was)) _ d k (omega
-          (arith, t, m)) ∙ get_or-take size (laid rom ramstart old was) k d below
-          ∙ byte_laid rom ramstart old was k d (omega arith))
+          ∙ sym (get_or_append_left (take size (laid rom ramstart old was)) _ 0 k (omega
+          (arith, t, m)) ∙ get_or-take size (laid rom ramstart old was) k 0 l
+          ∙ byte_laid rom ramstart old was k 0 (omega arith))
       | inr high ↦
           byte_above rom ramstart new k (omega arith) ∙ cuts.past k high
           ∙ get_or_past rom k 0 (omega arith)
-          ∙ sym (get_or-append_right (take size (laid rom ramstart old was)) _ was k d (omega
-          (arith, t, m)) (omega arith) ∙ get_or-replicate _ (k - was) 0 d (omega (arith, m)))
+          ∙ sym (get_or-append_right (take size (laid rom ramstart old was)) _ was k 0 (omega
+          (arith, t, m)) (omega arith) ∙ get_or-replicate _ (k - was) 0 0 (omega (arith, m)))
     ])
 
 -- below RAMSTART stands the image
 pub laid_rom : (rom : List ℕ) (ramstart : ℕ) (rows : Rows) (size : ℕ) → ramstart ≤ length rom
     → ramstart ≤ size → KeepsRom ramstart rom (laid rom ramstart rows size)
-laid_rom rom ramstart rows size within fits =
-    let n = length_laid rom ramstart rows size in
-    record {
-      within = within;
-      same = same_lists _ _ (omega (
-        arith,
-        length-take ramstart
-            (laid rom ramstart rows size),
-        length-take ramstart rom,
-        n,
-      )) (λ k d l.
-          let low : k < ramstart = omega (
-            arith,
-            length-take ramstart
-                (laid rom ramstart rows size),
-          ) in
-          get_or-take ramstart (laid rom ramstart rows size) k d low
-          ∙ byte_laid rom ramstart rows size k d (omega arith)
-          ∙ byte_below rom ramstart rows k low ∙ get_or_default rom k 0 d (omega arith)
-          ∙ sym (get_or-take ramstart rom k d low));
-    }
+unfolding laid
+laid_rom rom ramstart rows size within fits = record {
+  within = within;
+  same = take-map-range_with_len (byte_of rom ramstart rows) 0 size ramstart fits
+      ∙ laid_is rom ramstart rows ramstart (take ramstart rom)
+      (omega (arith, length-take ramstart rom))
+      (λ k l. byte_below rom ramstart rows k l ∙ sym (get_or-take ramstart rom k 0 l));
+}
 
 -- bytes at an address, by index
 pub slice_laid : (rom : List ℕ) (ramstart : ℕ) (rows : Rows) (size at n : ℕ) (bytes : List ℕ)
