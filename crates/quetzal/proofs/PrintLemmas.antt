@@ -126,18 +126,12 @@ pub parts_fit : (header memory stack : List ℕ) (heap : Option (List ℕ))
     → (length header < 2 ^ 32) × (length memory < 2 ^ 32)
     × (length stack < 2 ^ 32)
     × (length (heap_chunk heap) < 2 ^ 32)
-parts_fit header memory stack heap fits =
-    let h = heap_chunk heap in
-    let r2 = chunk 0x53746B73 stack ++ h in
-    let r1 = chunk 0x434D656D memory ++ r2 in
-    let l1 = length-append (chunk 0x49466864 header) r1 in
-    let l2 = length-append (chunk 0x434D656D memory) r2 in
-    let l3 = length-append (chunk 0x53746B73 stack) h in (
-      omega (arith, l1, fits, length-chunk 0x49466864 header),
-      omega (arith, l1, l2, fits, length-chunk 0x434D656D memory),
-      omega (arith, l1, l2, l3, fits, length-chunk 0x53746B73 stack),
-      omega (arith, l1, l2, l3, fits),
-    )
+parts_fit header memory stack heap fits = (
+  omega (arith, length-append {A = ℕ}, fits, length-chunk),
+  omega (arith, length-append {A = ℕ}, fits, length-chunk),
+  omega (arith, length-append {A = ℕ}, fits, length-chunk),
+  omega (arith, length-append {A = ℕ}, fits, length-chunk),
+)
 
 body_again : (chunks : List ℕ)
     → 4 + length chunks < 2 ^ 32

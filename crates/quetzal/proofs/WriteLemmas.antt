@@ -213,26 +213,15 @@ pub save_fits : (image : List ℕ) (s : Saved) → IsLaidOut image → IsStateOf
     < 2 ^ 32
 save_fits image s laid is =
     let z = state_sizes image s laid is in
-    let h = heap_chunk (print_heap s.heap_start s.heap) in
-    let memory = print_memory (rom image) (ramstart image) (ram_of s.memory) in
-    let r2 = chunk 0x53746B73 s.stack ++ h in
-    let r1 = chunk 0x434D656D memory ++ r2 in
     let was =
     original_ram (rom image) (ramstart image) (ramstart image + length (ram_of s.memory)) in
     let coding = length-coded 0 (differences was (ram_of s.memory)) in
     let changes = length-differences was (ram_of s.memory) in
     let limit : length s.memory.bytes ≤ 16777216 = is.saved.saved.size.limit in
-    let l1 = length-append (chunk 0x49466864 (identity image)) r1 in
-    let l2 = length-append (chunk 0x434D656D memory) r2 in
-    let l3 = length-append (chunk 0x53746B73 s.stack) h in
     omega (
       arith,
-      l1,
-      l2,
-      l3,
-      chunk-most 0x49466864 (identity image),
-      chunk-most 0x434D656D memory,
-      chunk-most 0x53746B73 s.stack,
+      length-append {A = ℕ},
+      chunk-most,
       heap-most s.heap_start s.heap is.saved.saved.heap.heap,
       length-take 128 image,
       coding,

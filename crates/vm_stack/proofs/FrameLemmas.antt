@@ -24,13 +24,10 @@ pub length_before : (fr : Frame) (below : List Frame)
     → IsFrame fr
     → length (before fr below) ≡ length (bytes_of_frames below) + frame_len_of fr.format
 length_before fr below h =
-    let a = length-append (bytes_of_frames below ++ frame_head fr.format ++ fr.padding) fr.locals in
-    let b = length-append (bytes_of_frames below ++ frame_head fr.format) fr.padding in
-    let d = length-append (bytes_of_frames below) (frame_head fr.format) in
     let z = h.padding in
     let l = h.locals in
     let u = aligned_up (8 + length fr.format) in
-    omega (arith, a, b, d, z, l, u)
+    omega (arith, length-append {A = ℕ}, z, l, u)
 
 pub first_word : (low a rest : List ℕ) (x : ℕ)
     → a ≡ big_bytes 4 x → x < 4294967296

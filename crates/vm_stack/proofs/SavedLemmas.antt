@@ -34,7 +34,6 @@ width_is x e =
 pub record Found (n : ℕ) (xs : List ℕ) (r : ℕ) : Type 0 where
   pub size : ℕ
   pub is : r ≡ n + size
-  pub inside : size ≤ length xs
   pub format : IsFormat (take size xs)
 
 found_pair : (n x y : ℕ) (rest : List ℕ) (a b w : Bool)
@@ -44,7 +43,6 @@ found_pair : (n x y : ℕ) (rest : List ℕ) (a b w : Bool)
 found_pair n x y rest true true w ex ey ew next h = record {
   size = 2;
   is = rw (ex, ey) refl;
-  inside = omega arith;
   format = inl (eqb-true x 0 ex, eqb-true y 0 ey, refl);
 }
 found_pair n x y rest true false w ex ey ew next h = absurd (h (rw (ex, ey) refl))
@@ -53,11 +51,9 @@ found_pair n x y rest false b true ex ey ew next h =
     let e : format_from n (x ∷ y ∷ rest) ≡ format_from (n + 2) rest = rw (ex, ew) refl in
     let f = next (λ z. h (e ∙ z)) in
     let is = f.is in
-    let inside = f.inside in
     record {
       size = suc (suc f.size);
       is = e ∙ (is ∙ omega arith);
-      inside = omega (arith, inside);
       format = inr (width_is x ew, f.format);
     }
 
@@ -136,17 +132,13 @@ framed room b f is long fours small h =
         padding = length-take-le p (drop m b) (omega (arith, dm, long, size));
         locals = length-take-le n (drop (m + p) b) (omega (arith, dp, long, size));
         values =
-            dn ∙ (ap (λ (k : ℕ). length b - k) (sym size)
-            ∙ four_times (length b) (frame_len_of f) fours ff (omega (arith, long)));
+            rw (dn, ← size) (four_times (length b) (frame_len_of f) fours ff (omega (arith, long)));
         fits = omega (arith, long, small);
       };
       least = omega (arith, dn, long, size);
       bytes =
           sym (take-append-drop (m + p + n) b)
-          ∙ ap (λ (ys : List ℕ). ys ++ drop (m + p + n) b)
-          (take-add (m + p) n b
-          ∙ ap (λ (ys : List ℕ). ys ++ take n (drop (m + p) b))
-          (take-add m p b ∙ ap (λ (ys : List ℕ). ys ++ take p (drop m b)) h));
+          ∙ rw (take-add (m + p) n b, take-add m p b, h) refl;
     }
 
 after_head : (h z l v : List ℕ) → h ++ z ++ l ++ v ≡ h ++ (z ++ (l ++ v))
@@ -157,7 +149,6 @@ pub record Parts (room : ℕ) (b f : List ℕ) : Type 0 where
   pub format : IsFormat f
   pub size : format_from 0 (drop 8 b) ≡ length f
   pub taken : take (length f) (drop 8 b) ≡ f
-  pub inside : 8 + length f ≤ length b
   pub long : frame_len_of f + room ≤ length b
   pub fours : length b % 4 ≡ 0
   pub head : take (8 + length f) b ≡ frame_head f
@@ -171,7 +162,6 @@ parts room b h =
     let v = h.is.values in
     let four = h.least in
     let e = ap length h.bytes in
-    let u = head_then_padding fr.format in
     let ff = length_fours fr.format in
     let tail = fr.padding ++ (fr.locals ++ fr.values) in
     let whole : b ≡ frame_head fr.format ++ tail =
@@ -184,7 +174,6 @@ parts room b h =
           ∙ (only 0 fr.format tail h.is.format ∙ omega arith);
       taken =
           ap (λ (ys : List ℕ). take (length fr.format) ys) rest ∙ take-append_seam fr.format tail;
-      inside = omega (arith, a, n, e, u);
       long = omega (arith, a, n, e, four);
       fours = omega (arith, a, n, e, v, ff);
       head =
@@ -254,8 +243,7 @@ frame_read room b f n r e is all h =
     let p = parts room b h in
     let same : f ≡ h.frame.format =
     is ∙ (ap (λ (m : ℕ). take m (drop 8 b)) (e ∙ p.size) ∙ p.taken) in
-    all (subst (λ (g : List ℕ). frame_len_of g + room ≤ length b) (sym same) p.long) p.fours
-    (subst (λ (g : List ℕ). take (8 + length g) b ≡ frame_head g) (sym same) p.head)
+    all (rw same p.long) p.fours (rw same p.head)
 
 pub take_within : (b : List ℕ) (at end : ℕ)
     → at ≤ end → end ≤ length b
