@@ -2,7 +2,8 @@
 use Rattle.std.proofs.Common.{◌≡◌, ℕ, ◌+◌, ◌-◌, ◌*◌, ◌≤◌, ◌<◌, List, [], ◌∷◌}
 use Rattle.std.proofs.Common.{◌++◌, length, take, drop, refl, arith, sym, ap, ◌∙◌, append_assoc}
 use Rattle.std.proofs.Common.{length-append, length-drop, replicate, subst, inl, inr}
-use Rattle.std.proofs.lemmas.List.{length-replicate, length-take-le, append-nil, nil_from_length}
+use Rattle.std.proofs.lemmas.List.{length-replicate, length-take, length-take-le, append-nil}
+use Rattle.std.proofs.lemmas.List.{nil_from_length}
 use Rattle.std.proofs.lemmas.Bool.{cases_lt}
 use Rattle.std.proofs.Math.Seq.{take-append-add, drop-append-add, take-append_seam}
 use Rattle.byteorder.specs.Endian.{big_bytes}
@@ -30,26 +31,23 @@ pub appended_keeps : (s : StackState) (new : List ℕ) (n : ℕ)
     → Chain (record s { bytes = s.bytes ++ new })
 appended_keeps s new n e c has =
     let t = top s c has in
-    let l = length-append t.values new in
     let v = t.size in
     moved s (s.bytes ++ new) (t.before ++ (t.values ++ new))
     (ap (λ (b : List ℕ). b ++ new) t.bytes ∙ append_assoc t.before t.values new)
-    (t.again (t.values ++ new) (t.count + n) (omega (arith, l, e, v)))
+    (t.again (t.values ++ new) (t.count + n) (omega (arith, length-append t.values new, e, v)))
 
 shorter : (b v : List ℕ) (n : ℕ)
     → n ≤ length v
     → take (length (b ++ v) - n) (b ++ v) ≡ b ++ take (length v - n) v
 shorter b v n h =
-    let l : length (b ++ v) - n ≡ length b + (length v - n) = let a = length-append b v in
-    omega (arith, a, h) in
+    let l : length (b ++ v) - n ≡ length b + (length v - n) = omega (arith, length-append b v, h) in
     rw l (take-append-add b v (length v - n))
 
 above : (b v : List ℕ) (n : ℕ)
     → n ≤ length v
     → drop (length (b ++ v) - n) (b ++ v) ≡ drop (length v - n) v
 above b v n h =
-    let l : length (b ++ v) - n ≡ length b + (length v - n) = let a = length-append b v in
-    omega (arith, a, h) in
+    let l : length (b ++ v) - n ≡ length b + (length v - n) = omega (arith, length-append b v, h) in
     rw l (drop-append-add b v (length v - n))
 
 pub without_keeps : (s : StackState) (n : ℕ)
@@ -78,25 +76,17 @@ without_there s n le c has =
     let head = t.head in
     let ends = t.ends in
     let l = ap length t.bytes in
-    let a = length-append t.before t.values in
     let short = length-take-le (length s.bytes - n) s.bytes (omega arith) in
-    omega (arith, le, held, head, ends, l, a, short)
+    omega (arith, le, held, head, ends, l, length-append {A = ℕ}, short)
 
 length_rotated : (xs : List ℕ) (k : ℕ) → length (rotated xs k) ≡ length xs
-length_rotated xs k =
-    let a = length-append (drop (length xs - k) xs) (take (length xs - k) xs) in
-    let d = length-drop (length xs - k) xs in
-    let t = length-take-le (length xs - k) xs (omega arith) in
-    omega (arith, a, d, t)
+length_rotated xs k = omega (arith, length-append {A = ℕ}, length-drop {A = ℕ}, length-take {A = ℕ})
 
 pub length_rolled : (xs : List ℕ) (n k : ℕ)
     → length (take (length xs - n) xs ++ rotated (drop (length xs - n) xs) k) ≡ length xs
 length_rolled xs n k =
-    let a = length-append (take (length xs - n) xs) (rotated (drop (length xs - n) xs) k) in
-    let short = length-take-le (length xs - n) xs (omega arith) in
     let turned = length_rotated (drop (length xs - n) xs) k in
-    let d = length-drop (length xs - n) xs in
-    omega (arith, a, short, turned, d)
+    omega (arith, length-append {A = ℕ}, length-drop {A = ℕ}, length-take {A = ℕ}, turned)
 
 rolled_keeps : (s : StackState) (n k : ℕ) → 4 * n ≤ value_bytes s → Chain s → HasFrame s
     → Chain (record s {
@@ -111,17 +101,14 @@ rolled_keeps s n k le c has =
     let fits : 4 * n ≤ length t.values = omega (arith, le, held) in
     let low = take (length t.values - 4 * n) t.values in
     let high = rotated (drop (length t.values - 4 * n) t.values) k in
-    let short = length-take-le (length t.values - 4 * n) t.values (omega arith) in
-    let turned = length_rotated (drop (length t.values - 4 * n) t.values) k in
-    let d = length-drop (length t.values - 4 * n) t.values in
-    let a = length-append low high in
+    let size = length_rolled t.values (4 * n) k in
     let e : take (length s.bytes - 4 * n) s.bytes
     ++ rotated (drop (length s.bytes - 4 * n) s.bytes) k
     ≡ t.before ++ (low ++ high) =
     ap (λ (b : List ℕ). take (length b - 4 * n) b ++ rotated (drop (length b - 4 * n) b) k) t.bytes
     ∙ (rw (shorter t.before t.values (4 * n) fits, above t.before t.values (4 * n) fits)
     (append_assoc t.before low high)) in
-    moved s _ _ e (t.again (low ++ high) t.count (omega (arith, short, turned, d, a, v, fits)))
+    moved s _ _ e (t.again (low ++ high) t.count (size ∙ v))
 
 -- the last number of a chain is that of its current frame's values
 last_number : (fr : Frame) (below : List Frame)
@@ -129,9 +116,8 @@ last_number : (fr : Frame) (below : List Frame)
     → number 4 (bytes_of_frames (fr ∷ below)) (length (bytes_of_frames (fr ∷ below)) - 4)
     ≡ number 4 fr.values (length fr.values - 4)
 last_number fr below four =
-    let l = length-append (before fr below) fr.values in
     number_behind (before fr below) fr.values 4 (length (bytes_of_frames (fr ∷ below)) - 4)
-    (length fr.values - 4) (omega (arith, l, four))
+    (length fr.values - 4) (omega (arith, length-append (before fr below) fr.values, four))
 
 -- the frames below a chain's end name themselves
 pub named_below : (below : List Frame)
@@ -238,9 +224,8 @@ ready_in s (fr ∷ below) c bytes frame (inl none) =
     absurd (
     let l = ap length bytes in
     let n = ap length none in
-    let a = length-append (before fr below) fr.values in
     let b = length_before fr below c.0 in
-    omega (arith, l, n, a, b))
+    omega (arith, l, n, length-append {A = ℕ}, b))
 ready_in s (fr ∷ below) c bytes frame (inr ready) =
     let held = held_in s fr below c.0 bytes frame in
     let many = ready.0 in
@@ -293,12 +278,11 @@ stub_readies s new x c has n e small =
     let w = length-bytes_high_first 4 x in
     let a = length-append new (big_bytes 4 x) in
     let l = ap length t.bytes in
-    let p = length-append t.before t.values in
     let all = length-append s.bytes (new ++ big_bytes 4 x) in
     let len =
-    number_within s.bytes (new ++ big_bytes 4 x) s.frame (omega (arith, head, ends, l, p)) in
+    number_within s.bytes (new ++ big_bytes 4 x) s.frame (omega (arith, head, ends, l, length-append {A = ℕ})) in
     inr (
-      omega (arith, len, ends, l, p, a, w, all, n),
+      omega (arith, len, ends, l, length-append {A = ℕ}, a, w, all, n),
       number_behind s.bytes (new ++ big_bytes 4 x) 4
           (length (s.bytes ++ (new ++ big_bytes 4 x)) - 4) 12 (omega (arith, all, a, w, n))
           ∙ (number_behind new (big_bytes 4 x) 4 12 0 (omega (arith, n))
@@ -347,10 +331,9 @@ pub cut_keeps : (s : StackState) (token n : ℕ)
 cut_keeps s token n low high four names c =
     let t = top s c (omega (arith, low, high)) in
     let l = ap length t.bytes in
-    let a = length-append t.before t.values in
     let fours = t.aligns in
     let m = t.ends in
-    let size = length-take-le (token - length t.before) t.values (omega (arith, l, a, high)) in
+    let size = length-take-le (token - length t.before) t.values (omega (arith, l, length-append {A = ℕ}, high)) in
     let short : take token s.bytes ≡ t.before ++ take (token - length t.before) t.values =
     ap (λ (b : List ℕ). take token b) t.bytes
     ∙ (ap (λ (k : ℕ). take k (t.before ++ t.values))

@@ -92,8 +92,7 @@ held_in s fr below h bytes frame =
     let len = frame_len_is s fr below h bytes frame in
     let b = length_before fr below h in
     let l = ap length bytes in
-    let a = length-append (before fr below) fr.values in
-    omega (arith, len, b, l, a, frame)
+    omega (arith, len, b, l, length-append {A = ℕ}, frame)
 
 -- lengths are multiples of four
 fours_of : List ℕ → ℕ
@@ -112,9 +111,8 @@ fours_below (fr ∷ below) c =
     let low = rest.1 in
     let b = length_before fr below c.0 in
     let f = fours_of_is fr.format in
-    let a = length-append (before fr below) fr.values in
     let v = c.0.values in
-    (rest.0 + fours_of fr.format + fr.count, omega (arith, low, b, f, a, v))
+    (rest.0 + fours_of fr.format + fr.count, omega (arith, length-append {A = ℕ}, low, b, f, v))
 
 inside_in : (s : StackState) (frames : List Frame)
     → IsChain frames → s.bytes ≡ bytes_of_frames frames
@@ -122,9 +120,8 @@ inside_in : (s : StackState) (frames : List Frame)
 inside_in s [] c bytes frame = omega (arith, frame)
 inside_in s (fr ∷ below) c bytes frame =
     let l = ap length bytes in
-    let a = length-append (before fr below) fr.values in
     let b = length_before fr below c.0 in
-    omega (arith, l, a, b, frame)
+    omega (arith, l, length-append {A = ℕ}, b, frame)
 
 pub frame_inside : (s : StackState) → Chain s → s.frame ≤ length s.bytes
 frame_inside s c = inside_in s c.frames c.linked c.bytes c.frame

@@ -8,7 +8,7 @@ use Rattle.vm_stack.specs.StackState.{StackState, number}
 use Rattle.vm_stack.specs.Frame.{frame_head}
 use Rattle.vm_stack.specs.Chain.{Frame, IsBelow, IsChain, Chain, HasFrame, bytes_of_frames, start}
 use Rattle.vm_stack.specs.Saved.{LinkedFrames, SavedStack, OneFrame}
-use Rattle.vm_stack.proofs.FrameLemmas.{aligned_up, before, length_before}
+use Rattle.vm_stack.proofs.FrameLemmas.{aligned_up, length_before}
 use Rattle.vm_stack.proofs.ChainLemmas.{named_below, ends_named}
 
 under : (low h z l v : List ℕ) → low ++ h ++ z ++ l ++ v ≡ low ++ (h ++ z ++ l ++ v)
@@ -43,11 +43,10 @@ parted room xs at fr below least linked bytes place =
     let split : xs ≡ bytes_of_frames below ++ over =
     bytes ∙ under (bytes_of_frames below) (frame_head fr.format) fr.padding fr.locals fr.values in
     let l = ap length bytes in
-    let a = length-append (before fr below) fr.values in
     let b = length_before fr below linked.0 in
     let u = aligned_up (8 + length fr.format) in
     record {
-      inside = omega (arith, place, l, a, b, u);
+      inside = omega (arith, place, l, length-append {A = ℕ}, b, u);
       frame = record {
         frame = fr;
         is = linked.0;

@@ -2,7 +2,7 @@
 use Rattle.std.proofs.Common.{◌≡◌, ℕ, false, ◌+◌, ◌-◌, ◌≤◌, ◌<◌, List, [], ◌∷◌}
 use Rattle.std.proofs.Common.{◌++◌, length, take, drop, refl, arith, ap, ◌∙◌, append_assoc}
 use Rattle.std.proofs.Common.{length-append, length-drop, true, nat_le, inl, inr}
-use Rattle.std.proofs.lemmas.List.{length-take-le, drop-append-le, take-append-le}
+use Rattle.std.proofs.lemmas.List.{length-take, drop-append-le, take-append-le}
 use Rattle.std.proofs.lemmas.Bool.{cases_Bool, leb-true}
 use Rattle.std.proofs.lemmas.Bool.Decides.{nat_tests}
 use Rattle.std.proofs.Math.Seq.{take-append-add, drop-append-add}
@@ -19,15 +19,13 @@ put_in : (p l v new : List ℕ) (o : ℕ) → o + length new ≤ length l
     → replaced_within (p ++ l ++ v) (length p + o) new
     ≡ p ++ (take o l ++ new ++ drop (o + length new) l) ++ v
 put_in p l v new o h =
-    let a = length-append (p ++ l) v in
-    let b = length-append p l in
     let fits : nat_le (length p + o + length new) (length (p ++ l ++ v)) ≡ true =
-    le_true _ _ (omega (arith, a, b, h)) in
+    le_true _ _ (omega (arith, length-append {A = ℕ}, h)) in
     let first : take (length p + o) (p ++ l ++ v) ≡ p ++ take o l =
-    take-append-le (length p + o) (p ++ l) v (omega (arith, b, h)) ∙ take-append-add p l o in
+    take-append-le (length p + o) (p ++ l) v (omega (arith, length-append p l, h)) ∙ take-append-add p l o in
     let last : drop (length p + o + length new) (p ++ l ++ v) ≡ drop (o + length new) l ++ v =
     ap (λ (n : ℕ). drop n (p ++ l ++ v)) (omega arith)
-    ∙ (drop-append-le (length p + (o + length new)) (p ++ l) v (omega (arith, b, h))
+    ∙ (drop-append-le (length p + (o + length new)) (p ++ l) v (omega (arith, length-append p l, h))
     ∙ ap (λ (xs : List ℕ). xs ++ v) (drop-append-add p l (o + length new))) in
     rw (fits, first, last) (simp append_assoc refl)
 
@@ -35,11 +33,7 @@ length_put : (l new : List ℕ) (o : ℕ)
     → o + length new ≤ length l
     → length (take o l ++ new ++ drop (o + length new) l) ≡ length l
 length_put l new o h =
-    let a = length-append (take o l ++ new) (drop (o + length new) l) in
-    let b = length-append (take o l) new in
-    let t = length-take-le o l (omega (arith, h)) in
-    let d = length-drop (o + length new) l in
-    omega (arith, a, b, t, d, h)
+    omega (arith, length-append {A = ℕ}, length-take {A = ℕ}, length-drop {A = ℕ}, h)
 
 pub length_replaced : (bytes : List ℕ) (at : ℕ) (new : List ℕ)
     → length (replaced_within bytes at new) ≡ length bytes
