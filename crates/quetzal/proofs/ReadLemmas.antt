@@ -91,27 +91,10 @@ length-loaded image ram lo hi end =
     let size = ramstart image + length ram in
     let all = original (rom image) (endmem image) in
     let one : length all ≡ endmem image =
-    omega (
-      arith,
-      length-append (rom image) (replicate (endmem image - length (rom image)) 0),
-      length-replicate {A = ℕ} (endmem image - length (rom image)) 0,
-      hi,
-    ) in
+    omega (arith, length-append {A = ℕ}, length-replicate {A = ℕ}, hi) in
     let two : length (take size all ++ replicate (size - length all) 0) ≡ size =
-    omega (
-      arith,
-      length-append (take size all) (replicate (size - length all) 0),
-      length-take size all,
-      length-replicate {A = ℕ} (size - length all) 0,
-      one,
-      end,
-    ) in
-    omega (
-      arith,
-      length-append (take (ramstart image) (take size all ++ replicate (size - length all) 0)) ram,
-      length-take (ramstart image) (take size all ++ replicate (size - length all) 0),
-      two,
-    )
+    omega (arith, length-append {A = ℕ}, length-take {A = ℕ}, length-replicate {A = ℕ}, one, end) in
+    omega (arith, length-append {A = ℕ}, length-take {A = ℕ}, two)
 
 over_of : (end size start : ℕ) (bs : List Block)
     → end % 256 ≡ 0 → heap_fits end size start bs ≡ true

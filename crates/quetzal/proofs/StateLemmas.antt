@@ -172,10 +172,9 @@ stack_no : (image bytes : List ℕ)
     → IsLaidOut image → is_stack_of image bytes ≡ false
     → IsStackOf image bytes → ⊥
 stack_no image bytes laid e s =
-    let size : nat_le (length bytes) (stack_size image) ≡ true =
-    (let h = s.size in grind (arith, nat_tests, h)) in
     let most = laid.stack_limit in
     let within = s.size in
+    let size : nat_le (length bytes) (stack_size image) ≡ true = grind (arith, nat_tests, within) in
     let test : is_saved_stack bytes ≡ true =
     (saved_decided bytes (omega (arith, within, most))).1 s.frames in
     let both : is_stack_of image bytes ≡ true = rw (size, test) refl in

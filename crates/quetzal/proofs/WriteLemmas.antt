@@ -24,7 +24,7 @@ use Rattle.quetzal.specs.Chunks.{Pieces, parts_of}
 use Rattle.quetzal.specs.Heap.{IsHeapIn, block_bytes, blocks_in}
 use Rattle.quetzal.specs.Heap.{heap_fits, is_without, heap_listed, print_heap}
 use Rattle.quetzal.specs.Memory.{is_size, first_ram as original_ram, print_memory}
-use Rattle.quetzal.specs.Printing.{padding, chunk, heap_chunk, chunks_of}
+use Rattle.quetzal.specs.Printing.{chunk, heap_chunk, chunks_of}
 use Rattle.quetzal.specs.Save.{rom, memory_loaded, identity, ram_in, origin}
 use Rattle.quetzal.specs.Save.{canon, IsStateIn, IsStateOf}
 use Rattle.quetzal.specs.Save.{ReadsSave, ReadsStack, ReadsMemory}
@@ -84,10 +84,6 @@ length-block_bytes : (bs : List Block) → length (block_bytes bs) ≡ 8 * lengt
 length-block_bytes [] = refl
 length-block_bytes (b ∷ bs) = let rest = length-block_bytes bs in omega (arith, rest)
 
-same_block : (at len : ℕ) (b : Block) (xs ys : List Block) → at ≡ b.at → len ≡ b.length → xs ≡ ys
-    → record { at = at; length = len } ∷ xs ≡ b ∷ ys
-same_block at len b xs ys e f g = rw (e, f, g) refl
-
 blocks_again : (from : ℕ) (bs : List Block) → IsTrue (in_order from bs)
     → blocks_in (length bs) (block_bytes bs) ≡ bs
 unfolding blocks_in
@@ -102,8 +98,7 @@ blocks_again from (b ∷ bs) h =
     word_again b.length (block_bytes bs) (omega (arith, limit)) in
     let rest : blocks_in (length bs) (block_bytes bs) ≡ bs = blocks_again (block_end b) bs x.rest in
     ap (λ (k : ℕ). blocks_in k (block_bytes (b ∷ bs))) one
-    ∙ same_block (word (block_bytes (b ∷ bs)) 0)
-    (word (block_bytes (b ∷ bs)) 4) b _ bs first second rest
+    ∙ rw (first, second, rest) refl
 
 pub listed_again : (start : ℕ) (bs : List Block) → start < 2 ^ 32 → IsTrue (is_heap start bs)
     → heap_listed (print_heap start bs) ≡ Some (start, bs)
@@ -187,11 +182,7 @@ length-padding n false = omega arith
 chunk-most : (name : ℕ) (contents : List ℕ) → length (chunk name contents) ≤ 9 + length contents
 unfolding chunk
 chunk-most name contents =
-    omega (
-      arith,
-      length-append contents (padding (length contents)),
-      length-padding (length contents) (length contents % 2 == 1),
-    )
+    omega (arith, length-append {A = ℕ}, length-padding (length contents) (length contents % 2 == 1))
 
 heap-most : (start : ℕ) (bs : List Block) → IsTrue (is_heap start bs)
     → length (heap_chunk (print_heap start bs)) ≤ 134217800

@@ -92,9 +92,8 @@ byte_none rom ramstart i = elim (cases_lt i ramstart) [
 pub laid_original : (rom : List ℕ) (ramstart size : ℕ) → length rom ≤ size
     → laid rom ramstart [] size ≡ original rom size
 laid_original rom ramstart size within =
-    let m = length-append rom (replicate (size - length rom) 0) in
-    let z = length-replicate {A = ℕ} (size - length rom) 0 in
-    laid_is rom ramstart [] size _ (omega (arith, m, z)) (λ k l.
+    laid_is rom ramstart [] size (original rom size)
+    (omega (arith, length-append {A = ℕ}, length-replicate {A = ℕ})) (λ k l.
     byte_none rom ramstart k
     ∙ elim (cases_lt k (length rom)) [
       | inl low ↦ sym (get_or_append_left rom (replicate (size - length rom) 0) 0 k low)
@@ -149,9 +148,8 @@ pub slice_laid : (rom : List ℕ) (ramstart : ℕ) (rows : Rows) (size at n : �
     → bytes ≡ take n (drop at (laid rom ramstart rows size))
 slice_laid rom ramstart rows size at n bytes fits m same =
     let z = length_laid rom ramstart rows size in
-    let t = length-take n (drop at (laid rom ramstart rows size)) in
-    let u = length-drop at (laid rom ramstart rows size) in
-    same_lists _ _ (omega (arith, m, z, t, u)) (λ k d l.
+    same_lists bytes (take n (drop at (laid rom ramstart rows size)))
+    (omega (arith, m, z, length-take {A = ℕ}, length-drop {A = ℕ})) (λ k d l.
     get_or_default bytes k d 0 l ∙ same k (omega (arith, m))
     ∙ sym (get_or-take n (drop at (laid rom ramstart rows size)) k d (omega (arith, m))
     ∙ get_or-drop at (laid rom ramstart rows size) k d
@@ -161,8 +159,8 @@ pub slice_rom : (rom : List ℕ) (ramstart : ℕ) (rows : Rows) (size at n : ℕ
     → at + n ≤ ramstart → ramstart ≤ length rom
     → take n (drop at rom) ≡ take n (drop at (laid rom ramstart rows size))
 slice_rom rom ramstart rows size at n fits low within =
-    slice_laid rom ramstart rows size at n (take n (drop at rom)) fits (omega
-    (arith, length-take n (drop at rom), length-drop at rom))
+    slice_laid rom ramstart rows size at n (take n (drop at rom)) fits
+    (omega (arith, length-take {A = ℕ}, length-drop {A = ℕ}))
     (λ i l. get_or-take n (drop at rom) i 0 l ∙ get_or-drop at rom i 0
     ∙ sym (byte_below rom ramstart rows (at + i) (omega arith)))
 
