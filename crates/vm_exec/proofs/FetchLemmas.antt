@@ -2,7 +2,6 @@
 use Rattle.std.proofs.Common.{IsErrAnd, ◌≡◌, ◌≢◌, refl, sym, ◌∙◌, ap, ℕ, ◌+◌, ◌/◌, List, [], ◌∷◌}
 use Rattle.std.proofs.Common.{◌++◌, ◌-◌, Result, Ok, Err, Some, replicate, subst, slice_set, length}
 use Rattle.std.proofs.Math.Seq.{take-append_seam}
-use Rattle.std.specs.Prelude.{IfOk}
 use Rattle.vm_memory.specs.Chaining.{◌>>=◌}
 use Rattle.vm_memory.specs.MemoryMap.{MemoryMap}
 use Rattle.vm_memory.specs.declared.fault.Trap.{Trap}

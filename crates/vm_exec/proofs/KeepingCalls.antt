@@ -1,8 +1,7 @@
 -- Each call of a machine keeps what memory has of its image, and leaves a machine of the story one.
 use Rattle.std.proofs.Common.{◌≡◌, ◌∙◌, arith, ℕ, Bool, true, false, List, []}
 use Rattle.std.proofs.Common.{length, refl, sym, subst, ap, Result, Ok, Err}
-use Rattle.std.specs.Prelude.{All, IfOk, OnOk}
-use Rattle.std.proofs.lemmas.List.Elements.{All-weaker}
+use Rattle.std.specs.Prelude.{IfOk, IsTrue, OnOk}
 use Rattle.vm_memory.specs.MemoryMap.{MemoryMap, origin_of}
 use Rattle.vm_memory.specs.declared.fault.Trap.{Trap}
 use Rattle.vm_stack.specs.StackState.{StackState}
@@ -21,7 +20,7 @@ use Rattle.vm_exec.specs.declared.step.Step.{Step}
 use Rattle.vm_exec.specs.declared.step.Waiting as w
 use Rattle.vm_exec.specs.declared.text.Text as t
 use Rattle.vm_exec.proofs.KeepingLemmas.{Base, Fixed, Has, HasFirst, Over, OverFirst}
-use Rattle.vm_exec.proofs.KeepingLemmas.{SavedOver, fixed_of, has-called, ok-flowed}
+use Rattle.vm_exec.proofs.KeepingLemmas.{fixed_of, has-called, ok-flowed}
 use Rattle.vm_exec.proofs.KeepingRows.{over-told}
 use Rattle.vm_exec.proofs.KeepingStates.{over-came_back, over-finished, over-with_state}
 
@@ -62,35 +61,27 @@ ok-on : {A E : Type 0} (P Q : Type 0) (r : Result A E) → OnOk r P → (P → Q
 ok-on P Q (Ok x) h f = f h
 ok-on P Q (Err e) h f = tt
 
-images : (b : Bool) (m : Machine) (states : List Saved)
-    → All (IsSavedOf (origin_of m.memory)) states
-    → All (SavedOver (origin_of m.memory)) states
-images b m states h =
-    All-weaker (IsSavedOf (origin_of m.memory)) (SavedOver (origin_of m.memory))
-    (λ s k. sym k.image) states h
-
 abbrev Mapped : Machine → Type 0
 Mapped m = IsMapped (origin_of m.memory) (length m.memory.bytes) m.heap m.undo
 
-free : (m : Machine) → Mapped m → Over (base_of false m) m
-free m map = record {
+-- a machine keeps what it has itself, within its limits where it is known to be
+begins : (b : Bool) (m : Machine)
+    → Mapped m → (IsTrue b → IsWithin m.stack.limit m.mode m.undo) → Over (base_of b m) m
+begins b m map within = record {
   memory = refl;
   limit = refl;
-  undo = images false m m.undo map.undo;
+  undo = λ k s l. sym (map.undo k s l).image;
   fixed = refl;
-  within = λ t. absurd cc;
+  within = within;
 }
 
-bound : (image : List ℕ) (m : Machine)
-    → Mapped m → IsOver image m
-    → Over (base_of true m) m
-bound image m map over = record {
-  memory = refl;
-  limit = refl;
-  undo = images true m m.undo map.undo;
-  fixed = refl;
-  within = λ t. subst (λ (n : ℕ). IsWithin n m.mode m.undo) (sym over.limit) over.within;
-}
+free : (m : Machine) → Mapped m → Over (base_of false m) m
+free m map = begins false m map (λ t. absurd cc)
+
+bound : (image : List ℕ) (m : Machine) → Mapped m → IsOver image m → Over (base_of true m) m
+bound image m map over =
+    begins true m map
+    (λ t. subst (λ (n : ℕ). IsWithin n m.mode m.undo) (sym over.limit) over.within)
 
 stepped : (b : Bool) (left : ℕ) (m new : Machine) (x : t.Text) (r : Result Step Trap)
     → Does (row.step_within left (row.charged (row.due m x))) new r
@@ -132,7 +123,7 @@ done b m new w value r e over =
 
 pub finish_keeps : (m new : Machine) (w : w.Waiting) (value : ℕ) (r : Result (Unit {0}) Trap)
     → Changes (finished_at m w value) new r
-    → IsMapped (origin_of m.memory) (length m.memory.bytes) m.heap m.undo
+    → Mapped m
     → OnOk r (KeepsImage m new)
 finish_keeps m new w value r e map =
     ok-on _ _ r (done false m new w value r e (free m map)) (keeps false m new)
@@ -140,7 +131,7 @@ finish_keeps m new w value r e map =
 pub finish_over : (image : List ℕ) (m new : Machine) (w : w.Waiting) (value : ℕ)
     (r : Result (Unit {0}) Trap)
     → Changes (finished_at m w value) new r
-    → IsMapped (origin_of m.memory) (length m.memory.bytes) m.heap m.undo
+    → Mapped m
     → IsOver image m → OnOk r (IsOver image new)
 finish_over image m new w value r e map over =
     ok-on _ _ r (done true m new w value r e (bound image m map over)) (lies image m new over)

@@ -132,7 +132,7 @@ pub ok-flowed : {A : Type 0} {P : A → Type 0} {r : Result A FlowStop}
 ok-flowed {r = Ok x} h = ok-done h.holds
 ok-flowed {r = Err e} h = ok-fault
 
-pub ok-from_stack : {A : Type 0} {P : A → Type 0} {r : Result A StackFault}
+ok-from_stack : {A : Type 0} {P : A → Type 0} {r : Result A StackFault}
     → Gives r P → Gives (from_stack r) P
 ok-from_stack {r = Ok x} h = ok-done h.holds
 ok-from_stack {r = Err e} h = ok-fault
@@ -204,19 +204,19 @@ pub has-local_set : {n : ℕ} (s : StackState) (offset w x : ℕ)
 has-local_set s offset w x h =
     ok-if (nat_le (offset + w) (frame_len s - locals_pos s)) (ok-done h) ok-fault
 
-pub has-cut_to : {n : ℕ} (s : StackState) (to : ℕ) → Has n s → Gives (cut_to s to) (Has n)
+has-cut_to : {n : ℕ} (s : StackState) (to : ℕ) → Has n s → Gives (cut_to s to) (Has n)
 has-cut_to s to h =
     ok-if (nat_le to (length s.bytes)) (ok-if (to % 4 == 0) (ok-done h) ok-fault) ok-fault
 
 -- ---- calls, returns and throws
 
-pub has-pair_set : {n : ℕ} (xs : List ℕ) (s : StackState) (at size : ℕ)
+has-pair_set : {n : ℕ} (xs : List ℕ) (s : StackState) (at size : ℕ)
     → Has n s → Gives (pair_set s at size xs) (Has n)
 has-pair_set [] s at size h = ok-done h
 has-pair_set (x ∷ xs) s at size h =
     ok-bind (ok-from_stack (has-local_set s at size x h)) (λ t. has-pair_set xs t (at + size) size)
 
-pub has-locals_set : {n : ℕ} (format : List ℕ) (s : StackState) (at : ℕ) (args : List ℕ)
+has-locals_set : {n : ℕ} (format : List ℕ) (s : StackState) (at : ℕ) (args : List ℕ)
     → Has n s → Gives (locals_set s at format args) (Has n)
 has-locals_set [] s at args h = ok-done h
 has-locals_set (size ∷ []) s at args h = ok-done h
@@ -225,12 +225,12 @@ has-locals_set (size ∷ count ∷ rest) s at args h =
     (ok-bind (has-pair_set (take count args) s (aligned size at) size h)
     (λ t. has-locals_set rest t (aligned size at + size * count) (drop count args)))
 
-pub has-all_pushed : {n : ℕ} (xs : List ℕ) (s : StackState) → Has n s → Gives (all_pushed s xs) (Has n)
+has-all_pushed : {n : ℕ} (xs : List ℕ) (s : StackState) → Has n s → Gives (all_pushed s xs) (Has n)
 has-all_pushed [] s h = ok-done h
 has-all_pushed (x ∷ xs) s h =
     ok-bind (has-all_pushed xs s h) (λ t k. ok-from_stack (has-pushed t x k))
 
-pub has-given : {n : ℕ} (kind : ℕ) (s : StackState) (format args : List ℕ)
+has-given : {n : ℕ} (kind : ℕ) (s : StackState) (format args : List ℕ)
     → Has n s → Gives (arguments_given kind s format args) (Has n)
 has-given kind s format args h =
     ok-if (kind == 193) (has-locals_set format s 0 args h)
@@ -253,7 +253,7 @@ has-given_back s h =
     ok-if (length (frame_left s).bytes == 0) (ok-done h)
     (ok-bind (ok-from_stack (has-stub_taken (frame_left s) h)) (λ x k. ok-done k))
 
-pub has-thrown_in : {n : ℕ} (steps : ℕ) (s : StackState) (token : ℕ)
+has-thrown_in : {n : ℕ} (steps : ℕ) (s : StackState) (token : ℕ)
     → Has n s → Gives (thrown_in steps s token) (HasFirst n)
 has-thrown_in zero s token h = ok-fault
 has-thrown_in (suc steps) s token h =

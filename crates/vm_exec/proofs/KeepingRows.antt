@@ -1,6 +1,6 @@
 -- Every row of the table keeps what memory has of its image, and the greatest size of the stack.
-use Rattle.std.proofs.Common.{◌≡◌, ◌≤◌, ◌∙◌, arith, ℕ, zero, suc, ◌+◌, ◌-◌, ◌*◌, ◌%◌, ◌^◌, ◌==◌}
-use Rattle.std.proofs.Common.{◌||◌, ◌&&◌, nat_le, nat_lt, Bool, true, false, List, [], ◌∷◌, length}
+use Rattle.std.proofs.Common.{◌≡◌, arith, ℕ, zero, suc, ◌+◌, ◌-◌, ◌*◌, ◌%◌, ◌^◌, ◌==◌}
+use Rattle.std.proofs.Common.{◌&&◌, nat_le, nat_lt, Bool, true, false, List, length}
 use Rattle.std.proofs.Common.{take, replicate, refl, sym, subst, Option, Some, None, Result, Ok}
 use Rattle.std.proofs.Common.{Err, cond, slice_index}
 use Rattle.std.proofs.lemmas.Bool.Decides.{nat_tests}

@@ -1,7 +1,7 @@
 -- What opcodes are made of keeps it: loads and stores, calls and returns, and texts.
-use Rattle.std.proofs.Common.{◌≡◌, ◌≤◌, arith, ℕ, zero, suc, ◌+◌, ◌-◌, ◌*◌, ◌%◌, ◌==◌, ◌||◌, ◌&&◌}
-use Rattle.std.proofs.Common.{nat_le, nat_lt, Bool, true, false, List, [], ◌∷◌, ◌++◌, length}
-use Rattle.std.proofs.Common.{Option, Some, None, Result, Ok, cond, slice_set, ◌∙◌, ◌^◌}
+use Rattle.std.proofs.Common.{ℕ, zero, suc, ◌+◌, ◌==◌, ◌||◌}
+use Rattle.std.proofs.Common.{nat_le, nat_lt, Bool, true, false, List, [], ◌∷◌, length}
+use Rattle.std.proofs.Common.{Option, Some, None, Result, Ok, cond, slice_set}
 use Rattle.std.proofs.Common.{slice_index}
 use Rattle.vm_memory.specs.Chaining.{◌>>=◌}
 use Rattle.vm_memory.specs.Access.{read}
@@ -26,8 +26,6 @@ use Rattle.vm_string.specs.Next.{piece_after}
 use Rattle.vm_string.specs.declared.piece.Cursor.{Cursor}
 use Rattle.vm_string.specs.declared.piece.Piece.{Piece}
 use Rattle.vm_string.specs.declared.piece.Piece.TheVariants as piece
-use Rattle.vm_operand.specs.declared.opcode.Flow.TheVariants.{Call}
-use Rattle.vm_exec.specs.declared.random.Random as r
 use Rattle.vm_exec.specs.Rows.Text as texts
 use Rattle.vm_exec.specs.TextStub as stubs
 use Rattle.vm_exec.proofs.KeepingLemmas.{Base, Gives, Has, HasFirst, Over, OverFirst, RuleOver}
@@ -38,7 +36,7 @@ use Rattle.vm_exec.proofs.KeepingLemmas.{ok-flowed, ok-if, ok-stacked, ok-then, 
 
 -- ---- loads and stores
 
-pub over-loaded : {o : Base} (w : ℕ) (m : Machine) (x : l.Load)
+over-loaded : {o : Base} (w : ℕ) (m : Machine) (x : l.Load)
     → Over o m → Gives (rules.operand_loaded w m x) (OverFirst o)
 over-loaded w m (load.Value x) k = ok-done k
 over-loaded w m (load.At a) k = ok-then (coded (read w m.memory a)) (λ x. ok-done k)
@@ -91,7 +89,7 @@ over-enters m at args k =
     ok-bind (ok-flowed (has-called m.memory m.stack at args k.limit))
     (λ x h. ok-done (on_stack k h))
 
-pub over-stub : {o : Base} (m : Machine) (x : Stub) → Over o m
+over-stub : {o : Base} (m : Machine) (x : Stub) → Over o m
     → Gives (stacked (stub_pushed m.stack x) >>= (λ s. Ok (record m { stack = s }))) (Over o)
 over-stub m x k =
     ok-bind (ok-stacked (has-appended m.stack (stub_bytes x) k.limit))
@@ -105,19 +103,19 @@ pub over-calls : {o : Base} (m : Machine) (at : ℕ) (args : List ℕ) (to : d.D
     → Over o m → RuleOver o (rules.calls m at args to)
 over-calls m at args to k = ok-bind (over-with_stub m to k) (λ r. over-enters r at args)
 
-pub over-with_end : {o : Base} (m : Machine) (held : Bool)
+over-with_end : {o : Base} (m : Machine) (held : Bool)
     → Over o m → Gives (stubs.with_end m held) (Over o)
 over-with_end m true k = ok-done k
 over-with_end m false k =
     over-stub m (record { kind = 0x11; at = 0; pc = m.pc; frame = m.stack.frame }) k
 
-pub over-suspended : {o : Base} (m : Machine) (held : Bool) (kind at pc : ℕ)
+over-suspended : {o : Base} (m : Machine) (held : Bool) (kind at pc : ℕ)
     → Over o m → Gives (stubs.suspended m held kind at pc) (Over o)
 over-suspended m held kind at pc k =
     ok-bind (over-with_end m held k)
     (λ r. over-stub r (record { kind = kind; at = at; pc = pc; frame = r.stack.frame }))
 
-pub over-unstubbed : {o : Base} (m : Machine)
+over-unstubbed : {o : Base} (m : Machine)
     → Over o m → Gives (stubs.unstubbed m) (OverFirst o)
 over-unstubbed m k =
     ok-bind (ok-stacked (has-stub_taken m.stack k.limit))
@@ -129,12 +127,12 @@ over-number_over m false k = ok-done k
 over-number_over m true k =
     ok-bind (over-unstubbed m k) (λ x h. ok-if (x.1.kind == 0x11) (ok-done h) ok-fault)
 
-pub over-number_on : {o : Base} (m : Machine) (value place : ℕ) (held : Bool)
+over-number_on : {o : Base} (m : Machine) (value place : ℕ) (held : Bool)
     → Over o m → Gives (stubs.number_on m value place held) (Over o)
 over-number_on m value place held k =
     ok-if (nat_lt place (length (number_text value))) (ok-done k) (over-number_over m held k)
 
-pub over-number_left : {o : Base} (m : Machine) (value place : ℕ) (held : Bool)
+over-number_left : {o : Base} (m : Machine) (value place : ℕ) (held : Bool)
     → Over o m → Over o (stubs.number_left m value place held)
 over-number_left {o} m value place held k =
     picks (held || nat_lt place (length (number_text value)))
@@ -143,7 +141,7 @@ over-number_left {o} m value place held k =
     picks true = k
     picks false = k
 
-pub over-text_on : {o : Base} (m : Machine) (s : Stub)
+over-text_on : {o : Base} (m : Machine) (s : Stub)
     → Over o m → Gives (stubs.text_on m s) (Over o)
 unfolding stubs.text_on
 over-text_on m s k =
@@ -159,7 +157,7 @@ over-resumes m s x k =
     (ok-then (rules.stub_dest s) (λ to. over-puts (record m { pc = s.pc }) to x k))
     (over-goes (over-text_on m s k))
 
-pub over-goes_on : {o : Base} (m : Machine) (s : Option Stub) (x : ℕ)
+over-goes_on : {o : Base} (m : Machine) (s : Option Stub) (x : ℕ)
     → Over o m → RuleOver o (rules.goes_on m s x)
 over-goes_on m None x k = ok-done k
 over-goes_on m (Some s) x k = over-resumes m s x k
@@ -178,7 +176,7 @@ pub over-when : {o : Base} (m : Machine) (b : Bool) (offset : ℕ)
     → Over o m → RuleOver o (rules.when m b offset)
 over-when m b offset k = ok-if b (over-branches m offset k) (ok-done k)
 
-pub has-arguments : {n : ℕ} (count : ℕ) (s : StackState)
+has-arguments : {n : ℕ} (count : ℕ) (s : StackState)
     → Has n s → Gives (rules.arguments s count) (HasFirst n)
 unfolding rules.arguments
 has-arguments zero s h = ok-done h
@@ -200,13 +198,13 @@ over-streams m x k =
 
 -- ---- texts in progress
 
-pub over-calls_from : {o : Base} (m : Machine) (at : ℕ) (args : List ℕ) (c : Cursor) (held : Bool)
+over-calls_from : {o : Base} (m : Machine) (at : ℕ) (args : List ℕ) (c : Cursor) (held : Bool)
     → Over o m → RuleOver o (texts.calls_from m at args c held)
 over-calls_from m at args c held k =
     ok-bind (over-suspended m held (stubs.string_stub c.kind) c.bit c.at k)
     (λ r. over-enters r at args)
 
-pub over-refers : {o : Base} (m : Machine) (at args_at count : ℕ) (c : Cursor) (held : Bool)
+over-refers : {o : Base} (m : Machine) (at args_at count : ℕ) (c : Cursor) (held : Bool)
     → Over o m → RuleOver o (texts.refers_to_object m at args_at count c held)
 over-refers m at args_at count c held k =
     ok-then (memory.coded (read 1 m.memory at))
@@ -217,12 +215,12 @@ over-refers m at args_at count c held k =
     (λ args. over-calls_from m at args c held k))
     ok-fault))
 
-pub over-ends : {o : Base} (m : Machine) (held : Bool)
+over-ends : {o : Base} (m : Machine) (held : Bool)
     → Over o m → RuleOver o (texts.ends_string m held)
 over-ends m false k = ok-done k
 over-ends m true k = ok-bind (over-unstubbed m k) (λ x h. over-goes (over-text_on x.0 x.1 h))
 
-pub over-pieced : {o : Base} (m : Machine) (held : Bool) (p : Piece) (c : Cursor)
+over-pieced : {o : Base} (m : Machine) (held : Bool) (p : Piece) (c : Cursor)
     → Over o m → RuleOver o (texts.pieced m held p c)
 over-pieced m held (piece.Char x) c k =
     ok-if (m.mode == 1) (over-calls_from m m.rock (x ∷ []) c held k) (ok-done k)

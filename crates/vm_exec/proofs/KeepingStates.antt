@@ -1,28 +1,23 @@
 -- Heap, undo, restart and saves keep it.
-use Rattle.std.proofs.Common.{◌≡◌, ◌≤◌, ◌∙◌, arith, length-drop, ℕ, zero, suc, ◌+◌, ◌-◌, ◌*◌, ◌%◌}
-use Rattle.std.proofs.Common.{◌^◌, ◌==◌, ◌||◌, ◌&&◌, not, nat_le, nat_lt, Bool, true, false, List}
+use Rattle.std.proofs.Common.{arith, length-drop, ℕ, ◌-◌, ◌%◌}
+use Rattle.std.proofs.Common.{◌^◌, ◌==◌, ◌||◌, not, nat_le, nat_lt, Bool, true, false, List}
 use Rattle.std.proofs.Common.{[], ◌∷◌, length, Option, Some, None, cond}
 use Rattle.std.specs.Prelude.{All}
 use Rattle.std.proofs.lemmas.List.{length-take}
 use Rattle.std.proofs.lemmas.List.Elements.{All-cons, All-drop, All-head, All-take}
-use Rattle.vm_memory.specs.Chaining.{◌>>=◌}
-use Rattle.vm_memory.specs.Fault as memory
 use Rattle.vm_memory.specs.MemoryMap.{MemoryMap, Origin, reset, resized}
 use Rattle.vm_memory.specs.declared.memory.TheConstants.{MAX_SIZE}
 use Rattle.vm_stack.specs.StackState.{StackState}
 use Rattle.vm_stack.specs.Frame as frame
 use Rattle.vm_stack.specs.Stub.{stub_bytes}
-use Rattle.vm_stack.specs.Values.{pushed}
 use Rattle.vm_heap.specs.Allocation.{freed, malloced}
 use Rattle.vm_heap.specs.HeapMap.{HeapMap}
 use Rattle.vm_undo.specs.Protection.{protected, protection_start, protection_end}
 use Rattle.vm_undo.specs.UndoList.{newest, without_newest}
 use Rattle.vm_undo.specs.declared.saved.Saved.{Saved}
-use Rattle.vm_operand.specs.Branch.{holds}
 use Rattle.vm_operand.specs.declared.operand.Dest as d
 use Rattle.vm_operand.specs.declared.operand.Dest.TheVariants as dest
 use Rattle.vm_exec.specs.Machine.{IsHeldBy, IsWithin}
-use Rattle.vm_exec.specs.declared.random.Random as r
 use Rattle.vm_exec.specs.Rows.Heap as heaps
 use Rattle.vm_exec.specs.Rows.Undo as undo
 use Rattle.vm_exec.specs.Rules as rules
@@ -30,7 +25,6 @@ use Rattle.vm_exec.specs.Start.{finished_at}
 use Rattle.vm_exec.specs.declared.machine.Machine.{Machine}
 use Rattle.vm_exec.specs.declared.step.Waiting as w
 use Rattle.vm_exec.specs.declared.step.Waiting.TheVariants as waiting
-use Rattle.vm_exec.specs.declared.text.Text as t
 use Rattle.vm_exec.proofs.KeepingLemmas.{Base, Gives, Has, Lies, Over, RuleOver, SavedOver}
 use Rattle.vm_exec.proofs.KeepingLemmas.{appended-within, has-called, has-stub_taken, in_memory}
 use Rattle.vm_exec.proofs.KeepingLemmas.{in_mode, keeping, ok-bind, ok-both, ok-done, ok-fault}
@@ -45,7 +39,7 @@ over-size_set m size to k =
     (ok-if (nat_lt MAX_SIZE size) (over-stored_in 4 m to 1 k)
     (over-stored_in 4 (record m { memory = resized m.memory size }) to 0 k))
 
-pub over-given : {o : Base} (m : Machine) (x : Option ℕ × HeapMap)
+over-given : {o : Base} (m : Machine) (x : Option ℕ × HeapMap)
     → Over o m → Over o (heaps.block_given m x).0
 over-given m (None, h) k = k
 over-given m (Some at, h) k = k
@@ -62,17 +56,17 @@ over-frees m at k =
     over-goes {r = heaps.freed_at m at}
     (ok-then (heaps.heap_coded (freed m.heap at)) (λ h. ok-done k))
 
-pub lies-if : {i : Origin} (t : Bool) (a b : MemoryMap)
+lies-if : {i : Origin} (t : Bool) (a b : MemoryMap)
     → Lies i a → Lies i b → Lies i (cond t a b)
 lies-if true a b h k = h
 lies-if false a b h k = k
 
-pub lies-protected : {i : Origin} (a b : MemoryMap) (start count : ℕ)
+lies-protected : {i : Origin} (a b : MemoryMap) (start count : ℕ)
     → Lies i b → Lies i (protected a b start count)
 lies-protected a b start count h =
     lies-if (nat_lt (protection_start a b start) (protection_end a b start count)) _ b h h
 
-pub has-loaded : {n : ℕ} (s : StackState) (bytes : List ℕ)
+has-loaded : {n : ℕ} (s : StackState) (bytes : List ℕ)
     → Has n s → Gives (frame.stack_loaded s bytes) (Has n)
 has-loaded s bytes h = ok-if (nat_le (length bytes) s.limit) (ok-done h) ok-fault
 
@@ -90,13 +84,13 @@ over-came_back m x k =
     (λ s h. ok-then (rules.stub_dest s.1)
     (λ to. over-stored_in 4 (record m { stack = s.0; pc = s.1.pc }) to x (on_stack k h)))
 
-pub over-resumed : {o : Base} (m : Machine) (s : Saved)
+over-resumed : {o : Base} (m : Machine) (s : Saved)
     → Over o m → Lies o.origin s.memory → Gives (undo.resumed m s) (Over o)
 over-resumed m s k h =
     ok-bind (over-with_state m s k h) (λ r. over-came_back r (2 ^ 32 - 1))
 
 -- a stub was pushed, so the stack holds what is on it
-pub held-with_stub : {n : ℕ} (m : Machine) (to : d.Dest)
+held-with_stub : {n : ℕ} (m : Machine) (to : d.Dest)
     → Has n m.stack → Gives (rules.with_stub m to) (λ r. IsHeldBy n (undo.saved_state r))
 held-with_stub m to h =
     ok-bind (ok-stacked (appended-within m.stack (stub_bytes (rules.stub_for m to)) h))

@@ -1,7 +1,6 @@
 -- Quick instructions tell nothing, or that the story has quit.
-use Rattle.std.proofs.Common.{◌≡◌, ◌<◌, ◌==◌, ◌||◌, ◌^◌, ◌-◌, ℕ, ◌+◌, ◌%◌, Bool}
+use Rattle.std.proofs.Common.{◌==◌, ◌||◌, ℕ, ◌%◌, Bool}
 use Rattle.std.proofs.Common.{Result, List}
-use Rattle.std.proofs.Common.{◌∙◌, ◌∷◌, []}
 use Rattle.std.proofs.Common.{Option, Some, None, nat_le}
 use Rattle.vm_memory.specs.Access.{read, written}
 use Rattle.vm_memory.specs.Chaining.{◌>>=◌}

@@ -1,27 +1,21 @@
 -- Quick instructions: what they do is told by their row.
-use Rattle.std.proofs.Common.{IsErrAnd, ◌≡◌, ◌<◌, ◌==◌, ◌||◌, ◌^◌, ◌-◌, ℕ, suc, ◌+◌, ◌%◌}
+use Rattle.std.proofs.Common.{IsErrAnd, ◌≡◌, ℕ, suc, ◌+◌}
 use Rattle.std.proofs.Common.{Result, Ok, Err, List}
-use Rattle.std.proofs.Common.{refl, ap, sym, ◌∙◌, subst, ◌∷◌, [], add-one}
-use Rattle.std.proofs.Common.{Option, Some, None}
-use Rattle.vm_memory.specs.Chaining.{◌>>=◌}
+use Rattle.std.proofs.Common.{refl, ap, sym, ◌∙◌, subst, add-one}
 use Rattle.vm_memory.specs.declared.fault.Trap.{Trap}
 use Rattle.vm_memory.specs.declared.fault.Trap.TheVariants.{Fault, NoMemory}
-use Rattle.vm_operand.specs.Branch.{holds}
-use Rattle.vm_operand.specs.Opcode.{op_of, opcode_number}
 use Rattle.vm_operand.specs.Operands.{OpcodeAt}
-use Rattle.vm_operand.specs.declared.fault.OpFault.{OpFault}
 use Rattle.vm_operand.specs.declared.opcode.Op.{Op}
-use Rattle.vm_operand.proofs.OpcodeLemmas.{op_of-number_of}
 use Rattle.vm_exec.specs.Answer.{Does}
 use Rattle.vm_exec.specs.Fetch.{Fetches, work_for}
 use Rattle.vm_exec.specs.Machine.{IsFit, IsSoundMachine, KeepsImage, StaysFit}
-use Rattle.vm_exec.specs.Row.{charged, due, row, step_within, work}
+use Rattle.vm_exec.specs.Row.{charged, due, row, step_within}
 use Rattle.vm_exec.specs.Rows.Work.{Work, Free, Costs, budgeted, costing}
-use Rattle.vm_exec.specs.Rules.{Rule, goes}
-use Rattle.vm_exec.specs.Run.{EndsBy, EndsWanting, GoesBy, IsQuickOpcode, IsUnready, RunsTo}
+use Rattle.vm_exec.specs.Rules.{Rule}
+use Rattle.vm_exec.specs.Run.{GoesBy, RunsTo}
 use Rattle.vm_exec.specs.Run.{StaysOn, Tells, WorkGives, went_of}
 use Rattle.vm_exec.specs.Start.{IsOver}
-use Rattle.vm_exec.specs.Want.{MayWant, WantsMemory}
+use Rattle.vm_exec.specs.Want.{MayWant}
 use Rattle.vm_exec.specs.declared.fetch.Fetched.{Fetched}
 use Rattle.vm_exec.specs.declared.machine.Machine.{Machine}
 use Rattle.vm_exec.specs.declared.quick.Went.{Went}
@@ -88,26 +82,6 @@ goes_by m n new o place q (Err (Fault k)) at f e want =
     ap charged f ∙ ap (λ (x : Work). charged (Ok x)) e
 goes_by m n new o place q (Err NoMemory) at f e want =
     record { o = o; place = place; n = n; q = q; opcode = at; fetched = f; wants = want refl }
-
-op_in : Result (ℕ × ℕ) OpFault → Option Op
-op_in (Ok x) = op_of x.0
-op_in (Err e) = None
-
-some_is : (a b : Op) → Some a ≡ Some b → a ≡ b
-some_is a b e = cc
-
-same_op : (m : Machine) (o p : Op) (place next : ℕ) → OpcodeAt m.memory m.pc o place
-    → OpcodeAt m.memory m.pc p next → o ≡ p
-unfolding op_in
-same_op m o p place next here there =
-    let row : op_of (opcode_number o) ≡ op_of (opcode_number p) = ap op_in (sym here ∙ there) in
-    some_is o p (sym (op_of-number_of o) ∙ row ∙ op_of-number_of p)
-
--- another opcode is at the PC
-pub unready : (m : Machine) (o : Op) (place : ℕ) → OpcodeAt m.memory m.pc o place
-    → (IsQuickOpcode o → ⊥) → IsUnready m
-unready m o place here not p next at =
-    not (subst IsQuickOpcode (sym (same_op m o p place next here at.opcode)) at.quick)
 
 -- what is known of a machine that so many quick steps led to
 pub record GoneOn (k : ℕ) (m n : Machine) : Type 0 where
@@ -201,13 +175,3 @@ over_quit k m o n g tells image s v =
     let does : Does (step_within 1 (charged (due o Off))) n (Ok step.Quit) = ap (step_within 1)
     tells in
     step_over image 1 o n Off (Ok step.Quit) does (g.fit s) (g.over image s v)
-
--- a run ends with the step behind those that were done
-pub ends_by : (most k : ℕ) (m o : Machine) (r : Rule) → k < most → RunsTo k m o → o.text ≡ Off
-    → Tells o r → EndsBy most m r
-ends_by most k m o r less runs text tells = (k, o, (less, (runs, row_is o r text tells)))
-
--- or memory is wanting for it
-pub ends_wanting : (most k : ℕ) (m o : Machine) → k < most → RunsTo k m o → WantsMemory o
-    → EndsWanting most m
-ends_wanting most k m o less runs wants = (k, o, (less, (runs, wants)))
