@@ -11,7 +11,8 @@ use Rattle.vm_exec.specs.declared.quick.Went.{Went}
 use Rattle.vm_exec.specs.declared.step.Done.{Done}
 use Rattle.vm_operand.specs.declared.opcode.Op.{Op}
 use Rattle.vm_operand.specs.declared.opcode.Op.TheVariants as op
-use Rattle.vm_exec.proofs.RunLemmas.{stays_ok, work_quiet, works_err, works_handed, works_ok}
+use Rattle.vm_exec.proofs.QuietLemmas.{work_quiet}
+use Rattle.vm_exec.proofs.RunLemmas.{works_err, works_handed, works_ok}
 use Rattle.vm_exec.proofs.machine.Machine.array_on.Goals as goal
 
 abbrev work_with : Op → Machine → Fetched → List ℕ → Work
@@ -38,14 +39,13 @@ returns-in_err-done-clause-does c =
 
 pub returns-clause-does : goal.returns-clause-does
 returns-clause-does c =
-    let w = work_for (op.Array c.args.array) c.args.self.now c.args.fetched in
-    subst (λ (g : Went). WorkGives w c.array_op.new.self (Ok g)) (sym c.went.ensures)
-    (works_ok w c.array_op.new.self c.in_ok-done.done (work_quiet (op.Array c.args.array) _ _ _ tt) (done
-    c))
+    subst (λ (g : Went). WorkGives (work_for (op.Array c.args.array) c.args.self.now c.args.fetched)
+    c.array_op.new.self (Ok g)) (sym c.went.ensures)
+    (works_ok _ c.array_op.new.self c.in_ok-done.done (work_quiet (op.Array c.args.array) _ _ _ tt)
+    (done c)).0
 
 pub returns-clause-fit : goal.returns-clause-fit
 returns-clause-fit c = λ fit.
-    subst (λ (g : Went). StaysOn c.array_op.new.self g) (sym c.went.ensures)
-    (stays_ok (work_for (op.Array c.args.array) c.args.self.now c.args.fetched) c.array_op.new.self
-    c.in_ok-done.done (work_quiet (op.Array c.args.array) _ _ _ tt) (done c)
-    (c.in_ok-done.ensures.fit fit))
+    subst (StaysOn c.array_op.new.self) (sym c.went.ensures)
+    ((works_ok _ c.array_op.new.self c.in_ok-done.done (work_quiet (op.Array c.args.array) _ _ _ tt)
+    (done c)).1 (c.in_ok-done.ensures.fit fit))
