@@ -39,10 +39,6 @@ abbrev Up : ℕ → List Block → Type 0
 Up n [] = Unit {0}
 Up n (b ∷ bs) = (n ≤ b.at) × Up b.at bs
 
-up_lower : (n m : ℕ) (bs : List Block) → n ≤ m → Up m bs → Up n bs
-up_lower n m [] le u = tt
-up_lower n m (b ∷ bs) le u = (let h = u.0 in omega (arith, le, h), u.1)
-
 put-up : (n : ℕ) (x b : Block) (bs : List Block) (t : Bool)
     → nat_lt x.at b.at ≡ t → n ≤ x.at → n ≤ b.at → Up b.at bs
     → (b.at ≤ x.at → Up b.at (with_block x bs)) → Up n (cond t (x ∷ b ∷ bs) (b ∷ with_block x bs))
