@@ -97,8 +97,10 @@ same_head from c b cs bs up alike h =
     refl in
     let none-less : total (earlier b.at) (c ∷ cs) ≡ 0 =
     alike (earlier b.at)
-    ∙ rw (not-before, none_from (earlier b.at) (block_end b) bs (λ d le. rw (later d le) refl) x.rest)
-    refl in
+    ∙ rw (
+      not-before,
+      none_from (earlier b.at) (block_end b) bs (λ d le. rw (later d le) refl) x.rest,
+    ) refl in
     let long : total (measured b.at) (c ∷ cs) ≡ b.length =
     alike (measured b.at)
     ∙ rw (self, none_from (measured b.at) (block_end b) bs (λ d le. rw (behind d le) refl) x.rest)

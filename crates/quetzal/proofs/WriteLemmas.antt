@@ -182,7 +182,8 @@ length-padding n false = omega arith
 chunk-most : (name : ℕ) (contents : List ℕ) → length (chunk name contents) ≤ 9 + length contents
 unfolding chunk
 chunk-most name contents =
-    omega (arith, length-append {A = ℕ}, length-padding (length contents) (length contents % 2 == 1))
+    let n = length contents in
+    omega (arith, length-append {A = ℕ}, length-padding n (n % 2 == 1))
 
 heap-most : (start : ℕ) (bs : List Block) → IsTrue (is_heap start bs)
     → length (heap_chunk (print_heap start bs)) ≤ 134217800

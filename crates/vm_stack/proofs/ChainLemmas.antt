@@ -280,7 +280,8 @@ stub_readies s new x c has n e small =
     let l = ap length t.bytes in
     let all = length-append s.bytes (new ++ big_bytes 4 x) in
     let len =
-    number_within s.bytes (new ++ big_bytes 4 x) s.frame (omega (arith, head, ends, l, length-append {A = ℕ})) in
+    number_within s.bytes (new ++ big_bytes 4 x) s.frame
+    (omega (arith, head, ends, l, length-append {A = ℕ})) in
     inr (
       omega (arith, len, ends, l, length-append {A = ℕ}, a, w, all, n),
       number_behind s.bytes (new ++ big_bytes 4 x) 4
@@ -305,7 +306,8 @@ roll_keeps s n k le c = elim (cases_lt 0 (length s.bytes)) [
   | inr none ↦
       let size = length_rolled s.bytes (4 * n) k in
       moved s _ s.bytes
-      (nil_from_length _ (omega (arith, size, none)) ∙ sym (nil_from_length s.bytes (omega arith))) c
+      (nil_from_length _ (omega (arith, size, none))
+      ∙ sym (nil_from_length s.bytes (omega arith))) c
 ]
 
 pub length_word : (n x : ℕ) → length (big_bytes n x) ≡ n
@@ -333,7 +335,9 @@ cut_keeps s token n low high four names c =
     let l = ap length t.bytes in
     let fours = t.aligns in
     let m = t.ends in
-    let size = length-take-le (token - length t.before) t.values (omega (arith, l, length-append {A = ℕ}, high)) in
+    let size =
+    length-take-le (token - length t.before) t.values
+    (omega (arith, l, length-append {A = ℕ}, high)) in
     let short : take token s.bytes ≡ t.before ++ take (token - length t.before) t.values =
     ap (λ (b : List ℕ). take token b) t.bytes
     ∙ (ap (λ (k : ℕ). take k (t.before ++ t.values))

@@ -7,7 +7,8 @@ use Rattle.std.proofs.lemmas.Bool.{cases_Bool, leb-true}
 use Rattle.std.proofs.lemmas.List.{length-replicate, length-take-le, append-nil}
 use Rattle.byteorder.specs.Endian.{big_bytes}
 use Rattle.byteorder.specs.Numbers.{length-bytes_high_first}
-use Rattle.vm_stack.specs.Frame.{frame_head, fresh_frame, frame_len_of, locals_len, locals_pos_of, padding_len}
+use Rattle.vm_stack.specs.Frame.{frame_head, fresh_frame, frame_len_of, locals_len}
+use Rattle.vm_stack.specs.Frame.{locals_pos_of, padding_len}
 use Rattle.vm_stack.specs.StackState.{number, replaced_within}
 use Rattle.vm_stack.specs.Head.{StandsWhole, IsHead}
 use Rattle.vm_stack.specs.declared.head.Head.{Head}

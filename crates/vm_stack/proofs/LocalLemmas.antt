@@ -22,7 +22,8 @@ put_in p l v new o h =
     let fits : nat_le (length p + o + length new) (length (p ++ l ++ v)) ≡ true =
     le_true _ _ (omega (arith, length-append {A = ℕ}, h)) in
     let first : take (length p + o) (p ++ l ++ v) ≡ p ++ take o l =
-    take-append-le (length p + o) (p ++ l) v (omega (arith, length-append p l, h)) ∙ take-append-add p l o in
+    take-append-le (length p + o) (p ++ l) v (omega (arith, length-append p l, h))
+    ∙ take-append-add p l o in
     let last : drop (length p + o + length new) (p ++ l ++ v) ≡ drop (o + length new) l ++ v =
     ap (λ (n : ℕ). drop n (p ++ l ++ v)) (omega arith)
     ∙ (drop-append-le (length p + (o + length new)) (p ++ l) v (omega (arith, length-append p l, h))

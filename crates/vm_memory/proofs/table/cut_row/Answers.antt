@@ -31,7 +31,8 @@ returns-else-n-len-clause-here c =
     let none : items_at c.truncate.new.self.items c.args.n ≡ [] =
     items_at_past c.truncate.new.self.items c.args.n (omega arith) in
     none ∙ sym (take_all c.args.len [] (omega arith))
-    ∙ ap (take c.args.len) (sym none ∙ front_kept _ _ (c.args.n + 1) c.args.n c.truncate.ensures.items (omega arith))
+    ∙ ap (take c.args.len)
+    (sym none ∙ front_kept _ _ (c.args.n + 1) c.args.n c.truncate.ensures.items (omega arith))
 
 pub returns-else-n-len-clause-below : goal.returns-else-n-len-clause-below
 returns-else-n-len-clause-below c = λ k l.
