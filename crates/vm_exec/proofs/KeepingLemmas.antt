@@ -1,8 +1,7 @@
 -- What is kept of a machine: what memory has of its image, and the greatest size of the stack.
-use Rattle.std.proofs.Common.{◌≡◌, ◌≤◌, refl, arith, length-append, ℕ, zero, suc}
-use Rattle.std.proofs.Common.{◌+◌, ◌-◌, ◌*◌, ◌%◌, ◌==◌, ◌||◌, ◌&&◌, nat_le}
-use Rattle.std.proofs.Common.{Bool, true, false, List, [], ◌∷◌, ◌++◌, length, take, drop}
-use Rattle.std.proofs.Common.{Result, Ok, Err, cond}
+use Rattle.std.proofs.Common.{◌≡◌, ◌≤◌, refl, arith, length-append, ℕ, zero, suc, ◌+◌, ◌-◌, ◌*◌}
+use Rattle.std.proofs.Common.{◌%◌, ◌==◌, ◌||◌, ◌&&◌, nat_le, Bool, true, false, List, [], ◌∷◌, ◌++◌}
+use Rattle.std.proofs.Common.{length, take, drop, Result, Ok, Err, cond}
 use Rattle.std.specs.Prelude.{All, IfOk, IsTrue}
 use Rattle.std.proofs.lemmas.Bool.Decides.{nat_tests}
 use Rattle.std.specs.Int.{bytes_high_first}

@@ -11,8 +11,7 @@ use Rattle.vm_exec.specs.declared.quick.Went.{Went}
 use Rattle.vm_exec.specs.declared.step.Done.{Done}
 use Rattle.vm_operand.specs.declared.opcode.Op.{Op}
 use Rattle.vm_operand.specs.declared.opcode.Op.TheVariants as op
-use Rattle.vm_exec.proofs.QuietLemmas.{work_quiet}
-use Rattle.vm_exec.proofs.RunLemmas.{works_err, works_handed, works_ok}
+use Rattle.vm_exec.proofs.RunLemmas.{work_quiet, works_err, works_handed, works_ok}
 use Rattle.vm_exec.proofs.machine.Machine.array_on.Goals as goal
 
 abbrev work_with : Op → Machine → Fetched → List ℕ → Work
