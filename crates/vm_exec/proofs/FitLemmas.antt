@@ -212,7 +212,8 @@ loaded-there : (s t : StackState) (bytes : List ℕ)
     → stack_loaded s bytes ≡ Ok t → 0 < length bytes
     → HasFrame t
 loaded-there s t bytes e some =
-    subst HasFrame (ok_is (nat_le (length bytes) s.limit) (in_named_frame s bytes) t Overflow e) some
+    subst HasFrame (ok_is (nat_le (length bytes) s.limit) (in_named_frame s bytes) t Overflow e)
+    some
 
 -- a state of the story in place of memory, stack and heap
 pub state-fit : (m : Machine) (s : Saved) (memory : MemoryMap) (stack : StackState)

@@ -171,7 +171,8 @@ pub lies-written : {i : Origin} (w : ℕ) (m : MemoryMap) (at x : ℕ)
 lies-written w m at x h =
     ok-if (nat_le m.ramstart at && nat_le (at + w) (length m.bytes)) (ok-done h) ok-fault
 
-pub has-appended : {n : ℕ} (s : StackState) (new : List ℕ) → Has n s → Gives (appended s new) (Has n)
+pub has-appended : {n : ℕ} (s : StackState) (new : List ℕ)
+    → Has n s → Gives (appended s new) (Has n)
 has-appended s new h =
     ok-if (nat_le (length s.bytes + length new) s.limit) (ok-done h) ok-fault
 
@@ -260,5 +261,6 @@ has-thrown_in (suc steps) s token h =
     (ok-bind (ok-from_stack (has-cut_to s token h)) (λ t k. ok-from_stack (has-stub_taken t k)))
     (has-thrown_in steps (frame_left s) token h)
 
-pub has-thrown : {n : ℕ} (s : StackState) (token : ℕ) → Has n s → Gives (thrown s token) (HasFirst n)
+pub has-thrown : {n : ℕ} (s : StackState) (token : ℕ)
+    → Has n s → Gives (thrown s token) (HasFirst n)
 has-thrown s token h = has-thrown_in (length s.bytes) s token h

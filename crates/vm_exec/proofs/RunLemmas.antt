@@ -66,7 +66,8 @@ works_by (Restore s) n w e q = absurd q
 -- what such work did is what its row says, it told no more, and it leaves a sound machine
 pub works_ok : (w : Work) (new : Machine) (done : Done) → IsQuietWork w
     → budgeted 0 w ≡ Ok (new, done)
-    → WorkGives w new (Ok (went_of done.out)) × (StaysFit new done.out → StaysOn new (went_of done.out))
+    → WorkGives w new (Ok (went_of done.out))
+    × (StaysFit new done.out → StaysOn new (went_of done.out))
 works_ok (Free (Ok x)) new done q e =
     let same = both x new done e in
     works_by done.out new (Free (Ok x)) (ap (λ (y : Machine × Out). Free (Ok y)) same)
@@ -143,21 +144,11 @@ unfolding RunsTo
 none_runs m = refl
 
 pub none_gone : (m : Machine) → GoneOn 0 m m
-none_gone m = record {
-  runs = none_runs m;
-  fit = λ s. s;
-  kept = λ s. keeps_same m;
-  over = λ image s
-      o. o;
-}
+none_gone m =
+    record { runs = none_runs m; fit = λ s. s; kept = λ s. keeps_same m; over = λ image s o. o }
 
-runs_more : (k : ℕ) (m o n : Machine) → RunsTo k m o → row o ≡ record {
-  cost = 1;
-  gives = Ok (
-    n,
-    Ran,
-  );
-} → RunsTo (suc k) m n
+runs_more : (k : ℕ) (m o n : Machine) → RunsTo k m o
+    → row o ≡ record { cost = 1; gives = Ok (n, Ran) } → RunsTo (suc k) m n
 unfolding RunsTo
 runs_more k m o n runs e = (o, (runs, e))
 
