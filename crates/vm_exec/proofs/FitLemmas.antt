@@ -1,7 +1,8 @@
 -- A machine whose heap, memory or undo list changes stays fit.
 use Rattle.std.proofs.Common.{◌≡◌, ◌≤◌, ◌<◌, ℕ, ◌+◌, ◌-◌, ◌%◌, ◌⊎◌, inl, inr, true, false, nat_le}
-use Rattle.std.proofs.Common.{Bool, nat_eq, cond, max, List, [], ◌∷◌, length, take, replicate, Option}
-use Rattle.std.proofs.Common.{Some, None, Result, Ok, Err, IsTrue, refl, arith, ap, sym, ◌∙◌, subst}
+use Rattle.std.proofs.Common.{Bool, nat_eq, cond, max, List, [], ◌∷◌, length, take, replicate}
+use Rattle.std.proofs.Common.{Option, Some, None, Result, Ok, Err, IsTrue, refl, arith, ap, sym}
+use Rattle.std.proofs.Common.{◌∙◌, subst}
 use Rattle.std.specs.Prelude.{All, OnOk}
 use Rattle.std.proofs.lemmas.List.{length-append, length-replicate, length-take}
 use Rattle.std.proofs.lemmas.List.Elements.{All-take, All-drop, All-cons}
@@ -11,8 +12,7 @@ use Rattle.vm_exec.specs.Answer.{Changes}
 use Rattle.vm_memory.specs.MemoryMap.{MemoryMap, Origin, KeepsMap, origin_of, resized}
 use Rattle.vm_heap.specs.HeapMap.{HeapMap, is_heap, heap_end}
 use Rattle.vm_heap.specs.FirstFit.{first_fit}
-use Rattle.vm_heap.specs.Allocation.{malloced, start_from}
-use Rattle.vm_heap.specs.Allocation.{freed, begins, blocks_without, heap_of}
+use Rattle.vm_heap.specs.Allocation.{malloced, start_from, freed, begins, blocks_without, heap_of}
 use Rattle.vm_heap.specs.declared.block.Block.{Block}
 use Rattle.vm_heap.specs.declared.fault.HeapFault.TheVariants.{BadBlock}
 use Rattle.vm_heap.proofs.HeapLemmas.{heap_end-page, start-below}
@@ -212,7 +212,8 @@ loaded-there : (s t : StackState) (bytes : List ℕ)
     → stack_loaded s bytes ≡ Ok t → 0 < length bytes
     → HasFrame t
 loaded-there s t bytes e some =
-    subst HasFrame (ok_is (nat_le (length bytes) s.limit) (in_named_frame s bytes) t Overflow e) some
+    subst HasFrame (ok_is (nat_le (length bytes) s.limit) (in_named_frame s bytes) t Overflow e)
+    some
 
 -- a state of the story in place of memory, stack and heap
 pub state-fit : (m : Machine) (s : Saved) (memory : MemoryMap) (stack : StackState)

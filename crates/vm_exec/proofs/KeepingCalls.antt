@@ -1,6 +1,6 @@
 -- Each call of a machine keeps what memory has of its image, and leaves a machine of the story one.
-use Rattle.std.proofs.Common.{◌≡◌, ◌∙◌, arith, ℕ, Bool, true, false, List, []}
-use Rattle.std.proofs.Common.{length, refl, sym, subst, ap, Result, Ok, Err}
+use Rattle.std.proofs.Common.{◌≡◌, ◌∙◌, arith, ℕ, Bool, true, false, List, [], length, refl, sym}
+use Rattle.std.proofs.Common.{subst, ap, Result, Ok, Err}
 use Rattle.std.specs.Prelude.{IfOk, IsTrue, OnOk}
 use Rattle.vm_memory.specs.MemoryMap.{MemoryMap, origin_of}
 use Rattle.vm_memory.specs.declared.fault.Trap.{Trap}
@@ -19,8 +19,8 @@ use Rattle.vm_exec.specs.declared.machine.Machine.{Machine}
 use Rattle.vm_exec.specs.declared.step.Step.{Step}
 use Rattle.vm_exec.specs.declared.step.Waiting as w
 use Rattle.vm_exec.specs.declared.text.Text as t
-use Rattle.vm_exec.proofs.KeepingLemmas.{Base, Fixed, Has, HasFirst, Over, OverFirst}
-use Rattle.vm_exec.proofs.KeepingLemmas.{fixed_of, has-called, ok-flowed}
+use Rattle.vm_exec.proofs.KeepingLemmas.{Base, Fixed, Has, HasFirst, Over, OverFirst, fixed_of}
+use Rattle.vm_exec.proofs.KeepingLemmas.{has-called, ok-flowed}
 use Rattle.vm_exec.proofs.KeepingRows.{over-told}
 use Rattle.vm_exec.proofs.KeepingStates.{over-came_back, over-finished, over-with_state}
 

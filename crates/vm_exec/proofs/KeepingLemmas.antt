@@ -1,8 +1,7 @@
 -- What is kept of a machine: what memory has of its image, and the greatest size of the stack.
-use Rattle.std.proofs.Common.{◌≡◌, ◌≤◌, refl, arith, length-append, ℕ, zero, suc}
-use Rattle.std.proofs.Common.{◌+◌, ◌-◌, ◌*◌, ◌%◌, ◌==◌, ◌||◌, ◌&&◌, nat_le}
-use Rattle.std.proofs.Common.{Bool, true, false, List, [], ◌∷◌, ◌++◌, length, take, drop}
-use Rattle.std.proofs.Common.{Result, Ok, Err, cond}
+use Rattle.std.proofs.Common.{◌≡◌, ◌≤◌, refl, arith, length-append, ℕ, zero, suc, ◌+◌, ◌-◌, ◌*◌}
+use Rattle.std.proofs.Common.{◌%◌, ◌==◌, ◌||◌, ◌&&◌, nat_le, Bool, true, false, List, [], ◌∷◌, ◌++◌}
+use Rattle.std.proofs.Common.{length, take, drop, Result, Ok, Err, cond}
 use Rattle.std.specs.Prelude.{All, IfOk, IsTrue}
 use Rattle.std.proofs.lemmas.Bool.Decides.{nat_tests}
 use Rattle.std.specs.Int.{bytes_high_first}
@@ -172,7 +171,8 @@ pub lies-written : {i : Origin} (w : ℕ) (m : MemoryMap) (at x : ℕ)
 lies-written w m at x h =
     ok-if (nat_le m.ramstart at && nat_le (at + w) (length m.bytes)) (ok-done h) ok-fault
 
-pub has-appended : {n : ℕ} (s : StackState) (new : List ℕ) → Has n s → Gives (appended s new) (Has n)
+pub has-appended : {n : ℕ} (s : StackState) (new : List ℕ)
+    → Has n s → Gives (appended s new) (Has n)
 has-appended s new h =
     ok-if (nat_le (length s.bytes + length new) s.limit) (ok-done h) ok-fault
 
@@ -261,5 +261,6 @@ has-thrown_in (suc steps) s token h =
     (ok-bind (ok-from_stack (has-cut_to s token h)) (λ t k. ok-from_stack (has-stub_taken t k)))
     (has-thrown_in steps (frame_left s) token h)
 
-pub has-thrown : {n : ℕ} (s : StackState) (token : ℕ) → Has n s → Gives (thrown s token) (HasFirst n)
+pub has-thrown : {n : ℕ} (s : StackState) (token : ℕ)
+    → Has n s → Gives (thrown s token) (HasFirst n)
 has-thrown s token h = has-thrown_in (length s.bytes) s token h

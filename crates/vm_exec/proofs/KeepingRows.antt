@@ -1,8 +1,7 @@
 -- Every row of the table keeps what memory has of its image, and the greatest size of the stack.
-use Rattle.std.proofs.Common.{◌≡◌, arith, ℕ, zero, suc, ◌+◌, ◌-◌, ◌*◌, ◌%◌, ◌^◌, ◌==◌}
-use Rattle.std.proofs.Common.{◌&&◌, nat_le, nat_lt, Bool, true, false, List, length}
-use Rattle.std.proofs.Common.{take, replicate, refl, sym, subst, Option, Some, None, Result, Ok}
-use Rattle.std.proofs.Common.{Err, cond, slice_index}
+use Rattle.std.proofs.Common.{◌≡◌, arith, ℕ, zero, suc, ◌+◌, ◌-◌, ◌*◌, ◌%◌, ◌^◌, ◌==◌, ◌&&◌, nat_le}
+use Rattle.std.proofs.Common.{nat_lt, Bool, true, false, List, length, take, replicate, refl, sym}
+use Rattle.std.proofs.Common.{subst, Option, Some, None, Result, Ok, Err, cond, slice_index}
 use Rattle.std.proofs.lemmas.Bool.Decides.{nat_tests}
 use Rattle.vm_memory.specs.Chaining.{◌>>=◌}
 use Rattle.vm_memory.specs.Access.{copied, read, zeroed}
@@ -90,7 +89,7 @@ use Rattle.vm_exec.proofs.KeepingStates.{over-asks_restore, over-asks_save, over
 use Rattle.vm_exec.proofs.KeepingStates.{over-frees, over-mallocs, over-restarted, over-restored}
 use Rattle.vm_exec.proofs.KeepingStates.{over-size_set, over-undo_saved}
 
--- so does the work of an opcode, whatever it costs
+-- the work of an opcode keeps it, whatever it costs
 abbrev pub WorkOver : Base → Work → Type 0
 WorkOver o (Free r) = RuleOver o r
 WorkOver o (Costs cost r) = RuleOver o r

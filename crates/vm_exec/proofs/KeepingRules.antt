@@ -1,8 +1,7 @@
--- What opcodes are made of keeps it: loads and stores, calls and returns, and texts.
-use Rattle.std.proofs.Common.{ℕ, zero, suc, ◌+◌, ◌==◌, ◌||◌}
-use Rattle.std.proofs.Common.{nat_le, nat_lt, Bool, true, false, List, [], ◌∷◌, length}
-use Rattle.std.proofs.Common.{Option, Some, None, Result, Ok, cond, slice_set}
-use Rattle.std.proofs.Common.{slice_index}
+-- What opcodes are made of keeps what memory has of its image: loads, stores, calls and texts.
+use Rattle.std.proofs.Common.{ℕ, zero, suc, ◌+◌, ◌==◌, ◌||◌, nat_le, nat_lt, Bool, true, false}
+use Rattle.std.proofs.Common.{List, [], ◌∷◌, length, Option, Some, None, Result, Ok, cond}
+use Rattle.std.proofs.Common.{slice_set, slice_index}
 use Rattle.vm_memory.specs.Chaining.{◌>>=◌}
 use Rattle.vm_memory.specs.Access.{read}
 use Rattle.vm_memory.specs.Fault.{coded}

@@ -1,7 +1,6 @@
--- Heap, undo, restart and saves keep it.
-use Rattle.std.proofs.Common.{arith, length-drop, ℕ, ◌-◌, ◌%◌}
-use Rattle.std.proofs.Common.{◌^◌, ◌==◌, ◌||◌, not, nat_le, nat_lt, Bool, true, false, List}
-use Rattle.std.proofs.Common.{[], ◌∷◌, length, Option, Some, None, cond}
+-- The heap, undo, a restart and a save keep what memory has of its image.
+use Rattle.std.proofs.Common.{arith, length-drop, ℕ, ◌-◌, ◌%◌, ◌^◌, ◌==◌, ◌||◌, not, nat_le, nat_lt}
+use Rattle.std.proofs.Common.{Bool, true, false, List, [], ◌∷◌, length, Option, Some, None, cond}
 use Rattle.std.specs.Prelude.{All}
 use Rattle.std.proofs.lemmas.List.{length-take}
 use Rattle.std.proofs.lemmas.List.Elements.{All-cons, All-drop, All-head, All-take}

@@ -1,7 +1,5 @@
 -- Quick instructions tell nothing, or that the story has quit.
-use Rattle.std.proofs.Common.{◌==◌, ◌||◌, ℕ, ◌%◌, Bool}
-use Rattle.std.proofs.Common.{Result, List}
-use Rattle.std.proofs.Common.{Option, Some, None, nat_le}
+use Rattle.std.proofs.Common.{◌==◌, ◌||◌, ℕ, ◌%◌, Bool, Result, List, Option, Some, None, nat_le}
 use Rattle.vm_memory.specs.Access.{read, written}
 use Rattle.vm_memory.specs.Chaining.{◌>>=◌}
 use Rattle.vm_memory.specs.Fault.{coded}
@@ -16,8 +14,7 @@ use Rattle.vm_operand.specs.declared.opcode.Branch.TheVariants.{Jgtu, Jleu}
 use Rattle.vm_operand.specs.declared.opcode.Flow.{Flow}
 use Rattle.vm_operand.specs.declared.opcode.Flow.TheVariants as flow
 use Rattle.vm_operand.specs.declared.opcode.Math.{Math}
-use Rattle.vm_operand.specs.declared.opcode.Move.TheVariants.{Copy, Copys, Copyb, Sexs, Sexb}
-use Rattle.vm_operand.specs.declared.opcode.Op.{Op}
+use Rattle.vm_operand.specs.declared.opcode.Move.TheVariants.{Copy}
 use Rattle.vm_operand.specs.declared.opcode.Op.TheVariants as op
 use Rattle.vm_operand.specs.declared.operand.Dest as d
 use Rattle.vm_stack.specs.declared.stub.Stub.{Stub}
@@ -26,7 +23,6 @@ use Rattle.vm_flow.specs.Call.{function_called}
 use Rattle.vm_flow.specs.Return.{given_back}
 use Rattle.vm_flow.specs.Throw.{thrown}
 use Rattle.vm_exec.specs.Fault.{flowed}
-use Rattle.vm_exec.specs.Row.{work}
 use Rattle.vm_exec.specs.Rows.Array.{array_work, bit, byte_with_bit, with_bit}
 use Rattle.vm_exec.specs.Rows.Branch.{branch_work}
 use Rattle.vm_exec.specs.Rows.Function.{flow_work, tailcalls}
@@ -34,8 +30,7 @@ use Rattle.vm_exec.specs.Rows.Math.{math_work}
 use Rattle.vm_exec.specs.Rows.Moving.{move_work}
 use Rattle.vm_exec.specs.Rows.Work.{Work, Free, Costs}
 use Rattle.vm_exec.specs.Rules.{Rule, arguments, branches, calls, enters, goes, goes_on, puts}
-use Rattle.vm_exec.specs.Rules.{resumes}
-use Rattle.vm_exec.specs.Rules.{returns, stored, stub_dest, when, with_arguments}
+use Rattle.vm_exec.specs.Rules.{resumes, returns, stored, stub_dest, when, with_arguments}
 use Rattle.vm_exec.specs.Rules.{with_stub, writes}
 use Rattle.vm_exec.specs.Run.{IsQuickOpcode}
 use Rattle.vm_exec.specs.TextStub.{text_on}
@@ -68,16 +63,16 @@ quiet_puts m to r = ok-then r (λ x. quiet_goes (stored m to x))
 quiet_writes : (m : Machine) (n at x : ℕ) → IsQuiet (writes m n at x)
 quiet_writes m n at x = ok-then (coded (written n m.memory at x)) (λ r. ok-done tt)
 
-math_quiet : (o : Math) (m : Machine) (l : ℕ → ℕ) (to : ℕ → d.Dest)
+pub math_quiet : (o : Math) (m : Machine) (l : ℕ → ℕ) (to : ℕ → d.Dest)
     → IsQuietWork (math_work o m l to)
 unfolding math_work
 math_quiet o m l to = quiet_puts m _ _
 
-copy_quiet : (m : Machine) (l : ℕ → ℕ) (to : ℕ → d.Dest) → IsQuietWork (move_work Copy m l to)
+pub copy_quiet : (m : Machine) (l : ℕ → ℕ) (to : ℕ → d.Dest) → IsQuietWork (move_work Copy m l to)
 unfolding move_work
 copy_quiet m l to = quiet_goes (stored m (to 0) (l 0))
 
-array_quiet : (o : Array) (m : Machine) (l : ℕ → ℕ) (to : ℕ → d.Dest)
+pub array_quiet : (o : Array) (m : Machine) (l : ℕ → ℕ) (to : ℕ → d.Dest)
     → IsQuietWork (array_work o m l to)
 unfolding array_work
 array_quiet Aload m l to = quiet_puts m _ _
@@ -114,7 +109,7 @@ branches_quiet m offset =
 when_quiet : (m : Machine) (b : Bool) (offset : ℕ) → IsQuiet (when m b offset)
 when_quiet m b offset = ok-if b (branches_quiet m offset) (ok-done tt)
 
-branch_quiet : (o : Branch) (m : Machine) (l : ℕ → ℕ) (to : ℕ → d.Dest)
+pub branch_quiet : (o : Branch) (m : Machine) (l : ℕ → ℕ) (to : ℕ → d.Dest)
     → IsQuietWork (branch_work o m l to)
 unfolding branch_work
 branch_quiet Jump m l to = branches_quiet m (l 0)
@@ -144,7 +139,7 @@ with_arguments_quiet : (m : Machine) (n : ℕ) (f : Machine → List ℕ → Rul
 with_arguments_quiet m n f h =
     ok-then (arguments m.stack n) (λ q. h (record m { stack = q.0 }) q.1)
 
-flow_quiet : (o : Flow) (m : Machine) (l : ℕ → ℕ) (to : ℕ → d.Dest) → IsQuickOpcode (op.Flow o)
+pub flow_quiet : (o : Flow) (m : Machine) (l : ℕ → ℕ) (to : ℕ → d.Dest) → IsQuickOpcode (op.Flow o)
     → IsQuietWork (flow_work o m l to)
 unfolding flow_work
 flow_quiet flow.Call m l to q =
@@ -161,20 +156,3 @@ flow_quiet flow.Callf m l to q = calls_quiet m _ _ _
 flow_quiet flow.Callfi m l to q = calls_quiet m _ _ _
 flow_quiet flow.Callfii m l to q = calls_quiet m _ _ _
 flow_quiet flow.Callfiii m l to q = calls_quiet m _ _ _
-
-pub work_quiet : (o : Op) (m : Machine) (l : ℕ → ℕ) (to : ℕ → d.Dest) → IsQuickOpcode o
-    → IsQuietWork (work o m l to)
-work_quiet (op.Math o) m l to h = math_quiet o m l to
-work_quiet (op.Array o) m l to h = array_quiet o m l to
-work_quiet (op.Move Copy) m l to h = copy_quiet m l to
-work_quiet (op.Branch o) m l to h = branch_quiet o m l to
-work_quiet (op.Flow o) m l to h = flow_quiet o m l to h
-work_quiet (op.Move Copys) m l to h = absurd h
-work_quiet (op.Move Copyb) m l to h = absurd h
-work_quiet (op.Move Sexs) m l to h = absurd h
-work_quiet (op.Move Sexb) m l to h = absurd h
-work_quiet (op.Values _) m l to h = absurd h
-work_quiet (op.Stream _) m l to h = absurd h
-work_quiet (op.State _) m l to h = absurd h
-work_quiet (op.System _) m l to h = absurd h
-work_quiet (op.Search _) m l to h = absurd h

@@ -1,7 +1,6 @@
 -- Quick instructions: what they do is told by their row.
-use Rattle.std.proofs.Common.{IsErrAnd, ◌≡◌, ℕ, suc, ◌+◌}
-use Rattle.std.proofs.Common.{Result, Ok, Err, List}
-use Rattle.std.proofs.Common.{refl, ap, sym, ◌∙◌, subst, add-one}
+use Rattle.std.proofs.Common.{IsErrAnd, ◌≡◌, ℕ, suc, ◌+◌, Result, Ok, Err, List, refl, ap, sym, ◌∙◌}
+use Rattle.std.proofs.Common.{subst, add-one}
 use Rattle.vm_memory.specs.declared.fault.Trap.{Trap}
 use Rattle.vm_memory.specs.declared.fault.Trap.TheVariants.{Fault, NoMemory}
 use Rattle.vm_operand.specs.Operands.{OpcodeAt}
@@ -9,11 +8,10 @@ use Rattle.vm_operand.specs.declared.opcode.Op.{Op}
 use Rattle.vm_exec.specs.Answer.{Does}
 use Rattle.vm_exec.specs.Fetch.{Fetches, work_for}
 use Rattle.vm_exec.specs.Machine.{IsFit, IsSoundMachine, KeepsImage, StaysFit}
-use Rattle.vm_exec.specs.Row.{charged, due, row, step_within}
+use Rattle.vm_exec.specs.Row.{charged, due, row, step_of, step_within, work}
 use Rattle.vm_exec.specs.Rows.Work.{Work, Free, Costs, budgeted, costing}
 use Rattle.vm_exec.specs.Rules.{Rule}
-use Rattle.vm_exec.specs.Run.{GoesBy, RunsTo}
-use Rattle.vm_exec.specs.Run.{StaysOn, Tells, WorkGives, went_of}
+use Rattle.vm_exec.specs.Run.{GoesBy, RunsTo, StaysOn, Tells, WorkGives, went_of, IsQuickOpcode}
 use Rattle.vm_exec.specs.Start.{IsOver}
 use Rattle.vm_exec.specs.Want.{MayWant}
 use Rattle.vm_exec.specs.declared.fetch.Fetched.{Fetched}
@@ -23,11 +21,32 @@ use Rattle.vm_exec.specs.declared.quick.Went.TheVariants as went
 use Rattle.vm_exec.specs.declared.step.Done.{Done}
 use Rattle.vm_exec.specs.declared.step.Out.{Out}
 use Rattle.vm_exec.specs.declared.step.Out.TheVariants.{Ran, Char, Glk, Save, Restore, Quit}
-use Rattle.vm_exec.specs.declared.step.Step.TheVariants as step
 use Rattle.vm_exec.specs.declared.text.Text as t
 use Rattle.vm_exec.specs.declared.text.Text.TheVariants.{Off}
 use Rattle.vm_exec.proofs.KeepingCalls.{step_keeps, step_over}
-use Rattle.vm_exec.proofs.QuietLemmas.{IsQuietOut, IsQuietWork}
+use Rattle.vm_operand.specs.declared.opcode.Move.TheVariants.{Copy, Copys, Copyb, Sexs, Sexb}
+use Rattle.vm_operand.specs.declared.opcode.Op.TheVariants as op
+use Rattle.vm_operand.specs.declared.operand.Dest as d
+use Rattle.vm_exec.proofs.QuietLemmas.{IsQuietOut, IsQuietWork, array_quiet, branch_quiet}
+use Rattle.vm_exec.proofs.QuietLemmas.{copy_quiet, flow_quiet, math_quiet}
+
+-- the work of a quick opcode tells no more
+pub work_quiet : (o : Op) (m : Machine) (l : ℕ → ℕ) (to : ℕ → d.Dest) → IsQuickOpcode o
+    → IsQuietWork (work o m l to)
+work_quiet (op.Math o) m l to h = math_quiet o m l to
+work_quiet (op.Array o) m l to h = array_quiet o m l to
+work_quiet (op.Move Copy) m l to h = copy_quiet m l to
+work_quiet (op.Branch o) m l to h = branch_quiet o m l to
+work_quiet (op.Flow o) m l to h = flow_quiet o m l to h
+work_quiet (op.Move Copys) m l to h = absurd h
+work_quiet (op.Move Copyb) m l to h = absurd h
+work_quiet (op.Move Sexs) m l to h = absurd h
+work_quiet (op.Move Sexb) m l to h = absurd h
+work_quiet (op.Values _) m l to h = absurd h
+work_quiet (op.Stream _) m l to h = absurd h
+work_quiet (op.State _) m l to h = absurd h
+work_quiet (op.System _) m l to h = absurd h
+work_quiet (op.Search _) m l to h = absurd h
 
 both : (x : Machine × Out) (new : Machine) (done : Done) → costing 0 (Ok x) ≡ Ok (new, done)
     → x ≡ (new, done.out)
@@ -47,7 +66,8 @@ works_by (Restore s) n w e q = absurd q
 -- what such work did is what its row says, it told no more, and it leaves a sound machine
 pub works_ok : (w : Work) (new : Machine) (done : Done) → IsQuietWork w
     → budgeted 0 w ≡ Ok (new, done)
-    → WorkGives w new (Ok (went_of done.out)) × (StaysFit new done.out → StaysOn new (went_of done.out))
+    → WorkGives w new (Ok (went_of done.out))
+    × (StaysFit new done.out → StaysOn new (went_of done.out))
 works_ok (Free (Ok x)) new done q e =
     let same = both x new done e in
     works_by done.out new (Free (Ok x)) (ap (λ (y : Machine × Out). Free (Ok y)) same)
@@ -124,21 +144,11 @@ unfolding RunsTo
 none_runs m = refl
 
 pub none_gone : (m : Machine) → GoneOn 0 m m
-none_gone m = record {
-  runs = none_runs m;
-  fit = λ s. s;
-  kept = λ s. keeps_same m;
-  over = λ image s
-      o. o;
-}
+none_gone m =
+    record { runs = none_runs m; fit = λ s. s; kept = λ s. keeps_same m; over = λ image s o. o }
 
-runs_more : (k : ℕ) (m o n : Machine) → RunsTo k m o → row o ≡ record {
-  cost = 1;
-  gives = Ok (
-    n,
-    Ran,
-  );
-} → RunsTo (suc k) m n
+runs_more : (k : ℕ) (m o n : Machine) → RunsTo k m o
+    → row o ≡ record { cost = 1; gives = Ok (n, Ran) } → RunsTo (suc k) m n
 unfolding RunsTo
 runs_more k m o n runs e = (o, (runs, e))
 
@@ -147,31 +157,25 @@ row_is : (m : Machine) (r : Rule) → m.text ≡ Off → Tells m r
     → row m ≡ record { cost = 1; gives = r }
 row_is m r text tells = ap (λ (t : t.Text). charged (due m t)) text ∙ tells
 
+-- what one that goes on, or quits, keeps
+pub kept_behind : (k : ℕ) (m o n : Machine) (out : Out) → GoneOn k m o → Tells o (Ok (n, out))
+    → (IsSoundMachine m → KeepsImage m n)
+    × ((image : List ℕ) → IsSoundMachine m → IsOver image m → IsOver image n)
+kept_behind k m o n out g tells =
+    let does : Does (step_within 1 (charged (due o Off))) n (Ok (step_of out 1)) =
+    ap (step_within 1) tells in (
+      λ s. keeps_both m o n (g.kept s) (step_keeps 1 o n Off (Ok (step_of out 1)) does (g.fit s)),
+      λ image s v.
+          step_over image 1 o n Off (Ok (step_of out 1)) does (g.fit s) (g.over image s v),
+    )
+
 pub one_more : (k : ℕ) (m o n : Machine) → GoneOn k m o → o.text ≡ Off → Tells o (Ok (n, Ran))
     → (IsFit o → IsSoundMachine n) → GoneOn (k + 1) m n
 one_more k m o n g text tells fit =
-    let does : Does (step_within 1 (charged (due o Off))) n (Ok (step.Ran 1)) = ap (step_within 1)
-    tells in
+    let keeps = kept_behind k m o n Ran g tells in
     record {
       runs = rw (add-one k) (runs_more k m o n g.runs (row_is o (Ok (n, Ran)) text tells));
       fit = λ s. fit (fit_of o (g.fit s) text);
-      kept = λ s. keeps_both m o n (g.kept s) (step_keeps 1 o n Off (Ok (step.Ran 1)) does (g.fit
-          s));
-      over = λ image s v. step_over image 1 o n Off (Ok (step.Ran 1)) does (g.fit s) (g.over image s
-          v);
+      kept = keeps.0;
+      over = keeps.1;
     }
-
--- where the story quits, its machine keeps what others keep
-pub keeps_quit : (k : ℕ) (m o n : Machine) → GoneOn k m o → Tells o (Ok (n, Quit))
-    → IsSoundMachine m → KeepsImage m n
-keeps_quit k m o n g tells s =
-    let does : Does (step_within 1 (charged (due o Off))) n (Ok step.Quit) = ap (step_within 1)
-    tells in
-    keeps_both m o n (g.kept s) (step_keeps 1 o n Off (Ok step.Quit) does (g.fit s))
-
-pub over_quit : (k : ℕ) (m o n : Machine) → GoneOn k m o → Tells o (Ok (n, Quit)) → (image : List ℕ)
-    → IsSoundMachine m → IsOver image m → IsOver image n
-over_quit k m o n g tells image s v =
-    let does : Does (step_within 1 (charged (due o Off))) n (Ok step.Quit) = ap (step_within 1)
-    tells in
-    step_over image 1 o n Off (Ok step.Quit) does (g.fit s) (g.over image s v)

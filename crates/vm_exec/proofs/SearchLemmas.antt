@@ -1,6 +1,6 @@
 -- A search within the ticks that are left, and as its row has it.
-use Rattle.std.proofs.Common.{◌≡◌, ℕ, zero, suc, ◌^◌, Bool, true, false, cond, nat_lt}
-use Rattle.std.proofs.Common.{Option, Some, None, Result, Ok, Err, refl, ap, ◌∙◌}
+use Rattle.std.proofs.Common.{◌≡◌, ℕ, zero, suc, ◌^◌, Bool, true, false, cond, nat_lt, Option, Some}
+use Rattle.std.proofs.Common.{None, Result, Ok, Err, refl, ap, ◌∙◌}
 use Rattle.vm_memory.specs.Chaining.{◌>>=◌}
 use Rattle.vm_memory.specs.Fault.{coded}
 use Rattle.vm_memory.specs.MemoryMap.{MemoryMap, number_at}
@@ -102,4 +102,5 @@ pub linked_of : (left : ℕ) (m : Machine) (l : ℕ → ℕ) (to : Dest) (q : Qu
 linked_of left m l to q r asked told =
     rw (told, asked) (same_search left m to (linked_ends m.memory (linked_query l 0))
     (linked_ends m.memory (linked_query l left)) (is_search (linked_query l 0))
-    (λ k. ap (λ (at : ℕ). ends_at m.memory (linked_query l left) k at) (place_is m.memory l left k)))
+    (λ k. ap (λ (at : ℕ). ends_at m.memory (linked_query l left) k at)
+    (place_is m.memory l left k)))

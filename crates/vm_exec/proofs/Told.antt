@@ -1,7 +1,7 @@
 -- One tick before an opcode's work.
-use Rattle.std.proofs.Common.{◌≡◌, ℕ, ◌+◌, ◌-◌, ◌<◌, Bool, true, false, nat_lt}
-use Rattle.std.proofs.Common.{Result, Ok, Err, refl, arith, List, replicate, take}
-use Rattle.std.proofs.Common.{slice_index, Option, Some, ◌∙◌, sym, ap, subst, cond}
+use Rattle.std.proofs.Common.{◌≡◌, ℕ, ◌+◌, ◌-◌, ◌<◌, Bool, true, false, nat_lt, Result, Ok, Err}
+use Rattle.std.proofs.Common.{refl, arith, List, replicate, take, slice_index, Option, Some, ◌∙◌}
+use Rattle.std.proofs.Common.{sym, ap, subst, cond}
 use Rattle.std.proofs.lemmas.Bool.Decides.{nat_tests}
 use Rattle.vm_memory.specs.Chaining.{◌>>=◌}
 use Rattle.vm_operand.specs.Instruction.{instruction_at}
@@ -11,8 +11,8 @@ use Rattle.vm_operand.specs.declared.instruction.Instr.{Instr}
 use Rattle.vm_operand.specs.declared.operand.Dest.{Dest}
 use Rattle.vm_exec.specs.Rules.{Rule, loaded_all}
 use Rattle.vm_exec.specs.Rows.Work.{Work, Free, Costs, budgeted, costing}
-use Rattle.vm_exec.specs.Row.{charged, step_within, step_of, work_of}
-use Rattle.vm_exec.specs.Row.{work, width_of, dest_by_index, fetched}
+use Rattle.vm_exec.specs.Row.{charged, step_within, step_of, work_of, work, width_of, dest_by_index}
+use Rattle.vm_exec.specs.Row.{fetched}
 use Rattle.vm_exec.specs.declared.machine.Machine.{Machine}
 use Rattle.vm_exec.specs.declared.step.Step.{Step}
 use Rattle.vm_exec.specs.declared.step.Done.{Done}

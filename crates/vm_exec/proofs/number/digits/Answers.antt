@@ -25,20 +25,24 @@ returns-in-10000-to-99999-clause-value c =
 
 pub returns-in-100000-to-999999-clause-value : goal.returns-in-100000-to-999999-clause-value
 returns-in-100000-to-999999-clause-value c =
-    digits_are c.args.number 6 c.ranges.number.fits (grind (arith, nat_tests, c.in-100000-to-999999))
+    digits_are c.args.number 6 c.ranges.number.fits
+    (grind (arith, nat_tests, c.in-100000-to-999999))
 
 pub returns-in-1000000-to-9999999-clause-value : goal.returns-in-1000000-to-9999999-clause-value
 returns-in-1000000-to-9999999-clause-value c =
-    digits_are c.args.number 7 c.ranges.number.fits (grind (arith, nat_tests, c.in-1000000-to-9999999))
+    digits_are c.args.number 7 c.ranges.number.fits
+    (grind (arith, nat_tests, c.in-1000000-to-9999999))
 
 pub returns-in-10000000-to-99999999-clause-value : goal.returns-in-10000000-to-99999999-clause-value
 returns-in-10000000-to-99999999-clause-value c =
-    digits_are c.args.number 8 c.ranges.number.fits (grind (arith, nat_tests, c.in-10000000-to-99999999))
+    digits_are c.args.number 8 c.ranges.number.fits
+    (grind (arith, nat_tests, c.in-10000000-to-99999999))
 
 pub returns-in-100000000-to-999999999-clause-value :
     goal.returns-in-100000000-to-999999999-clause-value
 returns-in-100000000-to-999999999-clause-value c =
-    digits_are c.args.number 9 c.ranges.number.fits (grind (arith, nat_tests, c.in-100000000-to-999999999))
+    digits_are c.args.number 9 c.ranges.number.fits
+    (grind (arith, nat_tests, c.in-100000000-to-999999999))
 
 pub returns-in_default-clause-value : goal.returns-in_default-clause-value
 returns-in_default-clause-value c =

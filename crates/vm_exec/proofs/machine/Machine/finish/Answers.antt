@@ -20,11 +20,13 @@ returns-in-Stub-clause-kept_saving c = λ sound.
 
 pub returns-in-Store-clause-over : goal.returns-in-Store-clause-over
 returns-in-Store-clause-over c = λ image sound.
-    finish_over image _ _ (waiting.Store c.in-Store.to) c.args.value _ c.store.ensures.does sound.map
+    finish_over image _ _ (waiting.Store c.in-Store.to) c.args.value _ c.store.ensures.does
+    sound.map
 
 pub returns-in-Store-clause-over_saving : goal.returns-in-Store-clause-over_saving
 returns-in-Store-clause-over_saving c = λ image sound.
-    finish_over image _ _ (waiting.Store c.in-Store.to) c.args.value _ c.store.ensures.does sound.map
+    finish_over image _ _ (waiting.Store c.in-Store.to) c.args.value _ c.store.ensures.does
+    sound.map
 
 pub returns-in-Stub-clause-over : goal.returns-in-Stub-clause-over
 returns-in-Stub-clause-over c = λ image sound.

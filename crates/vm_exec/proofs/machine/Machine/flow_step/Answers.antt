@@ -39,7 +39,8 @@ returns-in_ok-fetched-in-Throw-clause-does c =
     c.in_ok-fetched-in-Throw.ensures.fetched c.throw_on.ensures.does
     (λ e. tt)
 
-pub returns-in_ok-fetched-in-Tailcall-clause-does : goal.returns-in_ok-fetched-in-Tailcall-clause-does
+pub returns-in_ok-fetched-in-Tailcall-clause-does :
+    goal.returns-in_ok-fetched-in-Tailcall-clause-does
 unfolding flow_work
 returns-in_ok-fetched-in-Tailcall-clause-does c =
     flow_goes _ _ _ _ flow.Tailcall _ _ _ c.in-Tailcall.is c.requires.here.opcode
@@ -74,7 +75,8 @@ returns-in_ok-fetched-in-Callfii-clause-does c =
     c.in_ok-fetched-in-Callfii.ensures.fetched c.call_on-in-Callfii.ensures.does
     (λ e front. c.call_on-in-Callfii.ensures.want front e)
 
-pub returns-in_ok-fetched-in-Callfiii-clause-does : goal.returns-in_ok-fetched-in-Callfiii-clause-does
+pub returns-in_ok-fetched-in-Callfiii-clause-does :
+    goal.returns-in_ok-fetched-in-Callfiii-clause-does
 unfolding flow_work
 returns-in_ok-fetched-in-Callfiii-clause-does c =
     flow_goes _ _ _ _ flow.Callfiii _ _ _ c.in-Callfiii.is c.requires.here.opcode
