@@ -1,6 +1,6 @@
 -- What is written of memory is read again.
-use Rattle.std.proofs.Common.{◌≡◌, ℕ, ◌+◌, ◌-◌, ◌^◌, ◌<◌, ◌≤◌, true, false, nat_lt}
-use Rattle.std.proofs.Common.{List, ◌++◌, length, drop, replicate, Ok, refl, arith}
+use Rattle.std.proofs.Common.{◌≡◌, ℕ, ◌+◌, ◌^◌, ◌<◌, ◌≤◌, true, false, nat_lt}
+use Rattle.std.proofs.Common.{List, ◌++◌, length, Ok, refl, arith}
 use Rattle.std.specs.Int.{w32, to_be_bytes}
 use Rattle.std.proofs.lemmas.Bool.Decides.{nat_tests}
 use Rattle.std.proofs.lemmas.List.{length-append, length-drop, length-replicate}
@@ -25,9 +25,9 @@ memory_again image ram ramstart endmem lo hi ok =
     let same : length was ≡ length ram =
     omega (
       arith,
-      length-append (drop ramstart image) (replicate (size - length image) 0),
-      length-drop ramstart image,
-      length-replicate {A = ℕ} (size - length image) 0,
+      length-append {A = ℕ},
+      length-drop {A = ℕ},
+      length-replicate {A = ℕ},
       lo,
       hi,
       limits.0,

@@ -1,8 +1,9 @@
 -- Blocks by their addresses, none of them empty or over another, have one order alone.
-use Rattle.std.proofs.Common.{◌≡◌, ℕ, zero, suc, ◌+◌, ◌-◌, ◌<◌, ◌≤◌, Bool, true}
+use Rattle.std.proofs.Common.{◌≡◌, ℕ, ◌+◌, ◌<◌, ◌≤◌, Bool, true}
 use Rattle.std.proofs.Common.{false, ◌&&◌, nat_lt, nat_le, cond, List, [], ◌∷◌}
-use Rattle.std.proofs.Common.{length, drop, refl, ap, sym, ◌∙◌, arith, IsTrue}
+use Rattle.std.proofs.Common.{length, refl, ap, sym, ◌∙◌, arith, IsTrue}
 use Rattle.std.proofs.Math.ListN.{get_or}
+use Rattle.std.proofs.lemmas.Bool.{and_parts}
 use Rattle.std.proofs.lemmas.Bool.Decides.{nat_tests}
 use Rattle.std.proofs.lemmas.List.Sorted.{IsNonDecreasingBy-drop}
 use Rattle.std.proofs.lemmas.List.Sorted.{sum_by-IsPermutation, length_permutation}
@@ -11,7 +12,6 @@ use Rattle.std.proofs.lemmas.List.Sums.{sum_by-cons}
 use Rattle.std.specs.List.{sum_by}
 use Rattle.std.specs.List.Sorted.{IsNonDecreasingBy, IsPermutation}
 use Rattle.vm_heap.specs.HeapMap.{in_order, is_heap, block_end, heap_end}
-use Rattle.std.proofs.lemmas.Grind.{common_steps}
 use Rattle.quetzal.specs.Heap.{HaveOrder, heap_fits, is_placed}
 use Rattle.vm_heap.specs.declared.block.Block.{Block}
 use Rattle.vm_heap.proofs.HeapLemmas.{none, Next, next_of, in_order-lower, is_heap-order}
@@ -35,35 +35,17 @@ measured n x = cond (nat_le x.at n) x.length 0
 abbrev earlier : ℕ → Block → ℕ
 earlier n x = cond (nat_lt x.at n) 1 0
 
-none_counted : (n from : ℕ) (bs : List Block)
-    → n < from → IsTrue (in_order from bs)
-    → total (counted n) bs ≡ 0
-none_counted n from [] lt h = refl
-none_counted n from (b ∷ bs) lt h =
+-- in order from an address on, behind which no block has any
+none_from : (f : Block → ℕ) (from : ℕ) (bs : List Block)
+    → ((b : Block) → from ≤ b.at → f b ≡ 0) → IsTrue (in_order from bs)
+    → total f bs ≡ 0
+none_from f from [] nothing h = refl
+none_from f from (b ∷ bs) nothing h =
     let x : Next from b bs = next_of from b bs h in
-    let above : nat_le b.at n ≡ false = grind (arith, nat_tests, x.above) in
-    let rest = none_counted n (block_end b) bs (omega (arith, x.above, lt)) x.rest in
-    rw above (omega (arith, rest))
-
-none_measured : (n from : ℕ) (bs : List Block)
-    → n < from → IsTrue (in_order from bs)
-    → total (measured n) bs ≡ 0
-none_measured n from [] lt h = refl
-none_measured n from (b ∷ bs) lt h =
-    let x : Next from b bs = next_of from b bs h in
-    let above : nat_le b.at n ≡ false = grind (arith, nat_tests, x.above) in
-    let rest = none_measured n (block_end b) bs (omega (arith, x.above, lt)) x.rest in
-    rw above (omega (arith, rest))
-
-none_earlier : (n from : ℕ) (bs : List Block)
-    → n ≤ from → IsTrue (in_order from bs)
-    → total (earlier n) bs ≡ 0
-none_earlier n from [] le h = refl
-none_earlier n from (b ∷ bs) le h =
-    let x : Next from b bs = next_of from b bs h in
-    let above : nat_lt b.at n ≡ false = grind (arith, nat_tests, x.above) in
-    let rest = none_earlier n (block_end b) bs (omega (arith, x.above, le)) x.rest in
-    rw above (omega (arith, rest))
+    let here = nothing b x.above in
+    let rest =
+    none_from f (block_end b) bs (λ c le. nothing c (omega (arith, x.above, le))) x.rest in
+    omega (arith, here, rest)
 
 -- blocks whose addresses don't fall, the first of them behind n
 none_before : (n : ℕ) (bs : List Block)
@@ -103,17 +85,26 @@ same_head : (from : ℕ) (c b : Block) (cs bs : List Block) → IsNonDecreasingB
     → Alike (c ∷ cs) (b ∷ bs) → IsTrue (in_order from (b ∷ bs)) → c ≡ b
 same_head from c b cs bs up alike h =
     let x : Next from b bs = next_of from b bs h in
-    let behind : b.at < block_end b = omega (arith, x.filled) in
+    let behind : (d : Block) → block_end b ≤ d.at → nat_le d.at b.at ≡ false =
+    λ d le. grind (arith, nat_tests, le, x.filled) in
+    let later : (d : Block) → block_end b ≤ d.at → nat_lt d.at b.at ≡ false =
+    λ d le. grind (arith, nat_tests, le) in
     let self : nat_le b.at b.at ≡ true = grind (arith, nat_tests) in
     let not-before : nat_lt b.at b.at ≡ false = grind (arith, nat_tests) in
     let one : total (counted b.at) (c ∷ cs) ≡ 1 =
-    alike (counted b.at) ∙ rw (self, none_counted b.at (block_end b) bs behind x.rest) refl in
+    alike (counted b.at)
+    ∙ rw (self, none_from (counted b.at) (block_end b) bs (λ d le. rw (behind d le) refl) x.rest)
+    refl in
     let none-less : total (earlier b.at) (c ∷ cs) ≡ 0 =
     alike (earlier b.at)
-    ∙ rw (not-before, none_earlier b.at (block_end b) bs (omega arith) x.rest) refl in
+    ∙ rw (
+      not-before,
+      none_from (earlier b.at) (block_end b) bs (λ d le. rw (later d le) refl) x.rest,
+    ) refl in
     let long : total (measured b.at) (c ∷ cs) ≡ b.length =
     alike (measured b.at)
-    ∙ rw (self, none_measured b.at (block_end b) bs behind x.rest) (omega arith) in
+    ∙ rw (self, none_from (measured b.at) (block_end b) bs (λ d le. rw (behind d le) refl) x.rest)
+    (omega arith) in
     let least : b.at ≤ c.at = low (nat_lt c.at b.at) refl none-less in
     let most : c.at ≤ b.at = high (nat_le c.at b.at) refl one in
     let at-is : c.at ≡ b.at = omega arith in
@@ -158,14 +149,6 @@ same_order from s t up order h =
     same_alike from s t (length_permutation t s order) up
     (λ f. sym (total-sum f s) ∙ sum_by-IsPermutation f t s order ∙ total-sum f t) h
 
-pub and_left : (a b : Bool) → (a && b) ≡ true → a ≡ true
-and_left true b h = refl
-and_left false b h = absurd (grind (arith, h))
-
-pub and_right : (a b : Bool) → (a && b) ≡ true → b ≡ true
-and_right true b h = h
-and_right false b h = absurd (grind (arith, h))
-
 pub fits-filled : (endmem size start : ℕ) (bs : List Block)
     → 0 < length bs → is_heap start bs ≡ true
     → heap_fits endmem size start bs ≡ is_placed endmem size start (heap_end bs)
@@ -177,8 +160,18 @@ pub fits-order : (endmem size start : ℕ) (bs : List Block) → heap_fits endme
     → IsTrue (in_order 0 bs)
 fits-order endmem size start [] h = refl
 fits-order endmem size start (b ∷ bs) h =
-    let heap : is_heap start (b ∷ bs) ≡ true = and_left _ _ h in
+    let heap : is_heap start (b ∷ bs) ≡ true = (and_parts _ _ h).0 in
     in_order-lower (b ∷ bs) 0 start (omega arith) (is_heap-order start (b ∷ bs) heap)
+
+-- blocks that fit in some order are these, where these rise
+pub only_order : (endmem size start : ℕ) (pairs blocks s : List Block)
+    → IsNonDecreasingBy (λ b. b.at) s
+    → HaveOrder endmem size start pairs blocks
+    → IsPermutation pairs s → s ≡ blocks
+only_order endmem size start pairs blocks s up have order =
+    same_order 0 s blocks up
+    (IsPermutation-trans blocks pairs s (IsPermutation-sym pairs blocks have.order) order)
+    (fits-order endmem size start blocks have.fits)
 
 -- blocks by their addresses that don't fit have no order that does
 pub one_order : (endmem size start : ℕ) (pairs blocks s : List Block)
@@ -187,9 +180,6 @@ pub one_order : (endmem size start : ℕ) (pairs blocks s : List Block)
     → IsPermutation pairs s
     → heap_fits endmem size start s ≡ false → ⊥
 one_order endmem size start pairs blocks s up have order bad =
-    let between : IsPermutation blocks s =
-    IsPermutation-trans blocks pairs s (IsPermutation-sym pairs blocks have.order) order in
-    let same : s ≡ blocks =
-    same_order 0 s blocks up between (fits-order endmem size start blocks have.fits) in
+    let same = only_order endmem size start pairs blocks s up have order in
     let both : true ≡ false = sym have.fits ∙ ap (heap_fits endmem size start) (sym same) ∙ bad in
     grind (arith, both)

@@ -1,12 +1,11 @@
 -- What a reader's parts answer, put together.
-use Rattle.std.proofs.Common.{◌≡◌, ◌≢◌, ℕ, ◌+◌, ◌-◌, ◌%◌, ◌<◌, ◌≤◌, Bool, true, false, ◌&&◌}
-use Rattle.std.proofs.Common.{List, [], ◌∷◌, ◌++◌, length, take, drop, replicate, Option}
-use Rattle.std.proofs.Common.{Result, Ok, Err, refl, ap, sym, subst, ◌∙◌, arith, IsTrue}
-use Rattle.quetzal.proofs.OrderLemmas.{and_left, and_right}
+use Rattle.std.proofs.Common.{◌≡◌, ℕ, ◌+◌, ◌-◌, ◌%◌, ◌≤◌, true}
+use Rattle.std.proofs.Common.{List, [], ◌∷◌, ◌++◌, length, take, replicate}
+use Rattle.std.proofs.Common.{Result, Ok, Err, refl, sym, subst, ◌∙◌, arith}
+use Rattle.std.proofs.lemmas.Bool.{and_parts}
 use Rattle.std.proofs.lemmas.Bool.Decides.{nat_tests}
-use Rattle.std.proofs.lemmas.Grind.{common_steps}
 use Rattle.std.proofs.lemmas.List.{length-append, length-take, length-replicate}
-use Rattle.glulx_image.specs.Header.{IsLaidOut, ramstart, extstart, endmem, stack_size}
+use Rattle.glulx_image.specs.Header.{IsLaidOut, ramstart, extstart, endmem}
 use Rattle.vm_heap.specs.HeapMap.{is_heap, heap_end}
 use Rattle.vm_heap.specs.declared.block.Block.{Block}
 use Rattle.vm_memory.specs.MemoryMap.{original}
@@ -14,11 +13,11 @@ use Rattle.vm_undo.specs.SavedState.{IsHeapOver}
 use Rattle.vm_undo.specs.declared.saved.Saved.{Saved}
 use Rattle.quetzal.specs.Chunks.{Pieces}
 use Rattle.quetzal.specs.Fault.{FailsOnSave}
-use Rattle.quetzal.specs.Heap.{IsHeapIn, ReadsHeap, heap_fits, is_placed}
+use Rattle.quetzal.specs.Heap.{ReadsHeap, heap_fits, is_placed}
 use Rattle.quetzal.specs.Memory.{is_size}
-use Rattle.quetzal.specs.Save.{rom, image_memory, memory_loaded, identity, ram_in}
-use Rattle.quetzal.specs.Save.{origin, IsStackOf, RefusesSave, IsStateIn, IsStateOf}
-use Rattle.quetzal.specs.Save.{HasNoHeap, ReadsHeapOf, ReadsStack, ReadsMemory, ReadsStory}
+use Rattle.quetzal.specs.Save.{rom, memory_loaded, identity, ram_in}
+use Rattle.quetzal.specs.Save.{IsStackOf, RefusesSave, IsStateIn, IsStateOf}
+use Rattle.quetzal.specs.Save.{ReadsHeapOf, ReadsStack, ReadsMemory, ReadsStory}
 use Rattle.quetzal.specs.declared.fault.SaveFault.{SaveFault}
 use Rattle.quetzal.specs.declared.fault.SaveFault.TheVariants.{NotSave, Cut, OtherStory, BadRuns}
 use Rattle.quetzal.specs.declared.fault.SaveFault.TheVariants.{BadStack, BadHeap, NoMemory}
@@ -92,27 +91,10 @@ length-loaded image ram lo hi end =
     let size = ramstart image + length ram in
     let all = original (rom image) (endmem image) in
     let one : length all ≡ endmem image =
-    omega (
-      arith,
-      length-append (rom image) (replicate (endmem image - length (rom image)) 0),
-      length-replicate {A = ℕ} (endmem image - length (rom image)) 0,
-      hi,
-    ) in
+    omega (arith, length-append {A = ℕ}, length-replicate {A = ℕ}, hi) in
     let two : length (take size all ++ replicate (size - length all) 0) ≡ size =
-    omega (
-      arith,
-      length-append (take size all) (replicate (size - length all) 0),
-      length-take size all,
-      length-replicate {A = ℕ} (size - length all) 0,
-      one,
-      end,
-    ) in
-    omega (
-      arith,
-      length-append (take (ramstart image) (take size all ++ replicate (size - length all) 0)) ram,
-      length-take (ramstart image) (take size all ++ replicate (size - length all) 0),
-      two,
-    )
+    omega (arith, length-append {A = ℕ}, length-take {A = ℕ}, length-replicate {A = ℕ}, one, end) in
+    omega (arith, length-append {A = ℕ}, length-take {A = ℕ}, two)
 
 over_of : (end size start : ℕ) (bs : List Block)
     → end % 256 ≡ 0 → heap_fits end size start bs ≡ true
@@ -126,11 +108,11 @@ over_of end size start [] page h =
       ends = λ l. absurd (omega arith);
     })
 over_of end size start (b ∷ bs) page h =
-    let is = and_left (is_heap start (b ∷ bs)) _ h in
-    let placed : is_placed end size start (heap_end (b ∷ bs)) ≡ true =
-    and_right (is_heap start (b ∷ bs)) (is_placed end size start (heap_end (b ∷ bs))) h in
+    let both =
+    and_parts (is_heap start (b ∷ bs)) (is_placed end size start (heap_end (b ∷ bs))) h in
+    let placed : is_placed end size start (heap_end (b ∷ bs)) ≡ true = both.1 in
     record {
-      heap = is;
+      heap = both.0;
       page = grind (arith, nat_tests, placed);
       least = λ l. grind (arith, nat_tests, placed);
       ends = λ l. grind (arith, nat_tests, placed);

@@ -1,12 +1,11 @@
 -- Values that the formats give, so that a wrong rule in the specs doesn't check.
-use Rattle.std.specs.Prelude.{◌≡◌, ◌++◌, refl, List, [], ◌∷◌, codes}
-use Rattle.std.specs.Prelude.{replicate, length, Some, None, false}
-use Rattle.vm_heap.specs.declared.block.Block.{Block}
+use Rattle.std.specs.Prelude.{◌≡◌, ◌++◌, refl, [], ◌∷◌, codes}
+use Rattle.std.specs.Prelude.{replicate, Some, None, false}
 use Rattle.quetzal.specs.Chunks.{name}
-use Rattle.quetzal.specs.Heap.{heap_fits, heap_listed}
+use Rattle.quetzal.specs.Heap.{heap_listed}
 use Rattle.quetzal.specs.Memory.{print_memory}
 use Rattle.quetzal.specs.Printing.{chunk}
-use Rattle.quetzal.specs.Runs.{runs_coded, differences, runs_decoded, zeros}
+use Rattle.quetzal.specs.Runs.{runs_coded, runs_decoded, zeros}
 
 pub letters : name (codes "CMem") ≡ 0x434D656D
 letters = refl

@@ -1,11 +1,12 @@
 -- What a reader answers is the state that the bytes spell.
-use Rattle.std.proofs.Common.{◌≡◌, ◌≢◌, ℕ, zero, suc, ◌+◌, ◌<◌, ◌≤◌, Bool, true, false, ◌&&◌}
-use Rattle.std.proofs.Common.{nat_le, nat_lt, cond, List, [], ◌∷◌, ◌++◌, length, Option, Some}
-use Rattle.std.proofs.Common.{None, Result, Ok, Err, refl, ap, sym, subst, ◌∙◌, arith, IsTrue}
+use Rattle.std.proofs.Common.{◌≡◌, ℕ, zero, suc, ◌+◌, ◌<◌, ◌≤◌, Bool, true, false}
+use Rattle.std.proofs.Common.{nat_le, nat_lt, cond, List, [], ◌∷◌, length, Option, Some}
+use Rattle.std.proofs.Common.{None, Result, Ok, Err, refl, ap, sym, subst, ◌∙◌, arith}
 use Rattle.std.proofs.Math.ListN.{get_or}
+use Rattle.std.proofs.lemmas.Bool.{and_parts}
 use Rattle.std.proofs.lemmas.Bool.Decides.{nat_tests}
 use Rattle.std.proofs.lemmas.List.Sorted.{IsNonDecreasingBy-from_all_adjacent, IsPermutation-refl}
-use Rattle.std.proofs.lemmas.List.Sorted.{IsPermutation-sym, IsPermutation-trans}
+use Rattle.std.proofs.lemmas.List.Sorted.{IsPermutation-trans}
 use Rattle.std.proofs.lemmas.List.Sorted.{IsPermutation-cons, IsPermutation-middle}
 use Rattle.std.proofs.lemmas.Slice.Eq.{bytes_eq-Decides}
 use Rattle.std.specs.List.Sorted.{IsNonDecreasingBy, IsPermutation}
@@ -13,22 +14,22 @@ use Rattle.std.specs.Str.{bytes_eq}
 use Rattle.glulx_image.specs.Header.{IsLaidOut, ramstart, endmem, stack_size}
 use Rattle.vm_heap.specs.Allocation.{with_block}
 use Rattle.vm_heap.specs.declared.block.Block.{Block}
-use Rattle.vm_stack.specs.Saved.{SavedStack}
 use Rattle.vm_stack.specs.SavedTest.{is_saved_stack}
 use Rattle.vm_stack.proofs.SavedTests.{saved_decided}
 use Rattle.vm_undo.specs.declared.saved.Saved.{Saved}
 use Rattle.quetzal.specs.Chunks.{Pieces, parts_of}
-use Rattle.quetzal.specs.Heap.{HaveOrder, IsHeapIn, heap_fits, heap_listed}
-use Rattle.quetzal.specs.Save.{identity, memory_loaded, ram_in, IsStackOf, RefusesSave}
-use Rattle.quetzal.specs.Save.{IsStateIn, HasNoHeap, ReadsSave, ReadsHeapOf}
+use Rattle.quetzal.specs.Heap.{IsHeapIn, heap_fits, heap_listed}
+use Rattle.quetzal.specs.Save.{identity, ram_in, IsStackOf, RefusesSave}
+use Rattle.quetzal.specs.Save.{IsStateIn, IsStateOf, HasNoHeap, ReadsSave, ReadsHeapOf}
 use Rattle.quetzal.specs.Save.{ReadsStack, ReadsMemory, ReadsStory, ReadsParts, canon}
+use Rattle.quetzal.specs.Save.{GivesState, SaveIsReadAs}
 use Rattle.quetzal.specs.State.{FindsState, by_address, heap_in_chunk, is_stack_of}
 use Rattle.quetzal.specs.State.{state_in, state_of, state_over, state_with}
 use Rattle.quetzal.specs.declared.fault.SaveFault.{SaveFault}
 use Rattle.quetzal.specs.declared.fault.SaveFault.TheVariants.{NotSave, Cut, OtherStory, BadRuns}
 use Rattle.quetzal.specs.declared.fault.SaveFault.TheVariants.{BadStack, BadHeap, NoMemory}
-use Rattle.quetzal.specs.Returns.{GivesStateBack}
-use Rattle.quetzal.proofs.OrderLemmas.{and_left, and_right, fits-order, same_order}
+use Rattle.quetzal.specs.Returns.{HasRom, GivesStateBack}
+use Rattle.quetzal.proofs.OrderLemmas.{only_order}
 use Rattle.quetzal.proofs.WriteLemmas.{written_reads}
 
 -- ---- blocks by their addresses
@@ -37,10 +38,6 @@ use Rattle.quetzal.proofs.WriteLemmas.{written_reads}
 abbrev Up : ℕ → List Block → Type 0
 Up n [] = Unit {0}
 Up n (b ∷ bs) = (n ≤ b.at) × Up b.at bs
-
-up_lower : (n m : ℕ) (bs : List Block) → n ≤ m → Up m bs → Up n bs
-up_lower n m [] le u = tt
-up_lower n m (b ∷ bs) le u = (let h = u.0 in omega (arith, le, h), u.1)
 
 put-up : (n : ℕ) (x b : Block) (bs : List Block) (t : Bool)
     → nat_lt x.at b.at ≡ t → n ≤ x.at → n ≤ b.at → Up b.at bs
@@ -90,28 +87,16 @@ by_address-order (b ∷ bs) =
     (IsPermutation-cons b bs (by_address bs) (by_address-order bs))
     (with_block-order b (by_address bs))
 
--- blocks that fit in some order fit by their addresses
-one_order : (endmem size start : ℕ) (pairs blocks : List Block)
-    → HaveOrder endmem size start pairs blocks
-    → by_address pairs ≡ blocks
-one_order endmem size start pairs blocks have =
-    same_order 0 (by_address pairs) blocks (by_address-rises pairs)
-    (IsPermutation-trans blocks pairs (by_address pairs) (IsPermutation-sym pairs blocks have.order)
-    (by_address-order pairs))
-    (fits-order endmem size start blocks have.fits)
-
 -- ---- the heap
 
 heap_found : (end size : ℕ) (chunk : Option (List ℕ)) (start : ℕ) (blocks : List Block)
     → IsHeapIn end size chunk start blocks
     → heap_in_chunk end size (heap_listed chunk) ≡ Some (start, blocks)
 heap_found end size chunk start blocks h =
-    let same : by_address h.pairs ≡ blocks = one_order end size start h.pairs blocks h.order in
-    ap (heap_in_chunk end size) h.listed
-    ∙ (ap (λ (bs : List Block).
-    cond {A = Option (ℕ × List Block)} (heap_fits end size start bs) (Some (start, bs)) None) same
-    ∙ ap (λ (t : Bool). cond {A = Option (ℕ × List Block)} t (Some (start, blocks)) None)
-    h.order.fits)
+    let same : by_address h.pairs ≡ blocks =
+    only_order end size start h.pairs blocks (by_address h.pairs) (by_address-rises h.pairs) h.order
+    (by_address-order h.pairs) in
+    rw (h.listed, same, h.order.fits) refl
 
 heap_missing_by : (end size start : ℕ) (bs : List Block) (t : Bool)
     → heap_fits end size start bs ≡ t
@@ -173,25 +158,19 @@ stack_yes : (image bytes : List ℕ)
     → IsLaidOut image → is_stack_of image bytes ≡ true
     → IsStackOf image bytes
 stack_yes image bytes laid e =
-    let within : nat_le (length bytes) (stack_size image) ≡ true =
-    and_left (nat_le (length bytes) (stack_size image)) (is_saved_stack bytes) e in
+    let both = and_parts (nat_le (length bytes) (stack_size image)) (is_saved_stack bytes) e in
+    let within : nat_le (length bytes) (stack_size image) ≡ true = both.0 in
     let size : length bytes ≤ stack_size image = grind (arith, nat_tests, within) in
     let most = laid.stack_limit in
-    record {
-      frames =
-          (saved_decided bytes (omega (arith, size, most))).0
-          (and_right (nat_le (length bytes) (stack_size image)) (is_saved_stack bytes) e);
-      size = size;
-    }
+    record { frames = (saved_decided bytes (omega (arith, size, most))).0 both.1; size = size }
 
 stack_no : (image bytes : List ℕ)
     → IsLaidOut image → is_stack_of image bytes ≡ false
     → IsStackOf image bytes → ⊥
 stack_no image bytes laid e s =
-    let size : nat_le (length bytes) (stack_size image) ≡ true =
-    (let h = s.size in grind (arith, nat_tests, h)) in
     let most = laid.stack_limit in
     let within = s.size in
+    let size : nat_le (length bytes) (stack_size image) ≡ true = grind (arith, nat_tests, within) in
     let test : is_saved_stack bytes ≡ true =
     (saved_decided bytes (omega (arith, within, most))).1 s.frames in
     let both : is_stack_of image bytes ≡ true = rw (size, test) refl in
@@ -246,3 +225,23 @@ reader_finds image bytes result laid h = parts_finds image (parts_of bytes) resu
 pub state_given_back : GivesStateBack
 state_given_back image s laid is kept =
     reader_finds image (canon image s) (Ok s) laid (written_reads image s laid is kept)
+
+gives : (s : Saved) (result : Result Saved SaveFault)
+    → FindsState (Some s) result → GivesState s result
+gives s (Ok t) h = ap (or_else s) (sym h) where
+  or_else : Saved → Option Saved → Saved
+  or_else d None = d
+  or_else d (Some t) = t
+gives s (Err NoMemory) h = refl
+gives s (Err NotSave) h = absurd (grind (arith, h))
+gives s (Err Cut) h = absurd (grind (arith, h))
+gives s (Err OtherStory) h = absurd (grind (arith, h))
+gives s (Err BadRuns) h = absurd (grind (arith, h))
+gives s (Err BadStack) h = absurd (grind (arith, h))
+gives s (Err BadHeap) h = absurd (grind (arith, h))
+
+pub read_back : (image : List ℕ) (s : Saved)
+    → IsLaidOut image → IsStateOf image s → HasRom s.memory → SaveIsReadAs image (canon image s) s
+read_back image s laid is kept result h =
+    gives s result (subst (λ found. FindsState found result) (state_given_back image s laid is kept)
+    (reader_finds image (canon image s) result laid h))

@@ -1,46 +1,37 @@
 -- What is written of a state fits a form, and is read as that state alone.
-use Rattle.std.proofs.Common.{◌≡◌, ◌≢◌, ℕ, zero, suc, ◌+◌, ◌-◌, ◌*◌, ◌/◌, ◌%◌, ◌^◌, ◌<◌, ◌≤◌, Bool}
+use Rattle.std.proofs.Common.{◌≡◌, ℕ, zero, suc, ◌+◌, ◌-◌, ◌*◌, ◌/◌, ◌%◌, ◌^◌, ◌<◌, ◌≤◌, Bool}
 use Rattle.std.proofs.Common.{true, false, ◌&&◌, ◌==◌, nat_le, cond, List, [], ◌∷◌, ◌++◌, length}
-use Rattle.std.proofs.Common.{take, drop, replicate, Option, Some, None, Result, Ok, Err, refl}
-use Rattle.std.proofs.Common.{ap, sym, subst, ◌∙◌, append_assoc, take-append-drop, arith, IsTrue}
-use Rattle.std.proofs.Math.ListN.{get_or}
+use Rattle.std.proofs.Common.{take, replicate, Some, Ok, refl}
+use Rattle.std.proofs.Common.{ap, sym, subst, ◌∙◌, take-append-drop, arith, IsTrue}
 use Rattle.std.proofs.lemmas.Bool.Decides.{nat_tests}
-use Rattle.std.proofs.lemmas.Grind.{common_steps}
-use Rattle.std.proofs.lemmas.List.{append-nil, length-append, length-take, length-drop}
-use Rattle.std.proofs.lemmas.List.{length-replicate, take-append-le, take-take}
-use Rattle.std.proofs.lemmas.List.Sorted.{IsNonDecreasingBy-from_all_adjacent}
-use Rattle.std.proofs.lemmas.List.Sorted.{IsPermutation-refl, IsPermutation-sym}
+use Rattle.std.proofs.lemmas.List.{length-append, length-take, length-drop}
+use Rattle.std.proofs.lemmas.List.{take-append-le, take-take}
+use Rattle.std.proofs.lemmas.List.Sorted.{IsPermutation-refl}
 use Rattle.std.specs.Int.{w32, to_be_bytes}
-use Rattle.std.specs.Int.RustNames.{bit_xor}
-use Rattle.std.specs.List.Sorted.{IsNonDecreasingBy, IsPermutation}
 use Rattle.vm_heap.specs.HeapMap.{in_order, is_heap, heap_end, block_end}
 use Rattle.vm_heap.specs.declared.block.Block.{Block}
-use Rattle.vm_heap.proofs.HeapLemmas.{none, Next, next_of, in_order-limit}
-use Rattle.vm_heap.proofs.HeapLemmas.{is_heap-order, in_order-lower, positive}
+use Rattle.vm_heap.proofs.HeapLemmas.{Next, next_of, in_order-limit}
+use Rattle.vm_heap.proofs.HeapLemmas.{is_heap-order, positive}
 use Rattle.quetzal.specs.Runs.{differences, pairs, last_run, zeros, runs_coded}
 use Rattle.glulx_image.specs.Header.{word}
-use Rattle.glulx_image.specs.Header.{IsLaidOut, ramstart, extstart, endmem, stack_size}
+use Rattle.glulx_image.specs.Header.{IsLaidOut, ramstart, extstart, endmem}
 use Rattle.vm_memory.specs.Chaining.{◌>>=◌}
-use Rattle.vm_memory.specs.MemoryMap.{MemoryMap, KeepsRom, origin_of}
-use Rattle.vm_memory.specs.MemoryMap.{original, ram_of, resized, with_ram}
+use Rattle.vm_memory.specs.MemoryMap.{MemoryMap, origin_of}
+use Rattle.vm_memory.specs.MemoryMap.{original, ram_of}
 use Rattle.vm_undo.specs.SavedState.{IsHeapOver, IsSize}
 use Rattle.vm_undo.specs.declared.saved.Saved.{Saved}
 use Rattle.quetzal.specs.Chunks.{Pieces, parts_of}
-use Rattle.quetzal.specs.Heap.{HaveOrder, IsHeapIn, block_bytes, blocks_in}
+use Rattle.quetzal.specs.Heap.{IsHeapIn, block_bytes, blocks_in}
 use Rattle.quetzal.specs.Heap.{heap_fits, is_without, heap_listed, print_heap}
 use Rattle.quetzal.specs.Memory.{is_size, first_ram as original_ram, print_memory}
-use Rattle.quetzal.specs.Printing.{padding, chunk, heap_chunk, chunks_of, print_save}
-use Rattle.quetzal.specs.Save.{rom, image_memory, memory_loaded, identity, ram_in, origin}
-use Rattle.quetzal.specs.Save.{canon, IsStackOf, RefusesSave, IsStateIn, IsStateOf}
-use Rattle.quetzal.specs.Save.{HasNoHeap, ReadsSave, ReadsHeapOf, ReadsStack, ReadsMemory}
-use Rattle.quetzal.specs.Save.{ReadsStory, ReadsParts, GivesState, SaveIsReadAs}
-use Rattle.quetzal.specs.Returns.{HasRom, GivesMemoryBack, GivesStateBack}
-use Rattle.quetzal.specs.declared.fault.SaveFault.{SaveFault}
-use Rattle.quetzal.specs.declared.fault.SaveFault.TheVariants.{NotSave, Cut, OtherStory, BadRuns}
-use Rattle.quetzal.specs.declared.fault.SaveFault.TheVariants.{BadStack, BadHeap, NoMemory}
+use Rattle.quetzal.specs.Printing.{chunk, heap_chunk, chunks_of}
+use Rattle.quetzal.specs.Save.{rom, memory_loaded, identity, ram_in, origin}
+use Rattle.quetzal.specs.Save.{canon, IsStateIn, IsStateOf}
+use Rattle.quetzal.specs.Save.{ReadsSave, ReadsStack, ReadsMemory}
+use Rattle.quetzal.specs.Save.{ReadsParts}
+use Rattle.quetzal.specs.Returns.{HasRom, GivesMemoryBack}
 use Rattle.quetzal.proofs.MemoryLemmas.{word_again, memory_again}
-use Rattle.quetzal.proofs.OrderLemmas.{fits-order, same_order}
-use Rattle.quetzal.proofs.PrintLemmas.{length-chunk, reads_printed}
+use Rattle.quetzal.proofs.PrintLemmas.{reads_printed}
 
 -- ---- lengths
 
@@ -87,38 +78,11 @@ in_order-count from (b ∷ bs) h =
     let x : Next from b bs = next_of from b bs h in
     let rest = in_order-count (block_end b) bs x.rest in omega (arith, x.above, x.filled, rest)
 
--- ---- blocks in order
-
-rises : (from : ℕ) (bs : List Block)
-    → IsTrue (in_order from bs) → (k : ℕ) (d : Block)
-    → k + 1 < length bs
-    → (get_or bs k d).at ≤ (get_or bs (k + 1) d).at
-rises from [] h k d lt = absurd (omega arith)
-rises from (b ∷ []) h k d lt = absurd (omega arith)
-rises from (b ∷ c ∷ bs) h zero d lt =
-    let x : Next from b (c ∷ bs) = next_of from b (c ∷ bs) h in
-    let y : Next (block_end b) c bs = next_of (block_end b) c bs x.rest in
-    omega (arith, x.filled, y.above)
-rises from (b ∷ c ∷ bs) h (suc k) d lt =
-    let x : Next from b (c ∷ bs) = next_of from b (c ∷ bs) h in
-    let moved : suc k + 1 ≡ suc (k + 1) = omega arith in
-    subst (λ i. (get_or (c ∷ bs) k d).at ≤ (get_or (b ∷ c ∷ bs) i d).at) (sym moved)
-    (rises (block_end b) (c ∷ bs) x.rest k d (omega (arith, lt)))
-
-pub in_order-rises : (from : ℕ) (bs : List Block)
-    → IsTrue (in_order from bs)
-    → IsNonDecreasingBy (λ b. b.at) bs
-in_order-rises from bs h = IsNonDecreasingBy-from_all_adjacent (λ b. b.at) bs (rises from bs h)
-
 -- ---- the heap that is written is listed again
 
 length-block_bytes : (bs : List Block) → length (block_bytes bs) ≡ 8 * length bs
 length-block_bytes [] = refl
 length-block_bytes (b ∷ bs) = let rest = length-block_bytes bs in omega (arith, rest)
-
-same_block : (at len : ℕ) (b : Block) (xs ys : List Block) → at ≡ b.at → len ≡ b.length → xs ≡ ys
-    → record { at = at; length = len } ∷ xs ≡ b ∷ ys
-same_block at len b xs ys e f g = rw (e, f, g) refl
 
 blocks_again : (from : ℕ) (bs : List Block) → IsTrue (in_order from bs)
     → blocks_in (length bs) (block_bytes bs) ≡ bs
@@ -134,8 +98,7 @@ blocks_again from (b ∷ bs) h =
     word_again b.length (block_bytes bs) (omega (arith, limit)) in
     let rest : blocks_in (length bs) (block_bytes bs) ≡ bs = blocks_again (block_end b) bs x.rest in
     ap (λ (k : ℕ). blocks_in k (block_bytes (b ∷ bs))) one
-    ∙ same_block (word (block_bytes (b ∷ bs)) 0)
-    (word (block_bytes (b ∷ bs)) 4) b _ bs first second rest
+    ∙ rw (first, second, rest) refl
 
 pub listed_again : (start : ℕ) (bs : List Block) → start < 2 ^ 32 → IsTrue (is_heap start bs)
     → heap_listed (print_heap start bs) ≡ Some (start, bs)
@@ -161,12 +124,6 @@ listed_again start (b ∷ bs) fits h =
       no_zero true true d e = e
       no_zero true false d e = refl
       no_zero false c d e = refl
-
-some_back : {A : Type 0} {x y : A} → Some x ≡ Some y → x ≡ y
-some_back {A} {x} {y} e = ap (λ (o : Option A). or_else x o) e where
-  or_else : A → Option A → A
-  or_else d None = d
-  or_else d (Some z) = z
 
 -- ---- the state that is written is the one that is read
 
@@ -225,11 +182,8 @@ length-padding n false = omega arith
 chunk-most : (name : ℕ) (contents : List ℕ) → length (chunk name contents) ≤ 9 + length contents
 unfolding chunk
 chunk-most name contents =
-    omega (
-      arith,
-      length-append contents (padding (length contents)),
-      length-padding (length contents) (length contents % 2 == 1),
-    )
+    let n = length contents in
+    omega (arith, length-append {A = ℕ}, length-padding n (n % 2 == 1))
 
 heap-most : (start : ℕ) (bs : List Block) → IsTrue (is_heap start bs)
     → length (heap_chunk (print_heap start bs)) ≤ 134217800
@@ -251,26 +205,15 @@ pub save_fits : (image : List ℕ) (s : Saved) → IsLaidOut image → IsStateOf
     < 2 ^ 32
 save_fits image s laid is =
     let z = state_sizes image s laid is in
-    let h = heap_chunk (print_heap s.heap_start s.heap) in
-    let memory = print_memory (rom image) (ramstart image) (ram_of s.memory) in
-    let r2 = chunk 0x53746B73 s.stack ++ h in
-    let r1 = chunk 0x434D656D memory ++ r2 in
     let was =
     original_ram (rom image) (ramstart image) (ramstart image + length (ram_of s.memory)) in
     let coding = length-coded 0 (differences was (ram_of s.memory)) in
     let changes = length-differences was (ram_of s.memory) in
     let limit : length s.memory.bytes ≤ 16777216 = is.saved.saved.size.limit in
-    let l1 = length-append (chunk 0x49466864 (identity image)) r1 in
-    let l2 = length-append (chunk 0x434D656D memory) r2 in
-    let l3 = length-append (chunk 0x53746B73 s.stack) h in
     omega (
       arith,
-      l1,
-      l2,
-      l3,
-      chunk-most 0x49466864 (identity image),
-      chunk-most 0x434D656D memory,
-      chunk-most 0x53746B73 s.stack,
+      length-append {A = ℕ},
+      chunk-most,
       heap-most s.heap_start s.heap is.saved.saved.heap.heap,
       length-take 128 image,
       coding,
@@ -279,25 +222,6 @@ save_fits image s laid is =
       limit,
       is.size,
       laid.stack_limit,
-    )
-
-heap_back : (image : List ℕ) (size : ℕ) (s : Saved) (start : ℕ) (blocks : List Block)
-    → s.heap_start < 2 ^ 32
-    → IsTrue (is_heap s.heap_start s.heap)
-    → IsHeapIn (endmem image) size (print_heap s.heap_start s.heap) start blocks
-    → (start ≡ s.heap_start) × (blocks ≡ s.heap)
-heap_back image size s start blocks small heap is =
-    let again = listed_again s.heap_start s.heap small heap in
-    let both : (s.heap_start, s.heap) ≡ (start, is.pairs) = some_back (sym again ∙ is.listed) in
-    let start-is : s.heap_start ≡ start = ap (λ p. p.0) both in
-    let pairs-is : s.heap ≡ is.pairs = ap (λ p. p.1) both in
-    let order : IsPermutation s.heap blocks =
-    subst (λ xs. IsPermutation xs blocks) (sym pairs-is) is.order.order in (
-      sym start-is,
-      sym (same_order 0 s.heap blocks
-          (in_order-rises s.heap_start s.heap (is_heap-order s.heap_start s.heap heap))
-          (IsPermutation-sym s.heap blocks order)
-          (fits-order (endmem image) size start blocks is.order.fits)),
     )
 
 front_of : (n size : ℕ) (file bytes tail : List ℕ) → n ≤ length file → n ≤ size
@@ -344,19 +268,6 @@ memory_back : (image : List ℕ) (s : Saved)
 memory_back image s z =
     memory_again (rom image) (ram_of s.memory) (ramstart image) (endmem image) z.low z.high z.size
 
-state_back : (image : List ℕ) (s t : Saved)
-    → IsLaidOut image → IsStateOf image s
-    → s.heap_start < 2 ^ 32
-    → KeepsRom s.memory.ramstart s.memory.rom s.memory.bytes
-    → IsStateIn image (written_parts image s) (ram_of s.memory) t → t ≡ s
-state_back image s t laid is small kept in-parts =
-    let z = state_sizes image s laid is in
-    let memory : t.memory ≡ s.memory = in-parts.memory ∙ same_memory image s.memory z kept in
-    let heap =
-    heap_back image (ramstart image + length (ram_of s.memory))
-    s t.heap_start t.heap small is.saved.saved.heap.heap in-parts.heap in
-    rw (memory, in-parts.stack, heap.0, heap.1) refl
-
 fits_from : (end size start : ℕ) (bs : List Block)
     → IsHeapOver end size start bs
     → heap_fits end size start bs ≡ true
@@ -367,12 +278,8 @@ fits_from end size start (b ∷ bs) h =
     let least : nat_le end start ≡ true = (let le = h.least some in grind (arith, nat_tests, le)) in
     let ends : (size == heap_end (b ∷ bs)) ≡ true =
     (let e = h.ends some in grind (arith, nat_tests, e)) in
-    all_true (is_heap start (b ∷ bs)) (start % 256 == 0) (nat_le end start)
-    (size == heap_end (b ∷ bs)) h.heap page least ends where
-      all_true : (a b c d : Bool)
-          → a ≡ true → b ≡ true → c ≡ true → d ≡ true
-          → (a && (b && (c && d))) ≡ true
-      all_true a b c d e f g h = rw (e, f, g, h) refl
+    let heap : is_heap start (b ∷ bs) ≡ true = h.heap in
+    rw (heap, page, least, ends) refl
 
 heap_stands : (image : List ℕ) (s : Saved)
     → Sizes image s.memory → IsStateOf image s
@@ -388,38 +295,6 @@ heap_stands image s z is small = record {
         (rw (z.ram, sym z.endmem-is) is.saved.saved.heap);
   };
 }
-
-answered_back : (image : List ℕ) (s : Saved) (r : Result Saved SaveFault)
-    → IsLaidOut image → IsStateOf image s
-    → s.heap_start < 2 ^ 32 → KeepsRom s.memory.ramstart s.memory.rom s.memory.bytes
-    → ReadsHeapOf image (written_parts image s) (ram_of s.memory) r → GivesState s r
-answered_back image s (Ok t) laid is small kept h = state_back image s t laid is small kept h
-answered_back image s (Err NoMemory) laid is small kept h = refl
-answered_back image s (Err BadHeap) laid is small kept h =
-    absurd
-    (h.1 refl s.heap_start s.heap (heap_stands image s (state_sizes image s laid is) is small))
-answered_back image s (Err NotSave) laid is small kept h = absurd (grind (arith, h.0))
-answered_back image s (Err Cut) laid is small kept h = absurd (grind (arith, h.0))
-answered_back image s (Err OtherStory) laid is small kept h = absurd (grind (arith, h.0))
-answered_back image s (Err BadRuns) laid is small kept h = absurd (grind (arith, h.0))
-answered_back image s (Err BadStack) laid is small kept h = absurd (grind (arith, h.0))
-
-pub read_back : (image : List ℕ) (s : Saved)
-    → IsLaidOut image → IsStateOf image s
-    → s.heap_start < 2 ^ 32
-    → KeepsRom s.memory.ramstart s.memory.rom s.memory.bytes → SaveIsReadAs image (canon image s) s
-read_back image s laid is small kept result h =
-    let z = state_sizes image s laid is in
-    let parts : parts_of (canon image s) ≡ Ok (written_parts image s) =
-    reads_printed (identity image) (print_memory (rom image) (ramstart image) (ram_of s.memory))
-    s.stack (print_heap s.heap_start s.heap) (save_fits image s laid is) in
-    let story : ReadsParts image (Ok (written_parts image s)) result =
-    subst (λ p. ReadsParts image p result) parts h in
-    let stack : ReadsMemory image (written_parts image s) (Ok (ram_of s.memory)) result =
-    subst (λ m. ReadsMemory image (written_parts image s) m result) (memory_back image s z)
-    (story.own refl) in
-    answered_back image s result laid is small kept
-    (stack.good (record { frames = is.saved.saved.stack; size = is.size }))
 
 -- ---- the state of the bytes that are written
 

@@ -71,11 +71,6 @@ adds_only seen world place count bytes old new has left beside side area e =
           (inl (sym beside ∙ subst (λ (s : Side). store_area seen new s ≡ Some area) is_other e))
     ]
 
-pub adds_nothing : {D : Type 0} (seen : D
-    → List ℕ) (world : WorldState) (place count : ℕ) (store : Snapshots D)
-    → AddsOnly seen world place count store store
-adds_nothing seen world place count store side area e = inl e
-
 -- ---- its images
 
 module _ {D : Type 0} (tells : D → Bool) (may_leave : D → List ℕ → Type 0) (moment : D

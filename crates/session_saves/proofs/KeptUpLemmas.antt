@@ -173,12 +173,3 @@ unfolding due_in
 missed_not_due slots last place count e =
     missed_due (falls_due count) (is_stored place count slots) (is_at place count last)
     (ap (λ (o : Option Point). is_at place count o) e ∙ here place count)
-
-not_zero : (n : ℕ) → one_more n ≡ 0 → ⊥
-not_zero n e = omega (arith, e)
-
-pub not_clear : (cause : Cause) (missed : Missed) → with_cause cause missed ≡ none_missed → ⊥
-not_clear NoMemory missed e = not_zero missed.memory (ap (λ (m : Missed). m.memory) e)
-not_clear TooLong missed e = not_zero missed.size (ap (λ (m : Missed). m.size) e)
-not_clear DiskFailed missed e = not_zero missed.fault (ap (λ (m : Missed). m.fault) e)
-not_clear NotMade missed e = not_zero missed.none (ap (λ (m : Missed). m.none) e)

@@ -98,9 +98,3 @@ begun-again g =
 
 pub stands-of : (s : Stage) (g : Glk) → IsValidGlk g → WaitsFor (answer_awaited s) g → StandsAt s g
 stands-of s g valid waits = record { valid = valid; waits = waits }
-
-pub waits-of : (s : Stage) (g : Glk) → StandsAt s (turn_begun g) → WaitsFor (answer_awaited s) g
-waits-of (AtSelect m) g stands = stands.waits
-waits-of (AtPrompt m) g stands = stands.waits
-waits-of Quit g stands = record { event = stands.waits.event; prompt = stands.waits.prompt }
-waits-of (Fault n) g stands = record { event = stands.waits.event; prompt = stands.waits.prompt }

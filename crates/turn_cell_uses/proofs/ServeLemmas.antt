@@ -17,10 +17,6 @@ later_trans holds log mid seen s t = (
   each_append (IsForeign note_by holds) t.0 s.0 t.2 s.2,
 )
 
-pub serves_none : (holds : List ℕ) (n : ℕ) (seen : List Note)
-    → AnswersEachTurn holds n seen [] [] seen
-serves_none holds n seen = continues_all (IsForeign note_by holds) seen
-
 pub serves_more : (holds : List ℕ) (n : ℕ) (seen : List Note) (ts : List ℕ)
     (cs : List Answer) (mid : List Note) (t : ℕ) (a : Answer) (before : List Note)
     → AnswersEachTurn holds n seen ts cs mid

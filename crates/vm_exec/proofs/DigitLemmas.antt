@@ -1,7 +1,7 @@
 -- The digits of a number, by powers of ten.
-use Rattle.std.proofs.Common.{◌≡◌, ℕ, ◌+◌, ◌-◌, ◌/◌, ◌%◌, ◌^◌, ◌<◌, ◌≤◌, zero, suc, List}
-use Rattle.std.proofs.Common.{[], ◌∷◌, ◌++◌, length, get_or, nat_lt, true, false, refl}
-use Rattle.std.proofs.Common.{arith, ◌∙◌, sym, ap, length-append, slice_index, if◌then◌else◌}
+use Rattle.std.proofs.Common.{◌≡◌, ℕ, ◌+◌, ◌-◌, ◌/◌, ◌%◌, ◌^◌, ◌<◌, ◌≤◌, zero, suc, List, [], ◌∷◌}
+use Rattle.std.proofs.Common.{◌++◌, length, get_or, nat_lt, true, false, refl, arith, ◌∙◌, sym, ap}
+use Rattle.std.proofs.Common.{length-append, slice_index, if◌then◌else◌}
 use Rattle.std.proofs.lemmas.Bool.Decides.{nat_tests}
 use Rattle.std.proofs.lemmas.Fmt.{decimal_by_steps}
 use Rattle.std.proofs.lemmas.List.{get_or_append_left, get_or_push}
@@ -129,23 +129,13 @@ text_of_negative v w low high e =
 pub natural_character : (v i : ℕ)
     → v < 2 ^ 31
     → slice_index (number_text v) i ≡ slice_index (decimal v) i
-natural_character v i small = ap (λ (xs : List ℕ). slice_index xs i) (text_of_natural v small)
-
-minus_at : (xs : List ℕ) (i : ℕ) → i ≡ 0 → 45 ≡ slice_index (45 ∷ xs) i
-minus_at xs i e = rw e refl
-
-behind_minus : (xs : List ℕ) (i j : ℕ) → i ≡ suc j → slice_index (45 ∷ xs) i ≡ slice_index xs j
-behind_minus xs i j e = rw e refl
+natural_character v i small = rw (text_of_natural v small) refl
 
 pub minus_character : (v i : ℕ)
     → 2 ^ 31 ≤ v → v < 2 ^ 32 → i ≡ 0
     → 45 ≡ slice_index (number_text v) i
-minus_character v i low high e =
-    minus_at (decimal (2 ^ 32 - v)) i e
-    ∙ ap (λ (xs : List ℕ). slice_index xs i) (sym (text_of_negative v (2 ^ 32 - v) low high refl))
+minus_character v i low high e = rw (e, text_of_negative v (2 ^ 32 - v) low high refl) refl
 
 pub negative_character : (v w i j : ℕ) → 2 ^ 31 ≤ v → v < 2 ^ 32 → w ≡ 2 ^ 32 - v → i ≡ suc j
     → slice_index (number_text v) i ≡ slice_index (decimal w) j
-negative_character v w i j low high e next =
-    ap (λ (xs : List ℕ). slice_index xs i) (text_of_negative v w low high e)
-    ∙ behind_minus (decimal w) i j next
+negative_character v w i j low high e next = rw (next, text_of_negative v w low high e) refl

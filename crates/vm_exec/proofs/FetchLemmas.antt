@@ -2,7 +2,6 @@
 use Rattle.std.proofs.Common.{IsErrAnd, ◌≡◌, ◌≢◌, refl, sym, ◌∙◌, ap, ℕ, ◌+◌, ◌/◌, List, [], ◌∷◌}
 use Rattle.std.proofs.Common.{◌++◌, ◌-◌, Result, Ok, Err, Some, replicate, subst, slice_set, length}
 use Rattle.std.proofs.Math.Seq.{take-append_seam}
-use Rattle.std.specs.Prelude.{IfOk}
 use Rattle.vm_memory.specs.Chaining.{◌>>=◌}
 use Rattle.vm_memory.specs.MemoryMap.{MemoryMap}
 use Rattle.vm_memory.specs.declared.fault.Trap.{Trap}
@@ -30,7 +29,7 @@ use Rattle.vm_memory.specs.Fault.{coded}
 use Rattle.vm_stack.specs.Locals.{local}
 use Rattle.vm_stack.specs.Values.{popped}
 use Rattle.vm_exec.specs.Fault.{stacked}
-use Rattle.vm_exec.proofs.KeepingLemmas.{ok-then}
+use Rattle.vm_exec.proofs.KeepingLemmas.{Gives, ok-done, ok-then}
 use Rattle.vm_exec.specs.Answer.{Does}
 use Rattle.vm_exec.specs.Fetch.{Fetches, IsAtHand, IsRefused, Reads, Takes}
 use Rattle.vm_exec.specs.Row.{fetched, width_of, work_of}
@@ -89,12 +88,12 @@ begun {m} {o} {p} {ks = ks} bs here kinds words bytes =
     }
 
 -- a load changes no more than the stack
-load_keeps : (m : Machine) (x : l.Load) → IfOk (operand_loaded 4 m x) (λ a. (a.0.memory ≡ m.memory)
-    × (a.0.pc ≡ m.pc))
-load_keeps m (load.Value x) = (refl, refl)
-load_keeps m (load.At a) = ok-then _ (coded (read 4 m.memory a)) _ (λ x. (refl, refl))
-load_keeps m (load.Local at) = ok-then _ (stacked (local m.stack at 4)) _ (λ x. (refl, refl))
-load_keeps m load.Pop = ok-then _ (stacked (popped m.stack)) _ (λ p. (refl, refl))
+load_keeps : (m : Machine) (x : l.Load)
+    → Gives (operand_loaded 4 m x) (λ a. (a.0.memory ≡ m.memory) × (a.0.pc ≡ m.pc))
+load_keeps m (load.Value x) = ok-done (refl, refl)
+load_keeps m (load.At a) = ok-then (coded (read 4 m.memory a)) (λ x. ok-done (refl, refl))
+load_keeps m (load.Local at) = ok-then (stacked (local m.stack at 4)) (λ x. ok-done (refl, refl))
+load_keeps m load.Pop = ok-then (stacked (popped m.stack)) (λ p. ok-done (refl, refl))
 
 -- a load was taken
 pub taken : {m n next : Machine} {o : Op} {ks : List Kind} {number at i value after : ℕ}
@@ -105,7 +104,7 @@ pub taken : {m n next : Machine} {o : Op} {ks : List Kind} {number at i value af
 unfolding loaded_all
 taken {m} {n} {next} {o} {ks} {number} {at} {i} {value} {after} {ns} {args} b (x, (reads, loads)) =
     let there : load_by m.memory number at ≡ Ok (x, after) = rw b.memory at reads in
-    let kept = rw loads at (load_keeps n x) in
+    let kept = rw loads at (load_keeps n x).holds in
     record {
       memory = kept.0 ∙ b.memory;
       pc = kept.1 ∙ b.pc;

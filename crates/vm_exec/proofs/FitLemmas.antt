@@ -1,36 +1,35 @@
 -- A machine whose heap, memory or undo list changes stays fit.
 use Rattle.std.proofs.Common.{◌≡◌, ◌≤◌, ◌<◌, ℕ, ◌+◌, ◌-◌, ◌%◌, ◌⊎◌, inl, inr, true, false, nat_le}
-use Rattle.std.proofs.Common.{nat_eq, cond, max, List, [], ◌∷◌, length, take, replicate, Option}
-use Rattle.std.proofs.Common.{Some, None, Result, Ok, Err, IsTrue, refl, arith, ap, sym, ◌∙◌, subst}
+use Rattle.std.proofs.Common.{Bool, nat_eq, cond, max, List, [], ◌∷◌, length, take, replicate}
+use Rattle.std.proofs.Common.{Option, Some, None, Result, Ok, Err, IsTrue, refl, arith, ap, sym}
+use Rattle.std.proofs.Common.{◌∙◌, subst}
 use Rattle.std.specs.Prelude.{All, OnOk}
 use Rattle.std.proofs.lemmas.List.{length-append, length-replicate, length-take}
 use Rattle.std.proofs.lemmas.List.Elements.{All-take, All-drop, All-cons}
 use Rattle.std.proofs.lemmas.Grind.{common_steps}
 use Rattle.vm_memory.specs.declared.fault.Trap.{Trap}
-use Rattle.vm_memory.specs.declared.fault.Trap.TheVariants.{Fault, NoMemory}
 use Rattle.vm_exec.specs.Answer.{Changes}
 use Rattle.vm_memory.specs.MemoryMap.{MemoryMap, Origin, KeepsMap, origin_of, resized}
 use Rattle.vm_heap.specs.HeapMap.{HeapMap, is_heap, heap_end}
 use Rattle.vm_heap.specs.FirstFit.{first_fit}
-use Rattle.vm_heap.specs.Allocation.{malloced, block_placed, with_block, start_from}
-use Rattle.vm_heap.specs.Allocation.{freed, begins, blocks_without, heap_of}
+use Rattle.vm_heap.specs.Allocation.{malloced, start_from, freed, begins, blocks_without, heap_of}
 use Rattle.vm_heap.specs.declared.block.Block.{Block}
 use Rattle.vm_heap.specs.declared.fault.HeapFault.TheVariants.{BadBlock}
 use Rattle.vm_heap.proofs.HeapLemmas.{heap_end-page, start-below}
 use Rattle.vm_stack.specs.StackState.{StackState}
 use Rattle.vm_stack.specs.Frame.{stack_loaded, in_named_frame}
 use Rattle.vm_stack.specs.declared.fault.StackFault.TheVariants.{Overflow}
-use Rattle.vm_stack.specs.Chain.{Chain, HasFrame, IsReady, EndsInOwnStub}
+use Rattle.vm_stack.specs.Chain.{Chain, HasFrame, IsReady}
 use Rattle.vm_stack.specs.Saved.{LinkedFrames}
 use Rattle.vm_stack.proofs.SavedLemmas.{ready_saved}
 use Rattle.vm_undo.specs.SavedState.{IsSize, IsHeapOver, IsSavedOf}
 use Rattle.vm_undo.specs.UndoList.{newest, without_newest, with_newest}
 use Rattle.vm_undo.specs.declared.saved.Saved.{Saved}
-use Rattle.vm_exec.specs.Machine.{IsMapped, IsFit, IsSaving, WaitsForNoSave, no_heap}
+use Rattle.vm_exec.specs.Machine.{IsMapped, IsFit, IsSaving, WaitsForNoSave}
 use Rattle.vm_exec.specs.declared.machine.Machine.{Machine}
 use Rattle.vm_exec.specs.declared.text.Text.TheVariants.{Off}
 use Rattle.vm_exec.specs.Rows.Undo.{saved_state}
-use Rattle.vm_exec.specs.Rows.Heap.{memory_end, with_heap}
+use Rattle.vm_exec.specs.Rows.Heap.{memory_end}
 
 -- a heap that starts at a page from ENDMEM on, and memory that ends where it does
 over : (o : Origin) (n : ℕ) (h new : HeapMap) (states : List Saved)
@@ -54,40 +53,27 @@ over o n h new states m heap limit page least =
       undo = m.undo;
     }
 
-some_none : {X : Type 0} (x : ℕ) (a b : X) (nothing : Option ℕ)
-    → nothing ≡ None → nothing ≡ Some x → a ≡ b
-some_none x a b nothing is e = cc
+-- a choice that gave a block, or a value, took its first way
+some_is : (t : Bool) (at x : ℕ) (a b new : HeapMap)
+    → ◌≡◌ {A = Option ℕ × HeapMap} (cond t (Some at, a) (None, b)) (Some x, new) → new ≡ a
+some_is true at x a b new e = sym (ap (λ (p : Option ℕ × HeapMap). p.1) e)
+some_is false at x a b new e =
+    let none : ◌≡◌ {A = Option ℕ} None (Some x) = ap (λ (p : Option ℕ × HeapMap). p.0) e in
+    absurd cc
 
-placed-start : (h : HeapMap) (start size at x : ℕ) (new : HeapMap)
-    → block_placed h start size at ≡ (Some x, new)
-    → new.start ≡ start
-placed-start h start size at x new e =
-    elim (nat_le (at + size) 16777216) as (λ t. ◌≡◌ {A = Option ℕ × HeapMap}
-    (cond t (
-      Some at,
-      record { start = start; blocks = with_block (record { at = at; length = size }) h.blocks },
-    ) (None, h)) (
-      Some x,
-      new,
-    )
-    → new.start ≡ start) [
-      | true ↦ (λ s. sym (ap (λ (p : Option ℕ × HeapMap). p.1.start) s))
-      | false ↦
-          (λ s. some_none x new.start start None refl (ap (λ (p : Option ℕ × HeapMap). p.0) s))
-    ] e
+ok_is : {A E : Type 0} (t : Bool) (a b : A) (f : E)
+    → ◌≡◌ {A = Result A E} (cond t (Ok a) (Err f)) (Ok b) → a ≡ b
+ok_is true a b f e = cc
+ok_is false a b f e = cc
 
-page_from : (o : Origin) (n : ℕ) (h : HeapMap) (states : List Saved)
-    → IsMapped o n h states → start_from h n % 256 ≡ 0
-page_from o n h states m =
-    elim (nat_eq h.start 0) as (λ t. cond t n h.start % 256 ≡ 0)
-    [ true ↦ m.size.pages | false ↦ m.heap.page ]
-
-least_from : (o : Origin) (n : ℕ) (h : HeapMap) (states : List Saved)
-    → IsMapped o n h states → o.endmem ≤ start_from h n
-least_from o n h states m =
-    elim (nat_eq h.start 0) as (λ t. nat_eq h.start 0 ≡ t → o.endmem ≤ cond t n h.start) [
-      | true ↦ (λ e. m.size.least)
-      | false ↦ (λ e. m.heap.least (grind (arith, common_steps)))
+-- where a heap starts, or would start
+start-mapped : (o : Origin) (n : ℕ) (h : HeapMap) (states : List Saved)
+    → IsMapped o n h states → (start_from h n % 256 ≡ 0) × (o.endmem ≤ start_from h n)
+start-mapped o n h states m =
+    elim (nat_eq h.start 0) as (λ t. nat_eq h.start 0 ≡ t
+    → (cond t n h.start % 256 ≡ 0) × (o.endmem ≤ cond t n h.start)) [
+      | true ↦ (λ e. (m.size.pages, m.size.least))
+      | false ↦ (λ e. (m.heap.page, m.heap.least (grind (arith, common_steps))))
     ] refl
 
 -- a block more
@@ -97,31 +83,12 @@ pub malloced-mapped : (o : Origin) (n size x : ℕ) (h new : HeapMap) (states : 
     → heap_end new.blocks ≤ 16777216
     → IsMapped o n h states → IsMapped o (max o.endmem (heap_end new.blocks)) new states
 malloced-mapped o n size x h new states e heap limit m =
-    let start : new.start ≡ start_from h n =
-    placed-start h (start_from h n) size (first_fit (start_from h n) h.blocks size) x new e in
-    over o n h new states m heap limit (rw start (page_from o n h states m))
-    (rw start (least_from o n h states m))
-
-placed-none : (h : HeapMap) (start size at : ℕ) (new : HeapMap)
-    → block_placed h start size at ≡ (None, new) → h ≡ new
-placed-none h start size at new e =
-    elim (nat_le (at + size) 16777216) as (λ t. ◌≡◌ {A = Option ℕ × HeapMap}
-    (cond t (
-      Some at,
-      record { start = start; blocks = with_block (record { at = at; length = size }) h.blocks },
-    ) (None, h)) (
-      None,
-      new,
-    )
-    → h ≡ new) [
-      | true ↦ (λ s. some_none at h new None refl (sym (ap (λ (p : Option ℕ × HeapMap). p.0) s)))
-      | false ↦ (λ s. ap (λ (p : Option ℕ × HeapMap). p.1) s)
-    ] e
-
--- no block more
-pub malloced-none : (n size : ℕ) (h new : HeapMap) → malloced h size n ≡ (None, new) → h ≡ new
-malloced-none n size h new e =
-    placed-none h (start_from h n) size (first_fit (start_from h n) h.blocks size) new e
+    let start = start_from h n in
+    let at = first_fit start h.blocks size in
+    let same : new.start ≡ start =
+    ap (λ (h : HeapMap). h.start) (some_is (nat_le (at + size) 16777216) at x _ h new e) in
+    let there = start-mapped o n h states m in
+    over o n h new states m heap limit (rw same there.0) (rw same there.1)
 
 heap_of-start : (start : ℕ) (bs : List Block)
     → ((heap_of start bs).start ≡ 0) ⊎ ((heap_of start bs).start ≡ start)
@@ -132,15 +99,9 @@ freed-start : (h new : HeapMap) (at : ℕ)
     → freed h at ≡ Ok new
     → (new.start ≡ 0) ⊎ (new.start ≡ h.start)
 freed-start h new at e =
-    elim (begins at h.blocks)
-    as (λ t. cond t (Ok (heap_of h.start (blocks_without at h.blocks))) (Err (BadBlock at)) ≡ Ok new
-    → (new.start ≡ 0) ⊎ (new.start ≡ h.start)) [
-      | true ↦ (λ s.
-          let same : heap_of h.start (blocks_without at h.blocks) ≡ new = cc in
-          subst (λ (x : HeapMap). (x.start ≡ 0) ⊎ (x.start ≡ h.start)) same
-          (heap_of-start h.start (blocks_without at h.blocks)))
-      | false ↦ (λ s. cc)
-    ] e
+    subst (λ (x : HeapMap). (x.start ≡ 0) ⊎ (x.start ≡ h.start))
+    (ok_is (begins at h.blocks) _ new (BadBlock at) e)
+    (heap_of-start h.start (blocks_without at h.blocks))
 
 smaller : (o : Origin) (n : ℕ) (h new : HeapMap) (states : List Saved)
     → h.start ≤ 16777216 → IsTrue (is_heap new.start new.blocks)
@@ -196,19 +157,6 @@ none_over endmem n = record {
   ends = λ p. absurd (omega (arith, p));
 }
 
-pub restarted-mapped : (o : Origin) (n : ℕ) (h : HeapMap) (states : List Saved)
-    → IsMapped o n h states → IsMapped o o.endmem no_heap states
-restarted-mapped o n h states m = record {
-  page = m.page;
-  size = record {
-    pages = m.page;
-    least = omega arith;
-    limit = omega (arith, m.size.least, m.size.limit);
-  };
-  heap = none_over o.endmem o.endmem;
-  undo = m.undo;
-}
-
 -- a state of the story in place of memory and heap
 pub resumed-mapped : (o : Origin) (n : ℕ) (h : HeapMap) (states : List Saved) (s : Saved)
     → IsMapped o n h states → IsSavedOf o s
@@ -224,38 +172,12 @@ resumed-mapped o n h states s m saved =
       undo = m.undo;
     }
 
--- a state more is kept, or the newest is taken
-pub kept-mapped : (o : Origin) (n : ℕ) (h : HeapMap) (states : List Saved) (s : Saved)
-    → IsMapped o n h states → IsSavedOf o s
-    → IsMapped o n h (with_newest states s)
-kept-mapped o n h states s m saved = record {
-  page = m.page;
-  size = m.size;
-  heap = m.heap;
-  undo = All-take (IsSavedOf o) 4 (s ∷ states) (All-cons (IsSavedOf o) s states saved m.undo);
-}
-
-pub taken-mapped : (o : Origin) (n : ℕ) (h : HeapMap) (states : List Saved)
-    → IsMapped o n h states
-    → IsMapped o n h (without_newest states)
-taken-mapped o n h states m = record {
-  page = m.page;
-  size = m.size;
-  heap = m.heap;
-  undo = All-drop (IsSavedOf o) 1 states m.undo;
-}
-
 pub newest-saved : (o : Origin) (states : List Saved) (s : Saved)
     → All (IsSavedOf o) states → newest states ≡ Some s
     → IsSavedOf o s
 newest-saved o [] s all e = cc
 newest-saved o (t ∷ states) s all e =
     let same : t ≡ s = cc in subst (IsSavedOf o) same (all 0 t (omega arith))
-
-pub ready_own : (s : StackState) → HasFrame s → IsReady s → EndsInOwnStub s
-ready_own s there (inl e) =
-    absurd (let z : length s.bytes ≡ 0 = ap length e in omega (arith, there, z))
-ready_own s there (inr r) = r.1
 
 -- what is saved of a machine with a stub on top
 pub saved_of : (m : Machine)
@@ -286,31 +208,12 @@ resized-size m n =
     length-replicate {A = ℕ} (n - length m.bytes) 0 in
     length-append (take n m.bytes) (replicate (n - length m.bytes) 0) ∙ omega (arith, front, zeros)
 
--- memory that ends elsewhere
-pub ended-fit : (m : Machine) (end : ℕ)
-    → IsMapped (origin_of m.memory) (max m.memory.endmem end) m.heap m.undo
-    → Chain m.stack → HasFrame m.stack
-    → WaitsForNoSave m.waiting → m.text ≡ Off
-    → IsFit (with_heap m m.heap end)
-ended-fit m end map frames frame waits still = record {
-  map =
-      subst (λ n. IsMapped (origin_of m.memory) n m.heap m.undo)
-      (sym (resized-size m.memory (max m.memory.endmem end))) map;
-  frames = frames;
-  frame = frame;
-  waits = waits;
-  still = still;
-}
-
 loaded-there : (s t : StackState) (bytes : List ℕ)
     → stack_loaded s bytes ≡ Ok t → 0 < length bytes
     → HasFrame t
 loaded-there s t bytes e some =
-    elim (nat_le (length bytes) s.limit)
-    as (λ b. cond b (Ok (in_named_frame s bytes)) (Err Overflow) ≡ Ok t → HasFrame t) [
-      | true ↦ (λ x. let same : in_named_frame s bytes ≡ t = cc in subst HasFrame same some)
-      | false ↦ (λ x. cc)
-    ] e
+    subst HasFrame (ok_is (nat_le (length bytes) s.limit) (in_named_frame s bytes) t Overflow e)
+    some
 
 -- a state of the story in place of memory, stack and heap
 pub state-fit : (m : Machine) (s : Saved) (memory : MemoryMap) (stack : StackState)
@@ -341,37 +244,38 @@ state-fit m s memory stack heap bytes blocks bytes_are blocks_are keeps is load 
       still = fit.still;
     }
 
--- a state more is kept
-pub kept-fit : (m : Machine) (s : Saved) (states : List Saved)
-    → s ≡ saved_state m → states ≡ with_newest m.undo s
-    → IsFit m → IsReady m.stack
-    → IsFit (record m { undo = states })
-kept-fit m s states is kept fit ready =
-    let saved : IsSavedOf (origin_of m.memory) s =
-    subst (IsSavedOf (origin_of m.memory)) (sym is)
-    (saved_of m fit.map fit.frames fit.frame ready) in
-    record {
-      map = subst (IsMapped (origin_of m.memory) (length m.memory.bytes) m.heap) (sym kept)
-          (kept-mapped (origin_of m.memory) (length m.memory.bytes) m.heap m.undo s fit.map saved);
-      frames = fit.frames;
-      frame = fit.frame;
-      waits = fit.waits;
-      still = fit.still;
-    }
-
--- the newest state is taken
-pub taken-fit : (m : Machine) (states : List Saved)
-    → states ≡ without_newest m.undo → IsFit m
-    → IsFit (record m { undo = states })
-taken-fit m states is fit = record {
-  map = subst (IsMapped (origin_of m.memory) (length m.memory.bytes) m.heap) (sym is)
-      (taken-mapped (origin_of m.memory) (length m.memory.bytes) m.heap m.undo fit.map);
+-- other states that undo keeps
+with_states : (m : Machine) (states : List Saved)
+    → IsFit m → All (IsSavedOf (origin_of m.memory)) states → IsFit (record m { undo = states })
+with_states m states fit all = record {
+  map = record { page = fit.map.page; size = fit.map.size; heap = fit.map.heap; undo = all };
   frames = fit.frames;
   frame = fit.frame;
   waits = fit.waits;
   still = fit.still;
 }
 
+-- a state more is kept
+pub kept-fit : (m : Machine) (s : Saved) (states : List Saved)
+    → s ≡ saved_state m → states ≡ with_newest m.undo s
+    → IsFit m → IsReady m.stack
+    → IsFit (record m { undo = states })
+kept-fit m s states is kept fit ready =
+    let Is = IsSavedOf (origin_of m.memory) in
+    let saved : Is s = subst Is (sym is) (saved_of m fit.map fit.frames fit.frame ready) in
+    with_states m states fit
+    (subst (All Is) (sym kept)
+    (All-take Is 4 (s ∷ m.undo) (All-cons Is s m.undo saved fit.map.undo)))
+
+-- the newest state is taken
+pub taken-fit : (m : Machine) (states : List Saved)
+    → states ≡ without_newest m.undo → IsFit m
+    → IsFit (record m { undo = states })
+taken-fit m states is fit =
+    let Is = IsSavedOf (origin_of m.memory) in
+    with_states m states fit (subst (All Is) (sym is) (All-drop Is 1 m.undo fit.map.undo))
+
+-- memory that ends elsewhere
 pub ended : (m new : Machine) (end n : ℕ) (r : Result (Unit {0}) Trap)
     → n ≡ max m.memory.endmem end
     → Changes (Ok (record m { memory = resized m.memory n })) new r
@@ -381,11 +285,15 @@ pub ended : (m new : Machine) (end n : ℕ) (r : Result (Unit {0}) Trap)
     → OnOk r (IsFit new)
 ended m new end n (Ok x) is e map frames frame waits still =
     let same : record m { memory = resized m.memory n } ≡ new = cc in
-    let whole : with_heap m m.heap end ≡ new =
-    ap (λ (k : ℕ). record m { memory = resized m.memory k }) (sym is) ∙ same in
-    subst IsFit whole (ended-fit m end map frames frame waits still)
-ended m new end n (Err (Fault k)) is e map frames frame waits still = tt
-ended m new end n (Err NoMemory) is e map frames frame waits still = tt
+    subst IsFit same (record {
+      map = subst (λ k. IsMapped (origin_of m.memory) k m.heap m.undo)
+          (sym (resized-size m.memory n ∙ is)) map;
+      frames = frames;
+      frame = frame;
+      waits = waits;
+      still = still;
+    })
+ended m new end n (Err f) is e map frames frame waits still = tt
 
 pub allocated-map : (m : Machine) (k size x end : ℕ) (answer : Option ℕ) (new : HeapMap)
     → k ≡ length m.memory.bytes
@@ -394,12 +302,8 @@ pub allocated-map : (m : Machine) (k size x end : ℕ) (answer : Option ℕ) (ne
     → IsTrue (is_heap new.start new.blocks) → IsFit m
     → IsMapped (origin_of m.memory) (max m.memory.endmem end) new m.undo
 allocated-map m k size x end answer new is e some ends limit heap fit =
-    let full : malloced m.heap size (length m.memory.bytes) ≡ (Some x, new) =
-    ap (λ (n : ℕ). malloced m.heap size n) (sym is) ∙ e ∙ ap (λ (a : Option ℕ). (a, new)) some in
-    let low : heap_end new.blocks ≤ 16777216 = subst (λ (n : ℕ). n ≤ 16777216) ends limit in
-    subst (λ (n : ℕ). IsMapped (origin_of m.memory) (max m.memory.endmem n) new m.undo) (sym ends)
-    (malloced-mapped (origin_of m.memory)
-    (length m.memory.bytes) size x m.heap new m.undo full heap low fit.map)
+    rw ends (malloced-mapped (origin_of m.memory) (length m.memory.bytes) size x m.heap new m.undo
+    (rw (is, some) at e) heap (rw ends at limit) fit.map)
 
 pub released-map : (m : Machine) (at start end : ℕ) (new : HeapMap)
     → freed m.heap at ≡ Ok new → start ≡ m.heap.start
@@ -408,8 +312,5 @@ pub released-map : (m : Machine) (at start end : ℕ) (new : HeapMap)
     → IsTrue (is_heap new.start new.blocks) → IsFit m
     → IsMapped (origin_of m.memory) (max m.memory.endmem end) new m.undo
 released-map m at start end new e is below ends limit heap fit =
-    let low : m.heap.start ≤ 16777216 = subst (λ (n : ℕ). n ≤ 16777216) is below in
-    let whole : end ≡ memory_end m.heap.start new = ends ∙ ap (λ (n : ℕ). memory_end n new) is in
-    subst (λ (n : ℕ). IsMapped (origin_of m.memory) (max m.memory.endmem n) new m.undo) (sym whole)
-    (freed-mapped (origin_of m.memory)
-    (length m.memory.bytes) at m.heap new m.undo e heap limit low fit.map)
+    rw (ends, is) (freed-mapped (origin_of m.memory) (length m.memory.bytes) at m.heap new m.undo
+    e heap limit (rw is at below) fit.map)

@@ -1,8 +1,7 @@
 -- Each call of a machine keeps what memory has of its image, and leaves a machine of the story one.
-use Rattle.std.proofs.Common.{◌≡◌, ◌∙◌, arith, ℕ, Bool, true, false, List, []}
-use Rattle.std.proofs.Common.{length, refl, sym, subst, ap, Result, Ok, Err}
-use Rattle.std.specs.Prelude.{All, IfOk, OnOk}
-use Rattle.std.proofs.lemmas.List.Elements.{All-weaker}
+use Rattle.std.proofs.Common.{◌≡◌, ◌∙◌, arith, ℕ, Bool, true, false, List, [], length, refl, sym}
+use Rattle.std.proofs.Common.{subst, ap, Result, Ok, Err}
+use Rattle.std.specs.Prelude.{IfOk, IsTrue, OnOk}
 use Rattle.vm_memory.specs.MemoryMap.{MemoryMap, origin_of}
 use Rattle.vm_memory.specs.declared.fault.Trap.{Trap}
 use Rattle.vm_stack.specs.StackState.{StackState}
@@ -20,15 +19,21 @@ use Rattle.vm_exec.specs.declared.machine.Machine.{Machine}
 use Rattle.vm_exec.specs.declared.step.Step.{Step}
 use Rattle.vm_exec.specs.declared.step.Waiting as w
 use Rattle.vm_exec.specs.declared.text.Text as t
-use Rattle.vm_exec.proofs.KeepingLemmas.{Base, Fixed, Has, HasFirst, Over, OverFirst}
-use Rattle.vm_exec.proofs.KeepingLemmas.{SavedOver, fixed_of, has-called, ok-flowed}
-use Rattle.vm_exec.proofs.KeepingRows.{over-came_back, over-finished, over-told, over-with_state}
+use Rattle.vm_exec.proofs.KeepingLemmas.{Base, Fixed, Has, HasFirst, Over, OverFirst, fixed_of}
+use Rattle.vm_exec.proofs.KeepingLemmas.{has-called, ok-flowed}
+use Rattle.vm_exec.proofs.KeepingRows.{over-told}
+use Rattle.vm_exec.proofs.KeepingStates.{over-came_back, over-finished, over-with_state}
 
 -- what a machine keeps, known to be within its limits or not
 abbrev base_of : Bool → Machine → Base
-base_of b m = record { origin = origin_of m.memory; fixed = fixed_of m; bounded = b }
+base_of b m = record {
+  origin = origin_of m.memory;
+  limit = m.stack.limit;
+  fixed = fixed_of m;
+  bounded = b;
+}
 
-keeps : (b : Bool) (m new : Machine) → Over (base_of b m) m.stack.limit new → KeepsImage m new
+keeps : (b : Bool) (m new : Machine) → Over (base_of b m) new → KeepsImage m new
 keeps b m new k = record {
   origin = k.memory;
   limit = k.limit;
@@ -39,7 +44,7 @@ keeps b m new k = record {
 }
 
 lies : (image : List ℕ) (m new : Machine)
-    → IsOver image m → Over (base_of true m) m.stack.limit new
+    → IsOver image m → Over (base_of true m) new
     → IsOver image new
 lies image m new over k =
     let kept = keeps true m new k in
@@ -56,43 +61,35 @@ ok-on : {A E : Type 0} (P Q : Type 0) (r : Result A E) → OnOk r P → (P → Q
 ok-on P Q (Ok x) h f = f h
 ok-on P Q (Err e) h f = tt
 
-images : (b : Bool) (m : Machine) (states : List Saved)
-    → All (IsSavedOf (origin_of m.memory)) states
-    → All (SavedOver (base_of b m)) states
-images b m states h =
-    All-weaker (IsSavedOf (origin_of m.memory)) (SavedOver (base_of b m))
-    (λ s k. sym k.image) states h
-
 abbrev Mapped : Machine → Type 0
 Mapped m = IsMapped (origin_of m.memory) (length m.memory.bytes) m.heap m.undo
 
-free : (m : Machine) → Mapped m → Over (base_of false m) m.stack.limit m
-free m map = record {
+-- a machine keeps what it has itself, within its limits where it is known to be
+begins : (b : Bool) (m : Machine)
+    → Mapped m → (IsTrue b → IsWithin m.stack.limit m.mode m.undo) → Over (base_of b m) m
+begins b m map within = record {
   memory = refl;
   limit = refl;
-  undo = images false m m.undo map.undo;
+  undo = λ k s l. sym (map.undo k s l).image;
   fixed = refl;
-  within = λ t. absurd cc;
+  within = within;
 }
 
-bound : (image : List ℕ) (m : Machine)
-    → Mapped m → IsOver image m
-    → Over (base_of true m) m.stack.limit m
-bound image m map over = record {
-  memory = refl;
-  limit = refl;
-  undo = images true m m.undo map.undo;
-  fixed = refl;
-  within = λ t. subst (λ (n : ℕ). IsWithin n m.mode m.undo) (sym over.limit) over.within;
-}
+free : (m : Machine) → Mapped m → Over (base_of false m) m
+free m map = begins false m map (λ t. absurd cc)
+
+bound : (image : List ℕ) (m : Machine) → Mapped m → IsOver image m → Over (base_of true m) m
+bound image m map over =
+    begins true m map
+    (λ t. subst (λ (n : ℕ). IsWithin n m.mode m.undo) (sym over.limit) over.within)
 
 stepped : (b : Bool) (left : ℕ) (m new : Machine) (x : t.Text) (r : Result Step Trap)
     → Does (row.step_within left (row.charged (row.due m x))) new r
-    → Over (base_of b m) m.stack.limit m
-    → OnOk r (Over (base_of b m) m.stack.limit new)
+    → Over (base_of b m) m
+    → OnOk r (Over (base_of b m) new)
 stepped b left m new x (Ok s) e over =
-    subst (λ (y : Result (Machine × Step) ℕ). IfOk y (OverFirst (base_of b m) m.stack.limit)) e
-    (over-told (base_of b m) m.stack.limit left m x over)
+    subst (λ (y : Result (Machine × Step) ℕ). IfOk y (OverFirst (base_of b m))) e
+    (over-told left m x over).holds
 stepped b left m new x (Err t) e over = tt
 
 pub step_keeps : (left : ℕ) (m new : Machine) (x : t.Text) (r : Result Step Trap)
@@ -110,23 +107,23 @@ step_over image left m new x r e sound over =
     (lies image m new over)
 
 changed : (b : Bool) (m new : Machine) (should : Result Machine ℕ) (r : Result (Unit {0}) Trap)
-    → IfOk should (Over (base_of b m) m.stack.limit)
-    → Changes should new r → OnOk r (Over (base_of b m) m.stack.limit new)
+    → IfOk should (Over (base_of b m))
+    → Changes should new r → OnOk r (Over (base_of b m) new)
 changed b m new should (Ok x) h e =
-    subst (λ (y : Result Machine ℕ). IfOk y (Over (base_of b m) m.stack.limit)) e h
+    subst (λ (y : Result Machine ℕ). IfOk y (Over (base_of b m))) e h
 changed b m new should (Err t) h e = tt
 
 -- a result was stored, or a save's stub taken
 done : (b : Bool) (m new : Machine) (w : w.Waiting) (value : ℕ) (r : Result (Unit {0}) Trap)
     → Changes (finished_at m w value) new r
-    → Over (base_of b m) m.stack.limit m → OnOk r (Over (base_of b m) m.stack.limit new)
+    → Over (base_of b m) m → OnOk r (Over (base_of b m) new)
 done b m new w value r e over =
     changed b m new (finished_at m w value) r
-    (over-finished (base_of b m) m.stack.limit m w value over) e
+    (over-finished m w value over).holds e
 
 pub finish_keeps : (m new : Machine) (w : w.Waiting) (value : ℕ) (r : Result (Unit {0}) Trap)
     → Changes (finished_at m w value) new r
-    → IsMapped (origin_of m.memory) (length m.memory.bytes) m.heap m.undo
+    → Mapped m
     → OnOk r (KeepsImage m new)
 finish_keeps m new w value r e map =
     ok-on _ _ r (done false m new w value r e (free m map)) (keeps false m new)
@@ -134,7 +131,7 @@ finish_keeps m new w value r e map =
 pub finish_over : (image : List ℕ) (m new : Machine) (w : w.Waiting) (value : ℕ)
     (r : Result (Unit {0}) Trap)
     → Changes (finished_at m w value) new r
-    → IsMapped (origin_of m.memory) (length m.memory.bytes) m.heap m.undo
+    → Mapped m
     → IsOver image m → OnOk r (IsOver image new)
 finish_over image m new w value r e map over =
     ok-on _ _ r (done true m new w value r e (bound image m map over)) (lies image m new over)
@@ -143,15 +140,13 @@ finish_over image m new w value r e map over =
 put_back : (b : Bool) (m mid new : Machine) (s : Saved) (x : ℕ) (r : Result (Unit {0}) Trap)
     → undo.with_state m s ≡ Ok mid
     → Changes (undo.came_back mid x) new r
-    → Over (base_of b m) m.stack.limit m
+    → Over (base_of b m) m
     → IsSavedOf (origin_of m.memory) s
-    → OnOk r (Over (base_of b m) m.stack.limit new)
+    → OnOk r (Over (base_of b m) new)
 put_back b m mid new s x r put back over h =
-    let o = base_of b m in
-    let n = m.stack.limit in
     changed b m new (undo.came_back mid x) r
-    (over-came_back o n mid x (subst (λ (y : Result Machine ℕ). IfOk y (Over o n)) put
-    (over-with_state o n m s over (sym h.image)))) back
+    (over-came_back mid x (subst (λ (y : Result Machine ℕ). IfOk y (Over (base_of b m))) put
+    (over-with_state m s over (sym h.image)).holds)).holds back
 
 pub resume_keeps : (m mid new : Machine) (s : Saved) (x : ℕ) (r : Result (Unit {0}) Trap)
     → undo.with_state m s ≡ Ok mid
@@ -189,6 +184,5 @@ started_over image memory stack new at pc m s e =
     let has : Has n stack = ap (λ (t : StackState). t.limit) empty in (
       ap origin_of (sym same),
       sym (subst (λ (y : Result (StackState × ℕ) ℕ). IfOk y (HasFirst n)) e
-          (ok-flowed (HasFirst n) (function_called memory stack at [])
-          (has-called n memory stack at [] has))),
+          (ok-flowed (has-called memory stack at [] has)).holds),
     )

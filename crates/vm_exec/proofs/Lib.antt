@@ -1,5 +1,6 @@
 pub mod Told
 pub mod FetchLemmas
+pub mod QuietLemmas
 pub mod RunLemmas
 pub mod ArgumentLemmas
 pub mod WithinLemmas
@@ -8,6 +9,8 @@ pub mod WordLemmas
 pub mod SearchLemmas
 pub mod FitLemmas
 pub mod KeepingLemmas
+pub mod KeepingRules
+pub mod KeepingStates
 pub mod KeepingRows
 pub mod KeepingCalls
 pub mod FieldsLemmas

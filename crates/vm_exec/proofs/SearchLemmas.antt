@@ -1,6 +1,6 @@
 -- A search within the ticks that are left, and as its row has it.
-use Rattle.std.proofs.Common.{◌≡◌, ℕ, zero, suc, ◌^◌, Bool, true, false, cond, nat_lt}
-use Rattle.std.proofs.Common.{Option, Some, None, Result, Ok, Err, refl, ap, sym, ◌∙◌}
+use Rattle.std.proofs.Common.{◌≡◌, ℕ, zero, suc, ◌^◌, Bool, true, false, cond, nat_lt, Option, Some}
+use Rattle.std.proofs.Common.{None, Result, Ok, Err, refl, ap, ◌∙◌}
 use Rattle.vm_memory.specs.Chaining.{◌>>=◌}
 use Rattle.vm_memory.specs.Fault.{coded}
 use Rattle.vm_memory.specs.MemoryMap.{MemoryMap, number_at}
@@ -61,12 +61,13 @@ same_search left m to f g b same =
     ∙ ap (λ (e : Option Ending). found_in left m to (cond b (found_within left e) (Err BadSearch)))
     (first_same f g same (2 ^ 32) 0)
 
-pub linear_is : (left : ℕ) (m : Machine) (l : ℕ → ℕ) (to : Dest)
-    → budgeted left (linear_work m l to)
-    ≡ found_in left m to (search_of (query_of l left) (linear_ends m.memory (query_of l left)))
-linear_is left m l to =
-    search_if left m to (first_ending (linear_ends m.memory (query_of l 0)) 0 (2 ^ 32))
-    (is_search (query_of l 0))
+pub linear_of : (left : ℕ) (m : Machine) (l : ℕ → ℕ) (to : Dest) (q : Query)
+    (r : Result Found SearchStop)
+    → q ≡ query_of l left → r ≡ search_of q (linear_ends m.memory q)
+    → budgeted left (linear_work m l to) ≡ found_in left m to r
+linear_of left m l to q r asked told =
+    rw (told, asked) (search_if left m to
+    (first_ending (linear_ends m.memory (query_of l 0)) 0 (2 ^ 32)) (is_search (query_of l 0)))
 
 interval_is : (m : MemoryMap) (l : ℕ → ℕ) (left k : ℕ)
     → interval_at m (query_of l 0) k ≡ interval_at m (query_of l left) k
@@ -77,14 +78,15 @@ interval_is m l left (suc k) =
     half i (compared m (query_of l left) (structure_at (query_of l left) (middle i))))
     (interval_is m l left k)
 
-pub binary_is : (left : ℕ) (m : Machine) (l : ℕ → ℕ) (to : Dest)
-    → budgeted left (binary_work m l to)
-    ≡ found_in left m to (search_of (query_of l left) (binary_ends m.memory (query_of l left)))
-binary_is left m l to =
-    same_search left m to (binary_ends m.memory (query_of l 0))
+pub binary_of : (left : ℕ) (m : Machine) (l : ℕ → ℕ) (to : Dest) (q : Query)
+    (r : Result Found SearchStop)
+    → q ≡ query_of l left → r ≡ search_of q (binary_ends m.memory q)
+    → budgeted left (binary_work m l to) ≡ found_in left m to r
+binary_of left m l to q r asked told =
+    rw (told, asked) (same_search left m to (binary_ends m.memory (query_of l 0))
     (binary_ends m.memory (query_of l left)) (is_search (query_of l 0))
     (λ k. ap (λ (i : Interval). ends_at_interval m.memory (query_of l left) k i)
-    (interval_is m.memory l left k))
+    (interval_is m.memory l left k)))
 
 place_is : (m : MemoryMap) (l : ℕ → ℕ) (left k : ℕ)
     → chain_place m (linked_query l 0) k ≡ chain_place m (linked_query l left) k
@@ -93,41 +95,12 @@ place_is m l left zero = refl
 place_is m l left (suc k) =
     ap (λ (at : ℕ). number_at 4 m.bytes (next_link (linked_query l left) at)) (place_is m l left k)
 
-pub linked_is : (left : ℕ) (m : Machine) (l : ℕ → ℕ) (to : Dest)
-    → budgeted left (linked_work m l to)
-    ≡ found_in left m to
-    (search_of (linked_query l left) (linked_ends m.memory (linked_query l left)))
-linked_is left m l to =
-    same_search left m to (linked_ends m.memory (linked_query l 0))
-    (linked_ends m.memory (linked_query l left)) (is_search (linked_query l 0))
-    (λ k. ap (λ (at : ℕ). ends_at m.memory (linked_query l left) k at) (place_is m.memory l left k))
-
-pub linear_of : (left : ℕ) (m : Machine) (l : ℕ → ℕ) (to : Dest) (q : Query)
-    (r : Result Found SearchStop)
-    → q ≡ query_of l left
-    → r ≡ search_of q (linear_ends m.memory q)
-    → budgeted left (linear_work m l to) ≡ found_in left m to r
-linear_of left m l to q r asked told =
-    linear_is left m l to
-    ∙ sym (ap (λ (p : Query). found_in left m to (search_of p (linear_ends m.memory p))) asked)
-    ∙ sym (ap (λ (s : Result Found SearchStop). found_in left m to s) told)
-
-pub binary_of : (left : ℕ) (m : Machine) (l : ℕ → ℕ) (to : Dest) (q : Query)
-    (r : Result Found SearchStop)
-    → q ≡ query_of l left
-    → r ≡ search_of q (binary_ends m.memory q)
-    → budgeted left (binary_work m l to) ≡ found_in left m to r
-binary_of left m l to q r asked told =
-    binary_is left m l to
-    ∙ sym (ap (λ (p : Query). found_in left m to (search_of p (binary_ends m.memory p))) asked)
-    ∙ sym (ap (λ (s : Result Found SearchStop). found_in left m to s) told)
-
 pub linked_of : (left : ℕ) (m : Machine) (l : ℕ → ℕ) (to : Dest) (q : Query)
     (r : Result Found SearchStop)
-    → q ≡ linked_query l left
-    → r ≡ search_of q (linked_ends m.memory q)
+    → q ≡ linked_query l left → r ≡ search_of q (linked_ends m.memory q)
     → budgeted left (linked_work m l to) ≡ found_in left m to r
 linked_of left m l to q r asked told =
-    linked_is left m l to
-    ∙ sym (ap (λ (p : Query). found_in left m to (search_of p (linked_ends m.memory p))) asked)
-    ∙ sym (ap (λ (s : Result Found SearchStop). found_in left m to s) told)
+    rw (told, asked) (same_search left m to (linked_ends m.memory (linked_query l 0))
+    (linked_ends m.memory (linked_query l left)) (is_search (linked_query l 0))
+    (λ k. ap (λ (at : ℕ). ends_at m.memory (linked_query l left) k at)
+    (place_is m.memory l left k)))

@@ -1,21 +1,18 @@
 -- One tick before an opcode's work.
-use Rattle.std.proofs.Common.{◌≡◌, ℕ, ◌+◌, ◌-◌, ◌<◌, Bool, true, false, nat_lt}
-use Rattle.std.proofs.Common.{Result, Ok, Err, refl, arith, List, replicate, take}
-use Rattle.std.proofs.Common.{slice_index, Option, Some, ◌∙◌, sym, ap, subst, cond}
+use Rattle.std.proofs.Common.{◌≡◌, ℕ, ◌+◌, ◌-◌, ◌<◌, Bool, true, false, nat_lt, Result, Ok, Err}
+use Rattle.std.proofs.Common.{refl, arith, List, replicate, take, slice_index, Option, Some, ◌∙◌}
+use Rattle.std.proofs.Common.{sym, ap, subst, cond}
 use Rattle.std.proofs.lemmas.Bool.Decides.{nat_tests}
 use Rattle.vm_memory.specs.Chaining.{◌>>=◌}
-use Rattle.vm_memory.specs.declared.fault.Trap.{Trap}
-use Rattle.vm_memory.specs.declared.fault.Trap.TheVariants.{Fault, NoMemory}
 use Rattle.vm_operand.specs.Instruction.{instruction_at}
 use Rattle.vm_operand.specs.Opcode.{op_of}
 use Rattle.vm_operand.specs.declared.opcode.Op.{Op}
 use Rattle.vm_operand.specs.declared.instruction.Instr.{Instr}
 use Rattle.vm_operand.specs.declared.operand.Dest.{Dest}
-use Rattle.vm_exec.specs.Answer.{Does}
 use Rattle.vm_exec.specs.Rules.{Rule, loaded_all}
 use Rattle.vm_exec.specs.Rows.Work.{Work, Free, Costs, budgeted, costing}
-use Rattle.vm_exec.specs.Row.{charged, step_within, step_of, work_of}
-use Rattle.vm_exec.specs.Row.{work, width_of, dest_by_index, fetched}
+use Rattle.vm_exec.specs.Row.{charged, step_within, step_of, work_of, work, width_of, dest_by_index}
+use Rattle.vm_exec.specs.Row.{fetched}
 use Rattle.vm_exec.specs.declared.machine.Machine.{Machine}
 use Rattle.vm_exec.specs.declared.step.Step.{Step}
 use Rattle.vm_exec.specs.declared.step.Done.{Done}
@@ -45,13 +42,6 @@ pub told_work : (left : ℕ) (w : Work)
 told_work left (Free (Ok x)) h = rw (one left h) refl
 told_work left (Free (Err n)) h = rw (one left h) refl
 told_work left (Costs n r) h = rw (later left n h) (over (nat_lt (left - 1) n) n r)
-
--- an error of the work is one of the step
-pub told_err : (left : ℕ) (w : Work) (new : Machine) (e : Trap)
-    → 0 < left → Does (budgeted (left - 1) w) new (Err e)
-    → Does {A = Step} (step_within left (charged (Ok w))) new (Err e)
-told_err left w new (Fault n) h d = told_work left w h ∙ ap stepped d
-told_err left w new NoMemory h d = tt
 
 -- what the work told is what the step tells
 pub told_ok : (left : ℕ) (op : Option Op) (o : Op) (m new : Machine) (args : List ℕ)

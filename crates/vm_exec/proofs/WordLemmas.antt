@@ -1,6 +1,5 @@
 -- Words of memory, read one by one.
-use Rattle.std.proofs.Common.{◌≡◌, ℕ, suc, ◌+◌, ◌-◌, List, [], ◌∷◌, ◌++◌}
-use Rattle.std.proofs.Common.{Result, Ok, Err, refl, arith, ap, sym, ◌∙◌}
+use Rattle.std.proofs.Common.{◌≡◌, ℕ, suc, ◌+◌, List, [], ◌∷◌, ◌++◌, Result, Ok, Err, refl, ap, sym}
 use mathlib.Core.List.{append_assoc, append-nil}
 use Rattle.vm_memory.specs.Chaining.{◌>>=◌}
 use Rattle.vm_memory.specs.Access.{read}
@@ -14,21 +13,10 @@ abbrev pub behind : List ℕ → Result (List ℕ) ℕ → Result (List ℕ) ℕ
 behind xs (Ok ys) = Ok (xs ++ ys)
 behind xs (Err n) = Err n
 
-behind_nothing : (r : Result (List ℕ) ℕ) → r ≡ behind [] r
-behind_nothing (Ok ys) = refl
-behind_nothing (Err n) = refl
-
 behind_twice : (xs : List ℕ) (x : ℕ) (r : Result (List ℕ) ℕ)
     → behind xs (r >>= (λ ys. Ok (x ∷ ys))) ≡ behind (xs ++ x ∷ []) r
 behind_twice xs x (Ok ys) = ap (λ (zs : List ℕ). Ok zs) (sym (append_assoc xs (x ∷ []) ys))
 behind_twice xs x (Err n) = refl
-
-all_left : (n : ℕ) → n ≡ n - 0
-all_left n = omega arith
-
-pub words-begin : (m : MemoryMap) (at n : ℕ) → words_at m at n ≡ behind [] (words_at m at (n - 0))
-words-begin m at n =
-    behind_nothing (words_at m at n) ∙ ap (λ (k : ℕ). behind [] (words_at m at k)) (all_left n)
 
 pub words-more : (m : MemoryMap) (at x n k : ℕ) (xs : List ℕ) → n ≡ suc k → read 4 m at ≡ Ok x
     → behind xs (words_at m at n) ≡ behind (xs ++ x ∷ []) (words_at m (at + 4) k)

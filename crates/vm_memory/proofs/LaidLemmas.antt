@@ -2,14 +2,14 @@
 use Rattle.std.proofs.Common.{◌≡◌, ℕ, zero, suc, add-zero, min, ◌^◌, ◌+◌, ◌-◌, ◌*◌, ◌/◌, ◌%◌, ◌<◌}
 use Rattle.std.proofs.Common.{◌≤◌, List, [], ◌∷◌, ◌++◌, length, get_or, take, drop, replicate}
 use Rattle.std.proofs.Common.{slice_index, refl, ap, sym, ◌∙◌, arith, inl, inr, ◌⊎◌}
-use Rattle.std.proofs.lemmas.List.{same_lists, places, get_or-take, get_or-drop, get_or_append_left}
+use Rattle.std.proofs.lemmas.List.{same_lists, get_or-take, get_or-drop, get_or_append_left}
 use Rattle.std.proofs.lemmas.List.{get_or-append_right, get_or_default, length-append, length-drop}
 use Rattle.std.proofs.lemmas.List.{length-take, length-replicate, get_or-replicate, get_or_past}
-use Rattle.std.proofs.lemmas.List.{drop_all, take_rest, take_more, drop-drop, append_assoc}
+use Rattle.std.proofs.lemmas.List.{drop_all, take_rest, take_more, append_assoc}
 use Rattle.std.proofs.lemmas.List.{append-nil, take_all, nil_from_length}
 use Rattle.std.proofs.lemmas.List.FromFn.{get_or-map-range_with_len, length-map-range_with_len}
+use Rattle.std.proofs.lemmas.List.FromFn.{take-map-range_with_len, fill_by_all}
 use Rattle.std.proofs.lemmas.Bool.{cases_lt, lt-ltb, le-ltb}
-use Rattle.std.specs.Prelude.{slice_index_or}
 use Rattle.byteorder.specs.Endian.{big_number, big_from}
 use Rattle.vm_memory.specs.MemoryMap.{replaced, original, number_at, KeepsRom}
 use Rattle.vm_memory.specs.Code.{IsCode}
@@ -38,15 +38,13 @@ pub byte_above : (rom : List ℕ) (ramstart : ℕ) (rows : Rows) (i : ℕ) → r
 unfolding byte_of
 byte_above rom ramstart rows i l = let t = le-ltb i ramstart l in rw t refl
 
--- two lists of bytes are one where they show the same
-pub laid_same : (rom : List ℕ) (ramstart : ℕ) (old new : Rows) (size : ℕ) → ((i : ℕ)
-    → byte_of rom ramstart new i ≡ byte_of rom ramstart old i)
-    → laid rom ramstart new size ≡ laid rom ramstart old size
-laid_same rom ramstart old new size same =
-    let n = length_laid rom ramstart new size in
-    let m = length_laid rom ramstart old size in
-    same_lists _ _ (omega (arith, n, m)) (λ k d l. byte_laid rom ramstart new size k d (omega
-    (arith, n)) ∙ same k ∙ sym (byte_laid rom ramstart old size k d (omega (arith, n))))
+-- the bytes of memory are a list of as many, each of which they show
+laid_is : (rom : List ℕ) (ramstart : ℕ) (rows : Rows) (size : ℕ) (bytes : List ℕ)
+    → length bytes ≡ size → ((k : ℕ) → k < size → byte_of rom ramstart rows k ≡ slice_index bytes k)
+    → laid rom ramstart rows size ≡ bytes
+unfolding laid
+laid_is rom ramstart rows size bytes e same =
+    sym (fill_by_all (byte_of rom ramstart rows) bytes size 0 e (λ k l. sym (same k l)))
 
 pub byte_same : (rom : List ℕ) (ramstart : ℕ) (old new : Rows) (i : ℕ)
     → shown rom new i ≡ shown rom old i → byte_of rom ramstart new i ≡ byte_of rom ramstart old i
@@ -55,29 +53,28 @@ byte_same rom ramstart old new i e = rw e refl
 
 pub laid_shows : (rom : List ℕ) (ramstart : ℕ) (old new : Rows) (size : ℕ) → Shows rom old new
     → laid rom ramstart new size ≡ laid rom ramstart old size
-laid_shows rom ramstart old new size shows = laid_same rom ramstart old new size
-    (λ i. byte_same rom ramstart old new i (shows.same i))
+laid_shows rom ramstart old new size shows =
+    laid_is rom ramstart new size _ (length_laid rom ramstart old size) (λ k l.
+    byte_same rom ramstart old new k (shows.same k) ∙ sym (byte_laid rom ramstart old size k 0 l))
 
 -- bytes that are put into RAM
 pub laid_puts : (rom : List ℕ) (ramstart : ℕ) (old new : Rows) (size at : ℕ) (bytes : List ℕ)
     → PutsBytes rom old new at bytes → ramstart ≤ at → at + length bytes ≤ size
     → laid rom ramstart new size ≡ replaced (laid rom ramstart old size) at bytes
 laid_puts rom ramstart old new size at bytes puts ram inside =
-    let n = length_laid rom ramstart new size in
     let m = length_laid rom ramstart old size in
     let fits : at + length bytes ≤ length (laid rom ramstart old size) = omega (arith, m) in
     let z = length_replaced (laid rom ramstart old size) at bytes fits in
-    same_lists _ _ (omega (arith, n, m, z)) (λ k d l.
-    let below : k < size = omega (arith, n) in
-    let was = byte_laid rom ramstart old size k d below in
-    byte_laid rom ramstart new size k d below ∙ elim (cases_lt k at) [
+    laid_is rom ramstart new size _ (omega (arith, m, z)) (λ k l.
+    let was = byte_laid rom ramstart old size k 0 l in
+    elim (cases_lt k at) [
       | inl low ↦ byte_same rom ramstart old new k (puts.below k low)
-          ∙ sym (byte_before (laid rom ramstart old size) at bytes k d fits low ∙ was)
+          ∙ sym (byte_before (laid rom ramstart old size) at bytes k 0 fits low ∙ was)
       | inr from ↦ elim (cases_lt k (at + length bytes)) [
         | inl high ↦ byte_above rom ramstart new k (omega arith) ∙ puts.inside k from high
-            ∙ sym (byte_within (laid rom ramstart old size) at bytes k d fits from high)
+            ∙ sym (byte_within (laid rom ramstart old size) at bytes k 0 fits from high)
         | inr past ↦ byte_same rom ramstart old new k (puts.past k past)
-            ∙ sym (byte_after (laid rom ramstart old size) at bytes k d fits past ∙ was)
+            ∙ sym (byte_after (laid rom ramstart old size) at bytes k 0 fits past ∙ was)
       ]
     ])
 
@@ -95,19 +92,15 @@ byte_none rom ramstart i = elim (cases_lt i ramstart) [
 pub laid_original : (rom : List ℕ) (ramstart size : ℕ) → length rom ≤ size
     → laid rom ramstart [] size ≡ original rom size
 laid_original rom ramstart size within =
-    let n = length_laid rom ramstart [] size in
-    let m = length-append rom (replicate (size - length rom) 0) in
-    let z = length-replicate {A = ℕ} (size - length rom) 0 in
-    same_lists _ _ (omega (arith, n, m, z)) (λ k d l.
-    let below : k < size = omega (arith, n) in
-    byte_laid rom ramstart [] size k d below ∙ byte_none rom ramstart k
+    laid_is rom ramstart [] size (original rom size)
+    (omega (arith, length-append {A = ℕ}, length-replicate {A = ℕ})) (λ k l.
+    byte_none rom ramstart k
     ∙ elim (cases_lt k (length rom)) [
-      | inl low ↦ get_or_default rom k 0 d low
-          ∙ sym (get_or_append_left rom (replicate (size - length rom) 0) d k low)
+      | inl low ↦ sym (get_or_append_left rom (replicate (size - length rom) 0) 0 k low)
       | inr high ↦ get_or_past rom k 0 high
           ∙ sym (get_or-append_right rom (replicate (size - length rom) 0)
-          (length rom) k d refl high
-          ∙ get_or-replicate (size - length rom) (k - length rom) 0 d (omega arith))
+          (length rom) k 0 refl high
+          ∙ get_or-replicate (size - length rom) (k - length rom) 0 0 (omega arith))
     ])
 
 -- another size, where nothing is held past the smaller one
@@ -117,51 +110,36 @@ pub laid_cuts : (rom : List ℕ) (ramstart : ℕ) (old new : Rows) (was size lea
     → laid rom ramstart new size ≡ take size (laid rom ramstart old was) ++ replicate
     (size - length (laid rom ramstart old was)) 0
 laid_cuts rom ramstart old new was size least cuts a b which ram within =
-    let n = length_laid rom ramstart new size in
     let m = length_laid rom ramstart old was in
     let t = length-take size (laid rom ramstart old was) in
     let z = length-replicate {A = ℕ} (size - length (laid rom ramstart old was)) 0 in
     let s = length-append (take size (laid rom ramstart old was)) (replicate (size - length
     (laid rom ramstart old was)) 0) in
-    same_lists _ _ (omega (arith, n, m, t, z, s)) (λ k d l.
-    let below : k < size = omega (arith, n) in
-    byte_laid rom ramstart new size k d below ∙ elim (cases_lt k least) [
+    laid_is rom ramstart new size _ (omega (arith, m, t, z, s)) (λ k l.
+    elim (cases_lt k least) [
       | inl low ↦
           byte_same rom ramstart old new k (cuts.below k low)
-          ∙ sym (get_or_append_left (take size (laid rom ramstart old was)) _ d k (omega
-          (arith, t, m)) ∙ get_or-take size (laid rom ramstart old was) k d below
-          ∙ byte_laid rom ramstart old was k d (omega arith))
+          ∙ sym (get_or_append_left (take size (laid rom ramstart old was)) _ 0 k (omega
+          (arith, t, m)) ∙ get_or-take size (laid rom ramstart old was) k 0 l
+          ∙ byte_laid rom ramstart old was k 0 (omega arith))
       | inr high ↦
           byte_above rom ramstart new k (omega arith) ∙ cuts.past k high
           ∙ get_or_past rom k 0 (omega arith)
-          ∙ sym (get_or-append_right (take size (laid rom ramstart old was)) _ was k d (omega
-          (arith, t, m)) (omega arith) ∙ get_or-replicate _ (k - was) 0 d (omega (arith, m)))
+          ∙ sym (get_or-append_right (take size (laid rom ramstart old was)) _ was k 0 (omega
+          (arith, t, m)) (omega arith) ∙ get_or-replicate _ (k - was) 0 0 (omega (arith, m)))
     ])
 
 -- below RAMSTART stands the image
 pub laid_rom : (rom : List ℕ) (ramstart : ℕ) (rows : Rows) (size : ℕ) → ramstart ≤ length rom
     → ramstart ≤ size → KeepsRom ramstart rom (laid rom ramstart rows size)
-laid_rom rom ramstart rows size within fits =
-    let n = length_laid rom ramstart rows size in
-    record {
-      within = within;
-      same = same_lists _ _ (omega (
-        arith,
-        length-take ramstart
-            (laid rom ramstart rows size),
-        length-take ramstart rom,
-        n,
-      )) (λ k d l.
-          let low : k < ramstart = omega (
-            arith,
-            length-take ramstart
-                (laid rom ramstart rows size),
-          ) in
-          get_or-take ramstart (laid rom ramstart rows size) k d low
-          ∙ byte_laid rom ramstart rows size k d (omega arith)
-          ∙ byte_below rom ramstart rows k low ∙ get_or_default rom k 0 d (omega arith)
-          ∙ sym (get_or-take ramstart rom k d low));
-    }
+unfolding laid
+laid_rom rom ramstart rows size within fits = record {
+  within = within;
+  same = take-map-range_with_len (byte_of rom ramstart rows) 0 size ramstart fits
+      ∙ laid_is rom ramstart rows ramstart (take ramstart rom)
+      (omega (arith, length-take ramstart rom))
+      (λ k l. byte_below rom ramstart rows k l ∙ sym (get_or-take ramstart rom k 0 l));
+}
 
 -- bytes at an address, by index
 pub slice_laid : (rom : List ℕ) (ramstart : ℕ) (rows : Rows) (size at n : ℕ) (bytes : List ℕ)
@@ -170,9 +148,8 @@ pub slice_laid : (rom : List ℕ) (ramstart : ℕ) (rows : Rows) (size at n : �
     → bytes ≡ take n (drop at (laid rom ramstart rows size))
 slice_laid rom ramstart rows size at n bytes fits m same =
     let z = length_laid rom ramstart rows size in
-    let t = length-take n (drop at (laid rom ramstart rows size)) in
-    let u = length-drop at (laid rom ramstart rows size) in
-    same_lists _ _ (omega (arith, m, z, t, u)) (λ k d l.
+    same_lists bytes (take n (drop at (laid rom ramstart rows size)))
+    (omega (arith, m, z, length-take {A = ℕ}, length-drop {A = ℕ})) (λ k d l.
     get_or_default bytes k d 0 l ∙ same k (omega (arith, m))
     ∙ sym (get_or-take n (drop at (laid rom ramstart rows size)) k d (omega (arith, m))
     ∙ get_or-drop at (laid rom ramstart rows size) k d
@@ -182,8 +159,8 @@ pub slice_rom : (rom : List ℕ) (ramstart : ℕ) (rows : Rows) (size at n : ℕ
     → at + n ≤ ramstart → ramstart ≤ length rom
     → take n (drop at rom) ≡ take n (drop at (laid rom ramstart rows size))
 slice_rom rom ramstart rows size at n fits low within =
-    slice_laid rom ramstart rows size at n (take n (drop at rom)) fits (omega
-    (arith, length-take n (drop at rom), length-drop at rom))
+    slice_laid rom ramstart rows size at n (take n (drop at rom)) fits
+    (omega (arith, length-take {A = ℕ}, length-drop {A = ℕ}))
     (λ i l. get_or-take n (drop at rom) i 0 l ∙ get_or-drop at rom i 0
     ∙ sym (byte_below rom ramstart rows (at + i) (omega arith)))
 
@@ -216,9 +193,7 @@ slice_page rom ramstart rows size at n fits high one held =
     let f : (at + i) % 256 ≡ at % 256 + i = omega arith in
     get_or-take n (drop (at % 256) page) i 0 l ∙ get_or-drop (at % 256) page i 0
     ∙ get_or_default page (at % 256 + i) 0 (slice_index rom (at + i)) (omega arith)
-    ∙ sym (byte_above rom ramstart rows (at + i) (omega arith)
-    ∙ ap (λ p. slice_index_or p ((at + i) % 256) (slice_index rom (at + i))) (ap
-    (page_in rows) e) ∙ ap (λ k. slice_index_or page k (slice_index rom (at + i))) f))
+    ∙ sym (byte_above rom ramstart rows (at + i) (omega arith) ∙ rw (e, f) refl))
 
 pub slice_image : (rom : List ℕ) (ramstart : ℕ) (rows : Rows) (size at n : ℕ) → at + n ≤ size
     → ramstart ≤ at → at % 256 + n ≤ 256 → length (page_in rows (at / 256)) ≤ at % 256
@@ -231,10 +206,8 @@ slice_image rom ramstart rows size at n fits high one past within =
     let e : (at + i) / 256 ≡ at / 256 = omega arith in
     get_or-take n (drop at rom) i 0 l ∙ get_or-drop at rom i 0
     ∙ sym (byte_above rom ramstart rows (at + i) (omega arith)
-    ∙ ap (λ p. slice_index_or p ((at + i) % 256) (slice_index rom (at + i))) (ap
-    (page_in rows) e)
-    ∙ get_or_past (page_in rows (at / 256)) ((at + i) % 256) (slice_index rom (at + i))
-    (omega arith)))
+    ∙ rw e (get_or_past (page_in rows (at / 256)) ((at + i) % 256) (slice_index rom (at + i))
+    (omega arith))))
 
 -- a number depends on its bytes alone
 pub big_from_same : (i n : ℕ) (xs ys : List ℕ) → ((k : ℕ) → k < i + n
@@ -255,46 +228,35 @@ pub byte_from : (rom : List ℕ) (ramstart : ℕ) (rows : Rows) (size at k : ℕ
 byte_from rom ramstart rows size at k l = sym (get_or-drop at (laid rom ramstart rows size) k 0
     ∙ byte_laid rom ramstart rows size (at + k) 0 l)
 
-two_of : (rom : List ℕ) (ramstart : ℕ) (rows : Rows) (size at k : ℕ) → at + 2 ≤ size → k < 2
-    → slice_index (byte_of rom ramstart rows at ∷ byte_of rom ramstart rows
-    (at + 1) ∷ []) k ≡ slice_index (drop at (laid rom ramstart rows size)) k
-two_of rom ramstart rows size at zero fits l = ap (byte_of rom ramstart rows) (sym (add-zero at))
+first_byte : (rom : List ℕ) (ramstart : ℕ) (rows : Rows) (size at : ℕ) → at + 1 ≤ size
+    → byte_of rom ramstart rows at ≡ slice_index (drop at (laid rom ramstart rows size)) 0
+first_byte rom ramstart rows size at fits =
+    ap (byte_of rom ramstart rows) (sym (add-zero at))
     ∙ byte_from rom ramstart rows size at 0 (omega arith)
-two_of rom ramstart rows size at (suc zero) fits l = byte_from rom ramstart rows size at 1
-    (omega arith)
-two_of rom ramstart rows size at (suc (suc k)) fits l = absurd (omega arith)
 
-four_of : (rom : List ℕ) (ramstart : ℕ) (rows : Rows) (size at k : ℕ) → at + 4 ≤ size → k < 4
-    → slice_index (byte_of rom ramstart rows at ∷ byte_of rom ramstart rows
-    (at + 1) ∷ byte_of rom ramstart rows (at + 2) ∷ byte_of rom ramstart rows
-    (at + 3) ∷ []) k ≡ slice_index (drop at (laid rom ramstart rows size)) k
-four_of rom ramstart rows size at zero fits l = ap (byte_of rom ramstart rows) (sym
-    (add-zero at)) ∙ byte_from rom ramstart rows size at 0 (omega arith)
-four_of rom ramstart rows size at (suc zero) fits l = byte_from rom ramstart rows size at 1
-    (omega arith)
-four_of rom ramstart rows size at (suc (suc zero)) fits l = byte_from rom ramstart rows size at 2
-    (omega arith)
-four_of rom ramstart rows size at (suc (suc
-    (suc zero))) fits l = byte_from rom ramstart rows size at 3 (omega arith)
-four_of rom ramstart rows size at (suc (suc (suc (suc k)))) fits l = absurd (omega arith)
+pub number_of_one : (rom : List ℕ) (ramstart : ℕ) (rows : Rows) (size at : ℕ) → at + 1 ≤ size
+    → number_at 1 (laid rom ramstart rows size) at ≡ byte_of rom ramstart rows at
+number_of_one rom ramstart rows size at fits =
+    let e = first_byte rom ramstart rows size at fits in omega (arith, e)
 
 pub number_of_two : (rom : List ℕ) (ramstart : ℕ) (rows : Rows) (size at : ℕ) → at + 2 ≤ size
     → big_number 2 (byte_of rom ramstart rows at ∷ byte_of rom ramstart rows
     (at + 1) ∷ []) ≡ number_at 2 (laid rom ramstart rows size) at
 number_of_two rom ramstart rows size at fits =
-    big_from_same 0 2 (byte_of rom ramstart rows at ∷ byte_of rom ramstart rows (at + 1) ∷ [])
-    (drop at (laid rom ramstart rows size)) (λ k l. two_of rom ramstart rows size at k fits
-    (omega arith))
+    let a = first_byte rom ramstart rows size at (omega arith) in
+    let b = byte_from rom ramstart rows size at 1 (omega arith) in
+    omega (arith, a, b)
 
 pub number_of_four : (rom : List ℕ) (ramstart : ℕ) (rows : Rows) (size at : ℕ) → at + 4 ≤ size
     → big_number 4 (byte_of rom ramstart rows at ∷ byte_of rom ramstart rows
     (at + 1) ∷ byte_of rom ramstart rows (at + 2) ∷ byte_of rom ramstart rows
     (at + 3) ∷ []) ≡ number_at 4 (laid rom ramstart rows size) at
 number_of_four rom ramstart rows size at fits =
-    big_from_same 0 4 (byte_of rom ramstart rows at ∷ byte_of rom ramstart rows
-    (at + 1) ∷ byte_of rom ramstart rows (at + 2) ∷ byte_of rom ramstart rows (at + 3) ∷ [])
-    (drop at (laid rom ramstart rows size)) (λ k l. four_of rom ramstart rows size at k fits
-    (omega arith))
+    let a = first_byte rom ramstart rows size at (omega arith) in
+    let b = byte_from rom ramstart rows size at 1 (omega arith) in
+    let c = byte_from rom ramstart rows size at 2 (omega arith) in
+    let d = byte_from rom ramstart rows size at 3 (omega arith) in
+    omega (arith, a, b, c, d)
 
 -- one more byte at an address
 pub take_byte : (rom : List ℕ) (ramstart : ℕ) (rows : Rows) (size at i : ℕ) → at ≤ i → i < size
@@ -308,17 +270,6 @@ take_byte rom ramstart rows size at i from below =
     ∙ take_more (drop at bytes) (i - at) 0 (omega (arith, n, d))
     ∙ ap (λ b. take (i - at) (drop at bytes) ++ b ∷ []) (get_or-drop at bytes (i - at) 0
     ∙ ap (λ k. get_or bytes k 0) (omega arith) ∙ byte_laid rom ramstart rows size i 0 below)
-
-take_parts : (m n : ℕ) (xs : List ℕ) → take m xs ++ take n (drop m xs) ≡ take (m + n) xs
-take_parts m n xs = same_lists _ _ (grind (arith, places)) (λ k d h. grind (arith, places))
-
--- bytes after the bytes before them
-pub take_span : (bytes : List ℕ) (at done some : ℕ)
-    → take done (drop at bytes) ++ take some (drop (at + done) bytes) ≡ take (done + some)
-    (drop at bytes)
-take_span bytes at done some =
-    ap (λ t. take done (drop at bytes) ++ take some t) (sym (drop-drop done at bytes))
-    ∙ take_parts done some (drop at bytes)
 
 pub append_byte : (rom : List ℕ) (ramstart : ℕ) (rows : Rows) (size at i : ℕ)
     (old was new : List ℕ) (b : ℕ) → new ≡ was ++ b ∷ []
@@ -336,16 +287,6 @@ pub laid_alike : (rom : List ℕ) (ramstart : ℕ) (old new : Rows) (size : ℕ)
     → page_in new k ≡ page_in old k) → laid rom ramstart new size ≡ laid rom ramstart old size
 laid_alike rom ramstart old new size same = laid_shows rom ramstart old new size
     (shows_alike rom old new same)
-
-pub number_of_one : (rom : List ℕ) (ramstart : ℕ) (rows : Rows) (size at : ℕ) → at + 1 ≤ size
-    → number_at 1 (laid rom ramstart rows size) at ≡ byte_of rom ramstart rows at
-number_of_one rom ramstart rows size at fits =
-    let e : slice_index (drop at
-    (laid rom ramstart rows size)) 0 ≡ byte_of rom ramstart rows at = get_or-drop at
-    (laid rom ramstart rows size) 0 0
-    ∙ ap (λ k. get_or (laid rom ramstart rows size) k 0) (omega arith)
-    ∙ byte_laid rom ramstart rows size at 0 (omega arith) in
-    omega (arith, e)
 
 -- RAM as a whole
 pub ram_is : (bytes : List ℕ) (n size : ℕ) → size ≡ length bytes

@@ -41,23 +41,13 @@ page_byte bytes n k d l = get_or-take 256 (drop (n * 256) bytes) k d l
 
 length_page : (xs ys : List ℕ) (n : ℕ) → length xs ≡ length ys
     → length (page_of xs n) ≡ length (page_of ys n)
-length_page xs ys n e = omega (
-  arith,
-  e,
-  length-take 256 (drop (n * 256) xs),
-  length-take 256
-      (drop (n * 256) ys),
-  length-drop (n * 256) xs,
-  length-drop (n * 256) ys,
-)
+length_page xs ys n e = omega (arith, e, length-take {A = ℕ}, length-drop {A = ℕ})
 
 in_page : (bytes : List ℕ) (n k : ℕ) → k < length (page_of bytes n)
     → (k < 256) × (n * 256 + k < length bytes)
-in_page bytes n k l = (
-  omega (arith, length-take 256 (drop (n * 256) bytes)),
-  omega
-      (arith, length-take 256 (drop (n * 256) bytes), length-drop (n * 256) bytes),
-)
+in_page bytes n k l =
+    let short = length-take 256 (drop (n * 256) bytes) in
+    (omega (arith, short), omega (arith, short, length-drop (n * 256) bytes))
 
 -- two lists with the same bytes in a page
 page_same : (xs ys : List ℕ) (n : ℕ) → length xs ≡ length ys → ((i d : ℕ) → i / 256 ≡ n

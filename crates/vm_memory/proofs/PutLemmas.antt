@@ -1,12 +1,12 @@
 -- Lemmas on bytes in place of others.
 use Rattle.std.proofs.Common.{◌≡◌, ◌≢◌, ℕ, ◌+◌, ◌-◌, ◌/◌, ◌%◌, ◌<◌, ◌≤◌, List, ◌++◌, length}
 use Rattle.std.proofs.Common.{get_or, take, drop, slice_index, refl, ap, sym, ◌∙◌, arith, subst}
-use Rattle.std.proofs.Common.{Bool, true, false, inl, inr, [], length-take-le}
+use Rattle.std.proofs.Common.{Bool, true, false, inl, inr, length-take-le}
 use Rattle.std.proofs.lemmas.List.{same_lists, places, get_or_append_left, get_or-append_right}
 use Rattle.std.proofs.lemmas.List.{get_or_default, length-append, length-replicate, take-replicate}
 use Rattle.std.proofs.lemmas.List.{replicate-append-replicate}
 use Rattle.std.proofs.lemmas.Bool.{cases_lt, cases_eq, leb-true}
-use Rattle.std.specs.Prelude.{slice_index_or, nat_le, replicate}
+use Rattle.std.specs.Prelude.{nat_le, replicate}
 use Rattle.vm_memory.specs.MemoryMap.{replaced}
 use Rattle.vm_memory.specs.Pages.{Rows, page_in, shown, PutsBytes, Shows, page_after_write}
 use Rattle.vm_memory.proofs.RowLemmas.{shows_alike}
@@ -45,14 +45,11 @@ puts_page rom old new at bytes within fits put kept =
     let page = page_in old (at / 256) in
     let here : (i : ℕ) → i / 256 ≡ at / 256
     → shown rom new i ≡ get_or (replaced page (at % 256) bytes) (i % 256)
-    (slice_index rom i) = λ i e. ap (λ p. slice_index_or p (i % 256) (slice_index rom i)) (ap
-    (page_in new) e ∙ put) in
+    (slice_index rom i) = λ i e. rw (e, put) refl in
     let was : (i : ℕ) → i / 256 ≡ at / 256
-    → shown rom old i ≡ get_or page (i % 256) (slice_index rom i) = λ i e. ap
-    (λ p. slice_index_or p (i % 256) (slice_index rom i)) (ap (page_in old) e) in
+    → shown rom old i ≡ get_or page (i % 256) (slice_index rom i) = λ i e. rw e refl in
     let other : (i : ℕ) → i / 256 ≢ at / 256
-    → shown rom new i ≡ shown rom old i = λ i q. ap (λ p. slice_index_or p (i % 256)
-    (slice_index rom i)) (kept (i / 256) q) in
+    → shown rom new i ≡ shown rom old i = λ i q. rw (kept (i / 256) q) refl in
     record {
       inside = λ i low high.
           here i (omega arith)
@@ -71,14 +68,10 @@ puts_page rom old new at bytes within fits put kept =
         | inr q ↦ other i q
       ];
       held = λ n h. elim (cases_eq n (at / 256)) [
-        | inl e ↦ subst (λ k. 256 ≤ length (page_in new k)) (sym e) (omega (
-          arith,
-          ap length put,
-          length_replaced page (at % 256) bytes fits,
-          subst
-              (λ k. 256 ≤ length (page_in old k)) e h,
-        ))
-        | inr q ↦ subst (λ p. 256 ≤ length p) (sym (kept n q)) h
+        | inl e ↦
+            let whole : 256 ≤ length page = rw e at h in
+            rw e (omega (arith, ap length put, length_replaced page (at % 256) bytes fits, whole))
+        | inr q ↦ rw (kept n q) h
       ];
     }
 
@@ -99,20 +92,11 @@ put_in_shows rom old new at bytes r is put kept f =
     let past = sym is ∙ f in
     let here : page_in new (at / 256) ≡ page_in old (at / 256) = rw past at put in
     shows_alike rom old new (λ k. elim (cases_eq k (at / 256)) [
-      | inl e ↦ ap (page_in new) e ∙ here ∙ ap (page_in old) (sym e)
+      | inl e ↦ rw e here
       | inr q ↦ kept k q
     ])
 
--- no byte, or bytes after bytes
-pub puts_none : (rom : List ℕ) (rows : Rows) (at : ℕ) → PutsBytes rom rows rows at []
-puts_none rom rows at = record {
-  inside = λ i low high. absurd
-      (omega arith);
-  below = λ i low. refl;
-  past = λ i high. refl;
-  held = λ n h. h;
-}
-
+-- bytes after bytes
 pub puts_more : (rom : List ℕ) (a b d : Rows) (at to : ℕ) (front next : List ℕ)
     → PutsBytes rom a b at front → to ≡ at + length front → PutsBytes rom b d to next
     → PutsBytes rom a d at (front ++ next)

@@ -11,11 +11,16 @@ use Rattle.std.specs.declared.alloc.Global.{Global}
 use Rattle.std.specs.Prelude.{slice_index_or, if◌then◌else◌}
 use Rattle.vm_memory.specs.Pages.{Rows, items_at, page_in, shown, Shows, ShowsPage, Cuts}
 
+pub items_at_get : {X : Type 0} → (vs : List (Vec X Global)) (n : ℕ) (d : Vec X Global)
+    → n < length vs → items_at vs n ≡ (get_or vs n d).items
+items_at_get [] n d l = elim l [ ]
+items_at_get (w ∷ vs) zero d l = refl
+items_at_get (w ∷ vs) (suc n) d l = items_at_get vs n d (omega arith)
+
 pub items_at_read : {X : Type 0} → (vs : List (Vec X Global)) (n : ℕ) (v : Vec X Global)
     → n < length vs → v ≡ get_or vs n v → items_at vs n ≡ v.items
-items_at_read [] n v l e = elim l [ ]
-items_at_read {X = X} (w ∷ vs) zero v l e = ap (λ (u : Vec X Global). u.items) (sym e)
-items_at_read (w ∷ vs) (suc n) v l e = items_at_read vs n v (omega arith) e
+items_at_read {X = X} vs n v l e =
+    items_at_get vs n v l ∙ ap (λ (u : Vec X Global). u.items) (sym e)
 
 pub items_at_past : {X : Type 0} → (vs : List (Vec X Global)) (n : ℕ) → length vs ≤ n
     → items_at vs n ≡ []
@@ -46,89 +51,84 @@ items_at_more (w ∷ vs) v zero e = refl
 items_at_more (w ∷ vs) v (suc k) e = items_at_more vs v k e
 
 -- a front of the vectors
-pub items_at_take : {X : Type 0} → (vs : List (Vec X Global)) (n k : ℕ) → k < n
+items_at_take : {X : Type 0} → (vs : List (Vec X Global)) (n k : ℕ) → k < n
     → items_at (take n vs) k ≡ items_at vs k
 items_at_take vs zero k l = elim l [ ]
 items_at_take [] (suc n) k l = refl
 items_at_take (w ∷ vs) (suc n) zero l = refl
 items_at_take (w ∷ vs) (suc n) (suc k) l = items_at_take vs n k (omega arith)
 
-pub items_at_cut : {X : Type 0} → (vs : List (Vec X Global)) (n k : ℕ) → n ≤ k
-    → items_at (take n vs) k ≡ []
-items_at_cut vs zero k l = refl
-items_at_cut [] (suc n) k l = refl
-items_at_cut (w ∷ vs) (suc n) zero l = elim l [ ]
-items_at_cut (w ∷ vs) (suc n) (suc k) l = items_at_cut vs n k (omega arith)
+pub front_kept : {X : Type 0} → (vs front : List (Vec X Global)) (n k : ℕ) → front ≡ take n vs
+    → k < n → items_at front k ≡ items_at vs k
+front_kept vs front n k e l = ap (λ ws. items_at ws k) e ∙ items_at_take vs n k l
+
+pub front_ends : {X : Type 0} → (vs front : List (Vec X Global)) (n k : ℕ) → front ≡ take n vs
+    → n ≤ k → items_at front k ≡ []
+front_ends vs front n k e l =
+    items_at_past front k (let size = ap length e in omega (arith, size, length-take n vs))
 
 -- two numbers of one page
 pub same_number : (n k : ℕ) → n / 64 ≡ k / 64 → n % 64 ≡ k % 64 → n ≡ k
 same_number n k a b = omega arith
 
-pub items_at_within : {X : Type 0} → (vs : List (Vec X Global)) (n : ℕ)
-    → 0 < length (items_at vs n) → n < length vs
-items_at_within [] n l = elim l [ ]
-items_at_within (w ∷ vs) zero l = omega arith
-items_at_within (w ∷ vs) (suc n) l = let h = items_at_within vs n l in omega arith
-
 -- bytes of the image after what is held of a page
-pub fill_rom : (rom page : List ℕ) (n k start stop : ℕ)
+fill_rom : (rom page : List ℕ) (n start stop i : ℕ)
     → start ≡ min (length rom) (n * 256 + length page) → stop ≡ min (length rom) (n * 256 + 256)
-    → k < 256
-    → slice_index_or (page ++ take (stop - start) (drop start rom)) k (slice_index rom
-    (n * 256 + k)) ≡ slice_index_or page k (slice_index rom (n * 256 + k))
-fill_rom rom page n k start stop e f l = elim (cases_lt k (length page)) [
-  | inl low ↦ get_or_append_left page _ _ k low
-  | inr high ↦ get_or-append_right page _ (length page) k _ refl high
-      ∙ elim (cases_lt (k - length page) (stop - start)) [
-        | inl within ↦ get_or-take (stop - start) (drop start rom) (k - length page) _ within
-            ∙ get_or-drop start rom (k - length page) _
-            ∙ get_or_default rom (start + (k - length page)) _ 0 (omega arith)
-            ∙ ap (slice_index rom) (omega arith) ∙ sym (get_or_past page k _ high)
-        | inr past ↦ get_or_past (take (stop - start) (drop start rom)) (k - length page) _ (omega
-            (arith, length-take (stop - start) (drop start rom))) ∙ sym (get_or_past page k _ high)
-      ]
-]
+    → i / 256 ≡ n
+    → slice_index_or (page ++ take (stop - start) (drop start rom)) (i % 256) (slice_index rom i)
+    ≡ slice_index_or page (i % 256) (slice_index rom i)
+fill_rom rom page n start stop i e f h =
+    let k = i % 256 in
+    elim (cases_lt k (length page)) [
+      | inl low ↦ get_or_append_left page _ _ k low
+      | inr high ↦ get_or-append_right page _ (length page) k _ refl high
+          ∙ elim (cases_lt (k - length page) (stop - start)) [
+            | inl within ↦ get_or-take (stop - start) (drop start rom) (k - length page) _ within
+                ∙ get_or-drop start rom (k - length page) _
+                ∙ get_or_default rom (start + (k - length page)) _ 0 (omega arith)
+                ∙ ap (slice_index rom) (omega arith) ∙ sym (get_or_past page k _ high)
+            | inr past ↦ get_or_past (take (stop - start) (drop start rom)) (k - length page) _
+                (omega (arith, length-take (stop - start) (drop start rom)))
+                ∙ sym (get_or_past page k _ high)
+          ]
+    ]
 
 -- zeros after what is held of a page, past the image
-pub fill_zero : (rom page : List ℕ) (n k : ℕ) → k < 256
+fill_zero : (rom page : List ℕ) (n i : ℕ) → i / 256 ≡ n
     → length rom ≤ n * 256 + length page ⊎ (256 ≤ length page)
-    → slice_index_or (take 256 page ++ replicate (256 - length page) 0) k (slice_index rom
-    (n * 256 + k)) ≡ slice_index_or page k (slice_index rom (n * 256 + k))
-fill_zero rom page n k l past =
+    → slice_index_or (take 256 page ++ replicate (256 - length page) 0) (i % 256)
+    (slice_index rom i) ≡ slice_index_or page (i % 256) (slice_index rom i)
+fill_zero rom page n i h past =
+    let k = i % 256 in
     let t = length-take 256 page in
     elim (cases_lt k (length page)) [
       | inl low ↦ get_or_append_left (take 256 page) _ _ k (omega arith)
-          ∙ get_or-take 256 page k _ l
+          ∙ get_or-take 256 page k _ (omega arith)
       | inr high ↦ elim past [
         | inl end ↦ get_or-append_right (take 256 page) _ (length page) k _ (omega arith) high
             ∙ get_or-replicate (256 - length page) (k - length page) 0 _ (omega arith)
-            ∙ sym (get_or_past page k _ high ∙ get_or_past rom (n * 256 + k) 0 (omega arith))
+            ∙ sym (get_or_past page k _ high ∙ get_or_past rom i 0 (omega arith))
         | inr whole ↦ absurd (omega arith)
       ]
     ]
 
 -- a page of whose bytes the image's are held now
-pub fill_shows : (rom page : List ℕ) (n start stop : ℕ)
+fill_shows : (rom page : List ℕ) (n start stop : ℕ)
     → start ≡ min (length rom) (n * 256 + length page) → stop ≡ min (length rom) (n * 256 + 256)
     → length page < 256 → ShowsPage rom n page (page ++ take (stop - start) (drop start rom))
 fill_shows rom page n start stop e f l = record {
-  same = λ i h. subst (λ j. slice_index_or (page ++ take (stop - start) (drop start rom))
-      (i % 256) (slice_index rom j) ≡ slice_index_or page (i % 256) (slice_index rom j))
-      (omega arith) (fill_rom rom page n (i % 256) start stop e f (omega arith));
+  same = λ i h. fill_rom rom page n start stop i e f h;
   held = λ h. absurd (omega arith);
 }
 
-pub fill_rest : (rom page : List ℕ) (n : ℕ)
+fill_rest : (rom page : List ℕ) (n : ℕ)
     → length rom ≤ n * 256 + length page ⊎ (256 ≤ length page)
     → ShowsPage rom n page (take 256 page ++ replicate (256 - length page) 0)
 fill_rest rom page n past = record {
-  same = λ i h. subst (λ j. slice_index_or (take 256 page ++ replicate (256 - length page) 0)
-      (i % 256) (slice_index rom j) ≡ slice_index_or page (i % 256) (slice_index rom j))
-      (omega arith) (fill_zero rom page n (i % 256) (omega arith) past);
+  same = λ i h. fill_zero rom page n i h past;
   held = λ h. omega (
     arith,
-    length-append (take 256 page) (replicate
-        (256 - length page) 0),
+    length-append (take 256 page) (replicate (256 - length page) 0),
     length-take 256 page,
   );
 }
@@ -143,12 +143,6 @@ shows_more rom page next last n a b = record {
       ∙ a.same i h;
   held = λ h. b.held (a.held h);
 }
-
-pub items_at_get : {X : Type 0} → (vs : List (Vec X Global)) (n : ℕ) (d : Vec X Global)
-    → n < length vs → items_at vs n ≡ (get_or vs n d).items
-items_at_get [] n d l = elim l [ ]
-items_at_get (w ∷ vs) zero d l = refl
-items_at_get (w ∷ vs) (suc n) d l = items_at_get vs n d (omega arith)
 
 pub page_in_get : (rows : Rows) (n : ℕ) (d : Vec (Vec ℕ Global) Global) → n / 64 < length rows
     → page_in rows n ≡ items_at (get_or rows (n / 64) d).items (n % 64)
@@ -172,11 +166,7 @@ unfolding page_in
 page_in_other rows n k v d l same q = elim (cases_eq (k / 64) (n / 64)) [
   | inl e ↦
       let other : k % 64 ≢ n % 64 = λ f. q (same_number k n e f) in
-      ap (λ r. items_at (items_at (set rows (n / 64) v) r) (k % 64)) e
-      ∙ ap (λ ps. items_at ps (k % 64)) (items_at_set rows (n / 64) v l)
-      ∙ same (k % 64) other
-      ∙ sym (ap (λ ps. items_at ps (k % 64)) (items_at_get rows (n / 64) d l))
-      ∙ ap (λ r. items_at (items_at rows r) (k % 64)) (sym e)
+      rw (e, items_at_set rows (n / 64) v l, items_at_get rows (n / 64) d l) (same (k % 64) other)
   | inr other ↦ ap (λ ps. items_at ps (k % 64)) (items_at_other rows (n / 64) (k / 64) v other)
 ]
 
@@ -225,9 +215,7 @@ pub shows_set : (rom : List ℕ) (vs was : List (Vec ℕ Global)) (number j : �
     → ShowsPage rom number d.items v.items
     → ShowsPage rom number (items_at was j) (items_at (set vs j v) j)
 shows_set rom vs was number j v d l same e shows =
-    subst (λ p. ShowsPage rom number p (items_at (set vs j v) j)) (sym (items_at_read vs j d l e)
-    ∙ same)
-    (subst (ShowsPage rom number d.items) (sym (items_at_set vs j v l)) shows)
+    rw (← same, items_at_set vs j v l, items_at_read vs j d l e) shows
 
 -- a page that is shown as before, among others that stay
 pub shows_all : (rom : List ℕ) (old new : Rows) (n : ℕ)
@@ -236,15 +224,12 @@ pub shows_all : (rom : List ℕ) (old new : Rows) (n : ℕ)
 unfolding shown
 shows_all rom old new n at_n kept = record {
   same = λ i. elim (cases_eq (i / 256) n) [
-    | inl e ↦ ap (λ k. slice_index_or (page_in new k) (i % 256) (slice_index rom i)) e
-        ∙ at_n.same i e
-        ∙ ap (λ k. slice_index_or (page_in old k) (i % 256) (slice_index rom i)) (sym e)
-    | inr q ↦ ap (λ p. slice_index_or p (i % 256) (slice_index rom i)) (kept (i / 256) q)
+    | inl e ↦ rw e (at_n.same i e)
+    | inr q ↦ rw (kept (i / 256) q) refl
   ];
   held = λ k h. elim (cases_eq k n) [
-    | inl e ↦ subst (λ j. 256 ≤ length (page_in new j)) (sym e) (at_n.held (subst
-        (λ j. 256 ≤ length (page_in old j)) e h))
-    | inr q ↦ subst (λ p. 256 ≤ length p) (sym (kept k q)) h
+    | inl e ↦ rw e (at_n.held (rw e at h))
+    | inr q ↦ rw (kept k q) h
   ];
 }
 
@@ -280,9 +265,7 @@ hold_shows rom was vs n v d l same e shows kept =
     let here : page_in vs n ≡ items_at d.items (n % 64) = page_in_get vs n d l
     ∙ ap (λ (u : Vec (Vec ℕ Global) Global). items_at u.items (n % 64)) (sym e) in
     shows_then rom was vs (set vs (n / 64) v) (shows_rows rom was vs same)
-    (shows_all rom vs (set vs (n / 64) v) n
-    (subst (λ p. ShowsPage rom n p (page_in (set vs (n / 64) v) n)) (sym here)
-    (subst (ShowsPage rom n (items_at d.items (n % 64))) (sym (page_in_set vs n v l)) shows))
+    (shows_all rom vs (set vs (n / 64) v) n (rw (here, page_in_set vs n v l) shows)
     (λ k q. page_in_other vs n k v d l (λ j p. kept j p
     ∙ ap (λ (u : Vec (Vec ℕ Global) Global). items_at u.items j) e) q))
 
@@ -327,8 +310,7 @@ pub copied_rows : (to from : Rows) → length to ≡ length from → ((k : ℕ) 
 unfolding page_in
 copied_rows to from n same k = elim (cases_lt (k / 64) (length from)) [
   | inl low ↦ same (k / 64) low (k % 64)
-  | inr high ↦ ap (λ ps. items_at ps (k % 64)) (items_at_past to (k / 64) (omega arith)
-      ∙ sym (items_at_past from (k / 64) high))
+  | inr high ↦ rw (items_at_past to (k / 64) (omega arith), items_at_past from (k / 64) high) refl
 ]
 
 -- pages that are given up
@@ -339,22 +321,19 @@ pub cuts : (rom : List ℕ) (old new : Rows) (size : ℕ)
 unfolding shown
 cuts rom old new size here below past = record {
   below = λ i l. elim (cases_lt (i / 256) (size / 256)) [
-    | inl low ↦ ap (λ p. slice_index_or p (i % 256) (slice_index rom i)) (below (i / 256) low)
+    | inl low ↦ rw (below (i / 256) low) refl
     | inr high ↦
         let e : i / 256 ≡ size / 256 = omega arith in
-        ap (λ p. slice_index_or p (i % 256) (slice_index rom i)) (ap (page_in new) e ∙ here
-        ∙ ap (λ n. take (size % 256) (page_in old n)) (sym e))
-        ∙ get_or-take (size % 256) (page_in old (i / 256)) (i % 256) (slice_index rom i)
-        (omega arith)
+        rw (e, here) (get_or-take (size % 256) (page_in old (size / 256)) (i % 256)
+        (slice_index rom i) (omega arith))
   ];
   past = λ i l. elim (cases_lt (size / 256) (i / 256)) [
-    | inl low ↦ ap (λ p. slice_index_or p (i % 256) (slice_index rom i)) (past (i / 256) low)
+    | inl low ↦ rw (past (i / 256) low) refl
     | inr high ↦
         let e : i / 256 ≡ size / 256 = omega arith in
         let n = length-take (size % 256) (page_in old (size / 256)) in
-        ap (λ p. slice_index_or p (i % 256) (slice_index rom i)) (ap (page_in new) e ∙ here)
-        ∙ get_or_past (take (size % 256) (page_in old (size / 256))) (i % 256) (slice_index rom i)
-        (omega (arith, n))
+        rw (e, here) (get_or_past (take (size % 256) (page_in old (size / 256))) (i % 256)
+        (slice_index rom i) (omega (arith, n)))
   ];
 }
 
@@ -369,8 +348,8 @@ pub cut_rows : (rom : List ℕ) (old vs : Rows) (size : ℕ) (v d : Vec (Vec ℕ
 unfolding page_in
 cut_rows rom old vs size v d front l e here below past =
     let r = size / 256 / 64 in
-    let row : d.items ≡ items_at old r = sym (items_at_read vs r d l e)
-    ∙ ap (λ ws. items_at ws r) front ∙ items_at_take old (r + 1) r (omega arith) in
+    let row : d.items ≡ items_at old r =
+    sym (items_at_read vs r d l e) ∙ front_kept old vs (r + 1) r front (omega arith) in
     cuts rom old (set vs r v) size
     (page_in_set vs (size / 256) v l ∙ here
     ∙ ap (λ ps. take (size % 256) (items_at ps (size / 256 % 64))) row)
@@ -378,26 +357,19 @@ cut_rows rom old vs size v d front l e here below past =
       | inl less ↦
           let q : k / 64 ≢ r = omega arith in
           ap (λ ps. items_at ps (k % 64)) (items_at_other vs r (k / 64) v q
-          ∙ ap (λ ws. items_at ws (k / 64)) front
-          ∙ items_at_take old (r + 1) (k / 64) (omega arith))
+          ∙ front_kept old vs (r + 1) (k / 64) front (omega arith))
       | inr more ↦
           let f : k / 64 ≡ r = omega arith in
-          ap (λ n. items_at (items_at (set vs r v) n) (k % 64)) f
-          ∙ ap (λ ps. items_at ps (k % 64)) (items_at_set vs r v l)
-          ∙ below (k % 64) (omega arith) ∙ ap (λ ps. items_at ps (k % 64)) row
-          ∙ ap (λ n. items_at (items_at old n) (k % 64)) (sym f)
+          rw (f, items_at_set vs r v l, ← row) (below (k % 64) (omega arith))
     ])
     (λ k high. elim (cases_lt r (k / 64)) [
       | inl more ↦
           let q : k / 64 ≢ r = omega arith in
           ap (λ ps. items_at ps (k % 64)) (items_at_other vs r (k / 64) v q
-          ∙ ap (λ ws. items_at ws (k / 64)) front
-          ∙ items_at_cut old (r + 1) (k / 64) (omega arith))
+          ∙ front_ends old vs (r + 1) (k / 64) front (omega arith))
       | inr less ↦
           let f : k / 64 ≡ r = omega arith in
-          ap (λ n. items_at (items_at (set vs r v) n) (k % 64)) f
-          ∙ ap (λ ps. items_at ps (k % 64)) (items_at_set vs r v l)
-          ∙ past (k % 64) (omega arith)
+          rw (f, items_at_set vs r v l) (past (k % 64) (omega arith))
     ])
 
 pub cut_short : (rom : List ℕ) (old vs : Rows) (size : ℕ) → vs ≡ take (size / 256 / 64 + 1) old
@@ -405,13 +377,10 @@ pub cut_short : (rom : List ℕ) (old vs : Rows) (size : ℕ) → vs ≡ take (s
 unfolding page_in
 cut_short rom old vs size front l =
     let r = size / 256 / 64 in
-    let same : (n : ℕ) → n ≤ r
-    → items_at vs n ≡ items_at old n = λ n m. ap (λ ws. items_at ws n) front
-    ∙ items_at_take old (r + 1) n (omega arith) in
     let none : items_at vs r ≡ [] = items_at_past vs r l in
-    cuts rom old vs size
-    (ap (λ ps. items_at ps (size / 256 % 64)) none ∙ sym (take_all (size % 256) [] (omega arith))
-    ∙ ap (λ ps. take (size % 256) (items_at ps (size / 256 % 64))) (sym none
-    ∙ same r (omega arith)))
-    (λ k low. ap (λ ps. items_at ps (k % 64)) (same (k / 64) (omega arith)))
+    let was : items_at old r ≡ [] =
+    sym (front_kept old vs (r + 1) r front (omega arith)) ∙ none in
+    cuts rom old vs size (rw (none, was) (sym (take_all (size % 256) [] (omega arith))))
+    (λ k low. ap (λ ps. items_at ps (k % 64))
+    (front_kept old vs (r + 1) (k / 64) front (omega arith)))
     (λ k high. ap (λ ps. items_at ps (k % 64)) (items_at_past vs (k / 64) (omega arith)))

@@ -5,7 +5,7 @@ use Rattle.std.proofs.lemmas.Bool.Decides.{nat_tests}
 use Rattle.std.proofs.lemmas.List.{drop_more}
 use Rattle.vm_stack.specs.Frame.{locals_end, aligned}
 
-no_zero : (x : ℕ) → x ≢ 0 → (x == 0) ≡ false
+pub no_zero : (x : ℕ) → x ≢ 0 → (x == 0) ≡ false
 no_zero x h = grind (arith, nat_tests)
 
 -- what the pair at a place gives

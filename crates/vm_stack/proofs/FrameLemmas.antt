@@ -12,11 +12,6 @@ use Rattle.vm_stack.proofs.NumberLemmas.{number_behind, number_first}
 pub aligned_up : (at : ℕ) → at ≤ aligned 4 at
 aligned_up at = omega arith
 
-lengths : (low a b f z l : List ℕ)
-    → length (low ++ (a ++ b ++ f) ++ z ++ l)
-    ≡ length low + (length a + length b + length f) + length z + length l
-lengths low a b f z l = simp length-append refl
-
 pub seam : (low a b f z l v : List ℕ)
     → low ++ (a ++ b ++ f) ++ z ++ l ++ v ≡ low ++ (a ++ (b ++ (f ++ (z ++ (l ++ v)))))
 seam low a b f z l v = simp append_assoc refl
@@ -29,15 +24,10 @@ pub length_before : (fr : Frame) (below : List Frame)
     → IsFrame fr
     → length (before fr below) ≡ length (bytes_of_frames below) + frame_len_of fr.format
 length_before fr below h =
-    let e =
-    lengths (bytes_of_frames below) (big_bytes 4 (frame_len_of fr.format))
-    (big_bytes 4 (locals_pos_of fr.format)) fr.format fr.padding fr.locals in
     let z = h.padding in
-    let a = length-bytes_high_first 4 (frame_len_of fr.format) in
-    let b = length-bytes_high_first 4 (locals_pos_of fr.format) in
-    let u = aligned_up (8 + length fr.format) in
     let l = h.locals in
-    omega (arith, e, z, u, l, a, b)
+    let u = aligned_up (8 + length fr.format) in
+    omega (arith, length-append {A = ℕ}, z, l, u)
 
 pub first_word : (low a rest : List ℕ) (x : ℕ)
     → a ≡ big_bytes 4 x → x < 4294967296
@@ -85,16 +75,14 @@ pub record Top (s : StackState) : Type 0 where
   pub before : List ℕ
   pub values : List ℕ
   pub count : ℕ
-  pub some : 0 < length before
+  pub head : 8 ≤ frame_len s
+  pub ends : s.frame + frame_len s ≡ length before
   pub fours : ℕ
   pub aligns : length before ≡ 4 * fours
   pub bytes : s.bytes ≡ before ++ values
   pub size : length values ≡ 4 * count
   pub held : value_bytes s ≡ length values
   pub again : (ys : List ℕ) (n : ℕ) → length ys ≡ 4 * n → Chain (record s { bytes = before ++ ys })
-  pub again_held : (ys : List ℕ) (n : ℕ)
-      → length ys ≡ 4 * n
-      → value_bytes (record s { bytes = before ++ ys }) ≡ length ys
 
 pub held_in : (s : StackState) (fr : Frame) (below : List Frame)
     → IsFrame fr → s.bytes ≡ bytes_of_frames (fr ∷ below)
@@ -104,8 +92,7 @@ held_in s fr below h bytes frame =
     let len = frame_len_is s fr below h bytes frame in
     let b = length_before fr below h in
     let l = ap length bytes in
-    let a = length-append (before fr below) fr.values in
-    omega (arith, len, b, l, a, frame)
+    omega (arith, len, b, l, length-append {A = ℕ}, frame)
 
 -- lengths are multiples of four
 fours_of : List ℕ → ℕ
@@ -124,26 +111,20 @@ fours_below (fr ∷ below) c =
     let low = rest.1 in
     let b = length_before fr below c.0 in
     let f = fours_of_is fr.format in
-    let a = length-append (before fr below) fr.values in
     let v = c.0.values in
-    (rest.0 + fours_of fr.format + fr.count, omega (arith, low, b, f, a, v))
+    (rest.0 + fours_of fr.format + fr.count, omega (arith, length-append {A = ℕ}, low, b, f, v))
 
 inside_in : (s : StackState) (frames : List Frame)
-    → s.bytes ≡ bytes_of_frames frames → s.frame ≡ start frames
-    → s.frame ≤ length s.bytes
-inside_in s [] bytes frame = omega (arith, frame)
-inside_in s (fr ∷ below) bytes frame =
+    → IsChain frames → s.bytes ≡ bytes_of_frames frames
+    → s.frame ≡ start frames → s.frame ≤ length s.bytes
+inside_in s [] c bytes frame = omega (arith, frame)
+inside_in s (fr ∷ below) c bytes frame =
     let l = ap length bytes in
-    let a =
-    length-append (bytes_of_frames below ++ frame_head fr.format ++ fr.padding ++ fr.locals)
-    fr.values in
-    let b = length-append (bytes_of_frames below ++ frame_head fr.format ++ fr.padding) fr.locals in
-    let p = length-append (bytes_of_frames below ++ frame_head fr.format) fr.padding in
-    let d = length-append (bytes_of_frames below) (frame_head fr.format) in
-    omega (arith, l, a, b, p, d, frame)
+    let b = length_before fr below c.0 in
+    omega (arith, l, length-append {A = ℕ}, b, frame)
 
 pub frame_inside : (s : StackState) → Chain s → s.frame ≤ length s.bytes
-frame_inside s c = inside_in s c.frames c.bytes c.frame
+frame_inside s c = inside_in s c.frames c.linked c.bytes c.frame
 
 top_of : (s : StackState) (fr : Frame) (below : List Frame)
     → IsFrame fr → IsBelow below → IsChain below
@@ -152,10 +133,14 @@ top_of s fr below h is chain bytes frame = record {
   before = before fr below;
   values = fr.values;
   count = fr.count;
-  some =
-      let b = length_before fr below h in
+  head =
+      let len = frame_len_is s fr below h bytes frame in
       let u = aligned_up (8 + length fr.format) in
-      omega (arith, b, u);
+      omega (arith, len, u);
+  ends =
+      let len = frame_len_is s fr below h bytes frame in
+      let b = length_before fr below h in
+      omega (arith, len, b, frame);
   fours = (fours_below below chain).0 + fours_of fr.format;
   aligns =
       let low = (fours_below below chain).1 in
@@ -180,16 +165,6 @@ top_of s fr below h is chain bytes frame = record {
     bytes = refl;
     frame = frame;
   };
-  again_held = λ ys n e.
-      held_in (record s { bytes = before fr below ++ ys })
-      (record fr { values = ys; count = n }) below
-      (record {
-        format = h.format;
-        padding = h.padding;
-        locals = h.locals;
-        values = e;
-        fits = h.fits;
-      }) refl frame;
 }
 
 top_in : (s : StackState) (frames : List Frame)

@@ -4,56 +4,17 @@ use Rattle.std.proofs.Common.{arith, sym, ap, length-append, nat_le, inl, inr, s
 use Rattle.std.proofs.Common.{append_assoc, replicate}
 use Rattle.std.proofs.Math.Seq.{take-length, drop-length}
 use Rattle.std.proofs.lemmas.Bool.{cases_Bool, leb-true}
-use Rattle.std.proofs.lemmas.List.{length-replicate, take-append-drop, length-take-le, append-nil, take-take}
+use Rattle.std.proofs.lemmas.List.{length-replicate, length-take-le, append-nil}
 use Rattle.byteorder.specs.Endian.{big_bytes}
 use Rattle.byteorder.specs.Numbers.{length-bytes_high_first}
-use Rattle.vm_stack.specs.Frame.{fresh_frame, frame_len_of, locals_len, locals_pos_of, padding_len}
+use Rattle.vm_stack.specs.Frame.{frame_head, fresh_frame, frame_len_of, locals_len}
+use Rattle.vm_stack.specs.Frame.{locals_pos_of, padding_len}
 use Rattle.vm_stack.specs.StackState.{number, replaced_within}
 use Rattle.vm_stack.specs.Head.{StandsWhole, IsHead}
 use Rattle.vm_stack.specs.declared.head.Head.{Head}
-use Rattle.vm_stack.proofs.NumberLemmas.{number_within}
+use Rattle.vm_stack.proofs.NumberLemmas.{number_within, number_taken}
 use Rattle.vm_stack.proofs.FrameLemmas.{aligned_up, first_word, second_word}
-use Rattle.vm_stack.proofs.ChainLemmas.{length_replaced}
-
--- a frame that stands whole does so with more bytes on top
-pub stands_below : (xs ys : List ℕ) (frame : ℕ) (head : Head)
-    → StandsWhole xs frame head → StandsWhole (xs ++ ys) frame head
-stands_below xs ys frame head s =
-    let above = s.above in
-    let span = s.span in
-    let below = s.below in
-    let size = length-append xs ys in
-    record {
-      above = above;
-      span = span;
-      below = omega (arith, below, size);
-      locals = ap (λ (n : ℕ). frame + n)
-          (sym (number_within xs ys (frame + 4) (omega (arith, above, span, below)))) ∙ s.locals;
-      values = ap (λ (n : ℕ). frame + n)
-          (sym (number_within xs ys frame (omega (arith, above, span, below)))) ∙ s.values;
-    }
-
--- and in bytes that begin with those below its values
-pub stands_in : (xs : List ℕ) (n frame : ℕ) (head : Head) → n ≤ length xs → head.values ≤ n
-    → StandsWhole xs frame head → StandsWhole (take n xs) frame head
-stands_in xs n frame head le within s =
-    let above = s.above in
-    let span = s.span in
-    let size = length-take-le n xs le in
-    let whole = take-append-drop n xs in
-    record {
-      above = above;
-      span = span;
-      below = omega (arith, within, le, size);
-      locals = ap (λ (n : ℕ). frame + n)
-          (number_within (take n xs) (drop n xs) (frame + 4)
-          (omega (arith, above, span, within, le, size))
-          ∙ ap (λ (zs : List ℕ). number 4 zs (frame + 4)) whole) ∙ s.locals;
-      values = ap (λ (n : ℕ). frame + n)
-          (number_within (take n xs) (drop n xs) frame
-          (omega (arith, above, span, within, le, size))
-          ∙ ap (λ (zs : List ℕ). number 4 zs frame) whole) ∙ s.values;
-    }
+use Rattle.vm_stack.proofs.LocalLemmas.{length_replaced}
 
 -- a number before what is put at a place
 number_before : (xs new : List ℕ) (at place : ℕ) → place + 4 ≤ at
@@ -67,48 +28,64 @@ number_before xs new at place le =
           rw e (sym (number_within (take at xs ++ new) (drop (at + length new) xs) place
           (omega (arith, le, size, more)))
           ∙ (sym (number_within (take at xs) new place (omega (arith, le, size)))
-          ∙ (number_within (take at xs) (drop at xs) place (omega (arith, le, size))
-          ∙ ap (λ (zs : List ℕ). number 4 zs place) (take-append-drop at xs))))
+          ∙ number_taken xs at place le (omega (arith, inside))))
           )
       | inr e ↦ rw e refl
     ]
 
--- and with bytes put above its two numbers
-pub stands_around : (xs new : List ℕ) (at frame : ℕ) (head : Head) → frame + 8 ≤ at
-    → StandsWhole xs frame head → StandsWhole (replaced_within xs at new) frame head
-stands_around xs new at frame head le s =
-    record {
-      above = s.above;
-      span = s.span;
-      below = rw (length_replaced xs at new) s.below;
-      locals =
-          ap (λ (n : ℕ). frame + n) (number_before xs new at (frame + 4) (omega (arith, le)))
-          ∙ s.locals;
-      values =
-          ap (λ (n : ℕ). frame + n) (number_before xs new at frame (omega (arith, le))) ∙ s.values;
-    }
+-- a frame stands whole in other bytes that have its two numbers and reach to its values
+stands_alike : (xs ys : List ℕ) (frame : ℕ) (head : Head)
+    → head.values ≤ length ys
+    → ((place : ℕ) → place + 4 ≤ frame + 8 → number 4 ys place ≡ number 4 xs place)
+    → StandsWhole xs frame head → StandsWhole ys frame head
+stands_alike xs ys frame head below same s = record {
+  above = s.above;
+  span = s.span;
+  below = below;
+  locals = ap (λ (n : ℕ). frame + n) (same (frame + 4) (omega arith)) ∙ s.locals;
+  values = ap (λ (n : ℕ). frame + n) (same frame (omega arith)) ∙ s.values;
+}
 
+-- with more bytes on top
 pub head_below : (xs ys : List ℕ) (frame : ℕ) (head : Head)
     → IsHead xs frame head → IsHead (xs ++ ys) frame head
 head_below xs ys frame head h = record {
-  whole = λ within. stands_below xs ys frame head (h.whole within);
+  whole = λ small.
+      let s = h.whole small in
+      let above = s.above in
+      let span = s.span in
+      let below = s.below in
+      let size = length-append xs ys in
+      stands_alike xs (xs ++ ys) frame head (omega (arith, below, size))
+      (λ place low. sym (number_within xs ys place (omega (arith, above, span, below, low)))) s;
   spans = h.spans;
 }
 
+-- in bytes that begin with those below its values
 pub head_in : (xs : List ℕ) (m n frame : ℕ) (head : Head) → m ≤ length xs → n ≤ m → head.values ≤ n
     → IsHead (take m xs) frame head → IsHead (take n xs) frame head
-head_in xs m n frame head room le within h =
-    let size = length-take-le m xs room in
-    record {
-      whole = λ small. subst (λ (ys : List ℕ). StandsWhole ys frame head) (take-take n m xs le)
-          (stands_in (take m xs) n frame head (omega (arith, size, le)) within (h.whole small));
-      spans = h.spans;
-    }
+head_in xs m n frame head room le within h = record {
+  whole = λ small.
+      let s = h.whole small in
+      let above = s.above in
+      let span = s.span in
+      let size = length-take-le n xs (omega (arith, room, le)) in
+      stands_alike (take m xs) (take n xs) frame head (omega (arith, size, within))
+      (λ place low.
+      number_taken xs n place (omega (arith, above, span, within, low)) (omega (arith, room, le))
+      ∙ sym (number_taken xs m place (omega (arith, above, span, within, le, low)) room)) s;
+  spans = h.spans;
+}
 
+-- with bytes put above its two numbers
 pub head_around : (xs new : List ℕ) (at frame : ℕ) (head : Head) → frame + 8 ≤ at
     → IsHead xs frame head → IsHead (replaced_within xs at new) frame head
 head_around xs new at frame head le h = record {
-  whole = λ small. stands_around xs new at frame head le (h.whole small);
+  whole = λ small.
+      let s = h.whole small in
+      stands_alike xs (replaced_within xs at new) frame head
+      (rw (length_replaced xs at new) s.below)
+      (λ place low. number_before xs new at place (omega (arith, le, low))) s;
   spans = h.spans;
 }
 
@@ -140,22 +117,17 @@ fresh_seam : (low a b f z l : List ℕ)
     → low ++ ((a ++ b ++ f) ++ z ++ l) ≡ low ++ (a ++ (b ++ (f ++ (z ++ l))))
 fresh_seam low a b f z l = simp append_assoc refl
 
-fresh_lengths : (low a b f z l : List ℕ)
-    → length (low ++ ((a ++ b ++ f) ++ z ++ l))
-    ≡ length low + (length a + length b + length f + length z + length l)
-fresh_lengths low a b f z l = simp length-append refl
-
 length_fresh : (low format : List ℕ)
     → length (low ++ fresh_frame format) ≡ length low + frame_len_of format
 length_fresh low format =
-    let e = fresh_lengths low (big_bytes 4 (frame_len_of format)) (big_bytes 4 (locals_pos_of format))
-    format (replicate (padding_len format) 0) (replicate (locals_len format) 0) in
-    let a = length-bytes_high_first 4 (frame_len_of format) in
-    let b = length-bytes_high_first 4 (locals_pos_of format) in
+    let a = length-append low (fresh_frame format) in
     let z = length-replicate {A = ℕ} (padding_len format) 0 in
     let l = length-replicate {A = ℕ} (locals_len format) 0 in
+    let b = length-append (frame_head format ++ replicate (padding_len format) 0)
+    (replicate (locals_len format) 0) in
+    let d = length-append (frame_head format) (replicate (padding_len format) 0) in
     let up = aligned_up (8 + length format) in
-    omega (arith, e, a, b, z, l, up)
+    omega (arith, a, z, l, b, d, up)
 
 -- what is known of a new frame
 pub fresh_head : (low format : List ℕ) (head locals : ℕ)

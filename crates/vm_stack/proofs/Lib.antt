@@ -2,8 +2,10 @@ pub mod NumberLemmas
 pub mod FormatLemmas
 pub mod FrameLemmas
 pub mod ChainLemmas
+pub mod LocalLemmas
 pub mod TokenLemmas
 pub mod HeadLemmas
 pub mod SavedLemmas
+pub mod LinkLemmas
 pub mod StandardFacts
 pub mod SavedTests

@@ -1,8 +1,8 @@
 -- Numbers that stand in lists put together.
 use Rattle.std.proofs.Common.{◌≡◌, ℕ, ◌+◌, ◌≤◌, ◌<◌, true, nat_le, List, ◌++◌, length}
-use Rattle.std.proofs.Common.{drop, refl, arith, sym, length-append, length-drop}
+use Rattle.std.proofs.Common.{take, drop, refl, arith, sym, ap, ◌∙◌, length-append, length-drop}
 use Rattle.std.proofs.lemmas.Bool.Decides.{nat_tests}
-use Rattle.std.proofs.lemmas.List.{drop-append-le}
+use Rattle.std.proofs.lemmas.List.{drop-append-le, length-take-le, take-append-drop}
 use Rattle.std.proofs.Math.Seq.{drop-append-add}
 use Rattle.byteorder.specs.Numbers.{big_from-append, big_number-reads_back}
 use Rattle.byteorder.specs.Endian.{big_bytes}
@@ -39,3 +39,12 @@ number_within xs ys at h =
     let d = length-drop at xs in
     rw (one, two, drop-append-le at xs ys (omega (arith, h)))
     (sym (big_from-append 4 (drop at xs) ys (omega (arith, d, h))))
+
+-- a number in a front of the bytes
+pub number_taken : (xs : List ℕ) (n at : ℕ)
+    → at + 4 ≤ n → n ≤ length xs
+    → number 4 (take n xs) at ≡ number 4 xs at
+number_taken xs n at h le =
+    let size = length-take-le n xs le in
+    number_within (take n xs) (drop n xs) at (omega (arith, size, h))
+    ∙ ap (λ (ys : List ℕ). number 4 ys at) (take-append-drop n xs)

@@ -1,8 +1,8 @@
 -- The test of a saved stack's bytes tells saved stacks.
 use Rattle.std.proofs.Common.{◌≡◌, inl, inr, ℕ, zero, suc, ◌+◌, ◌-◌, ◌%◌, ◌≤◌, ◌<◌, Bool}
-use Rattle.std.proofs.Common.{true, false, ◌==◌, ◌&&◌, ◌||◌, nat_le, nat_lt, List, [], ◌∷◌}
+use Rattle.std.proofs.Common.{true, false, ◌==◌, ◌&&◌, ◌||◌, nat_le, nat_lt, List}
 use Rattle.std.proofs.Common.{length, take, drop, refl, arith, sym, ap, ◌∙◌, length-drop}
-use Rattle.std.proofs.lemmas.Bool.{or_cases, eqb-true}
+use Rattle.std.proofs.lemmas.Bool.{and_parts, or_cases, eqb-true}
 use Rattle.std.proofs.lemmas.Bool.Decides.{nat_tests}
 use Rattle.std.proofs.lemmas.List.{length-take}
 use Rattle.std.proofs.lemmas.Slice.Eq.{bytes_eq-Decides}
@@ -10,27 +10,14 @@ use Rattle.std.specs.Bool.{Decides}
 use Rattle.std.specs.Str.{bytes_eq}
 use Rattle.vm_stack.specs.StackState.{number}
 use Rattle.vm_stack.specs.Frame.{frame_head, frame_len_of}
-use Rattle.vm_stack.specs.Chain.{IsFormat}
 use Rattle.vm_stack.specs.Saved.{LinkedFrames, SavedStack, OneFrame, format_from}
 use Rattle.vm_stack.specs.SavedTest.{is_frame_of, is_one_frame, is_frame_over}
 use Rattle.vm_stack.specs.SavedTest.{are_linked, is_saved_stack}
-use Rattle.vm_stack.proofs.SavedLemmas.{parts, no_frames, link_up}
-use Rattle.vm_stack.proofs.SavedLemmas.{link_down, read_frame, frame_read}
-
-left : (a b : Bool) → (a && b) ≡ true → a ≡ true
-left true b h = refl
-left false b h = absurd (grind (arith, h))
-
-right : (a b : Bool) → (a && b) ≡ true → b ≡ true
-right true b h = h
-right false b h = absurd (grind (arith, h))
+use Rattle.vm_stack.proofs.SavedLemmas.{parts, some_format, read_frame, frame_read}
+use Rattle.vm_stack.proofs.LinkLemmas.{no_frames, link_up, link_down}
 
 both : (a b : Bool) → a ≡ true → b ≡ true → (a && b) ≡ true
 both a b h k = rw (h, k) refl
-
-second : (a b : Bool) → b ≡ true → (a || b) ≡ true
-second true b h = refl
-second false b h = h
 
 -- one frame
 
@@ -42,17 +29,16 @@ tested b f n size is small e =
     let head_is = bytes_eq (take (8 + length f) b) (frame_head f) in
     let in_fours = length b % 4 == 0 in
     let fits = nat_le (frame_len_of f + 16) (length b) in
-    let e0 : nat_lt 0 (length f) ≡ true =
-    left (nat_lt 0 (length f)) (fits && (in_fours && head_is)) e in
-    let e1 : (fits && (in_fours && head_is)) ≡ true =
-    right (nat_lt 0 (length f)) (fits && (in_fours && head_is)) e in
-    let e2 : fits ≡ true = left fits (in_fours && head_is) e1 in
-    let e3 : (in_fours && head_is) ≡ true = right fits (in_fours && head_is) e1 in
+    let p = and_parts (nat_lt 0 (length f)) (fits && (in_fours && head_is)) e in
+    let q = and_parts fits (in_fours && head_is) p.1 in
+    let r = and_parts in_fours head_is q.1 in
+    let e0 : nat_lt 0 (length f) ≡ true = p.0 in
+    let e2 : fits ≡ true = q.0 in
     let some : 0 < length f = grind (arith, nat_tests, e0) in
     let long : frame_len_of f + 16 ≤ length b = grind (arith, nat_tests, e2) in
-    let fours : length b % 4 ≡ 0 = eqb-true (length b % 4) 0 (left in_fours head_is e3) in
+    let fours : length b % 4 ≡ 0 = eqb-true (length b % 4) 0 r.0 in
     let head : take (8 + length f) b ≡ frame_head f =
-    (bytes_eq-Decides (take (8 + length f) b) (frame_head f)).0 (right in_fours head_is e3) in
+    (bytes_eq-Decides (take (8 + length f) b) (frame_head f)).0 r.1 in
     let taken : length f ≡ length (take n (drop 8 b)) = ap length is in
     let short = length-take n (drop 8 b) in
     read_frame 16 b f n size
@@ -62,11 +48,6 @@ frame_tested : (b : List ℕ) → length b ≤ 1048576 → is_one_frame b ≡ tr
 frame_tested b small e =
     tested b (take (format_from 0 (drop 8 b)) (drop 8 b))
     (format_from 0 (drop 8 b)) refl refl small e
-
-some_format : (f : List ℕ) → IsFormat f → 2 ≤ length f
-some_format [] is = absurd is
-some_format (x ∷ []) is = absurd is
-some_format (x ∷ y ∷ g) is = omega arith
 
 passed : (b f : List ℕ)
     → 0 < length f → frame_len_of f + 16 ≤ length b
@@ -99,14 +80,15 @@ up_from : (below : List ℕ → Bool) (xs : List ℕ) (at : ℕ)
 up_from below xs at low is small e =
     let frame = is_one_frame (drop at xs) in
     let rest = below (take at xs) in
-    let e1 : nat_lt at (length xs) ≡ true = left (nat_lt at (length xs)) (frame && rest) e in
-    let e2 : (frame && rest) ≡ true = right (nat_lt at (length xs)) (frame && rest) e in
+    let p = and_parts (nat_lt at (length xs)) (frame && rest) e in
+    let q = and_parts frame rest p.1 in
+    let e1 : nat_lt at (length xs) ≡ true = p.0 in
     let inside : at < length xs = grind (arith, nat_tests, e1) in
     let over = length-drop at xs in
     let under = length-take at xs in
     link_up xs at inside (sym is)
-    (frame_tested (drop at xs) (omega (arith, over, small)) (left frame rest e2))
-    (low (take at xs) (omega (arith, under, small)) (right frame rest e2))
+    (frame_tested (drop at xs) (omega (arith, over, small)) q.0)
+    (low (take at xs) (omega (arith, under, small)) q.1)
 
 linked_up : (n : ℕ) (xs : List ℕ) → length xs ≤ 1048576 → are_linked n xs ≡ true → LinkedFrames xs
 unfolding are_linked
@@ -150,13 +132,11 @@ linked_down (suc n) xs most linked =
 saved_by : (xs : List ℕ) → length xs ≤ 1048576 → is_saved_stack xs ≡ true → SavedStack xs
 unfolding is_saved_stack
 saved_by xs small e =
-    let e1 : nat_lt 0 (length xs) ≡ true =
-    left (nat_lt 0 (length xs)) (are_linked (length xs) xs) e in
+    let p = and_parts (nat_lt 0 (length xs)) (are_linked (length xs) xs) e in
+    let e1 : nat_lt 0 (length xs) ≡ true = p.0 in
     record {
       some = grind (arith, nat_tests, e1);
-      linked =
-          linked_up (length xs) xs small
-          (right (nat_lt 0 (length xs)) (are_linked (length xs) xs) e);
+      linked = linked_up (length xs) xs small p.1;
     }
 
 saved_passes : (xs : List ℕ) → SavedStack xs → is_saved_stack xs ≡ true

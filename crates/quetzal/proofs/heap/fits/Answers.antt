@@ -1,4 +1,4 @@
-use Rattle.std.proofs.Common.{rules, ap, length, sym, ◌∙◌}
+use Rattle.std.proofs.Common.{ap, sym, ◌∙◌}
 use Rattle.vm_heap.proofs.HeapLemmas.{heap_end-last}
 use Rattle.quetzal.specs.Heap.{is_placed}
 use Rattle.quetzal.proofs.OrderLemmas.{fits-filled}

@@ -5,18 +5,19 @@ use Rattle.quetzal.proofs.runs.restore.Goals.{else-due+else-byte-eq0+else-at-ram
 
 pub loop-byte-preserved : goal.loop-byte-preserved
 loop-byte-preserved c =
+    let at = c.loop-byte.at in
+    let i = c.loop-byte.byte-index in
     elim c.if-due.branch [
       | then-due+else-ram-at w ↦
-          keeps_run c.args.ram.now c.args.coded.now c.loop-byte.ram c.if-due.ram c.loop-byte.at
-          c.loop-byte.byte-index c.loop-byte.due c.if-due.at c.if-due.due c.loop-byte-test.true
-          c.loop-byte.invariant w.if-due.true w.if-ram-at.false w.ram-is w.at-is w.due-is
+          rw (w.ram-is, w.at-is, w.due-is)
+          (keeps_run c.args.ram.now c.args.coded.now c.loop-byte.ram at i c.loop-byte-test.true
+          (rw w.if-due.true at c.loop-byte.invariant) w.if-ram-at.false)
       | else-due+then-byte-eq0 w ↦
-          keeps_zero c.args.ram.now c.args.coded.now c.loop-byte.ram c.if-due.ram c.loop-byte.at
-          c.loop-byte.byte-index c.loop-byte.due c.if-due.at c.if-due.due c.loop-byte-test.true
-          c.loop-byte.invariant w.if-due.false w.if-byte-eq0.true w.ram-is w.at-is w.due-is
+          rw (w.ram-is, w.at-is, w.due-is)
+          (keeps_zero c.args.ram.now c.args.coded.now c.loop-byte.ram at i c.loop-byte-test.true
+          (rw w.if-due.false at c.loop-byte.invariant) w.if-byte-eq0.true)
       | else-due+else-byte-eq0+else-at-ram w ↦
-          keeps_change c.args.ram.now c.args.coded.now c.loop-byte.ram c.if-due.ram c.loop-byte.at
-          c.loop-byte.byte-index c.loop-byte.due c.if-due.at c.if-due.due c.loop-byte-test.true
-          c.loop-byte.invariant w.if-due.false w.if-byte-eq0.false w.if-at-ram.false w.ram-is
-          w.at-is w.due-is
+          rw (w.ram-is, w.at-is, w.due-is, w.if-due.false)
+          (keeps_change c.args.ram.now c.args.coded.now c.loop-byte.ram at i c.loop-byte-test.true
+          (rw w.if-due.false at c.loop-byte.invariant) w.if-byte-eq0.false w.if-at-ram.false)
     ]

@@ -1,5 +1,5 @@
 use Rattle.std.proofs.Common.{arith, sym, ◌∙◌}
-use Rattle.vm_stack.proofs.SavedLemmas.{step_up, step_down}
+use Rattle.vm_stack.proofs.LinkLemmas.{step_up, step_down}
 use Rattle.vm_stack.proofs.saved.is_chain.Goals as goal
 
 pub returns-then-start-end-clause-found : goal.returns-then-start-end-clause-found

@@ -28,65 +28,57 @@ flow_goes m n new f g place q r e at taken gives want =
 pub returns-in_ok-fetched-in-Return-clause-does : goal.returns-in_ok-fetched-in-Return-clause-does
 unfolding flow_work
 returns-in_ok-fetched-in-Return-clause-does c =
-    flow_goes c.args.self.now c.one.new.self c.give_back_on.new.self c.args.flow flow.Return
-    c.args.place c.in_ok-fetched-in-Return.fetched c.give_back_on.result c.in-Return.is
-    c.requires.here.opcode c.in_ok-fetched-in-Return.ensures.fetched c.give_back_on.ensures.does
+    flow_goes _ _ _ _ flow.Return _ _ _ c.in-Return.is c.requires.here.opcode
+    c.in_ok-fetched-in-Return.ensures.fetched c.give_back_on.ensures.does
     c.give_back_on.ensures.want
 
 pub returns-in_ok-fetched-in-Throw-clause-does : goal.returns-in_ok-fetched-in-Throw-clause-does
 unfolding flow_work
 returns-in_ok-fetched-in-Throw-clause-does c =
-    flow_goes c.args.self.now c.two.new.self c.throw_on.new.self c.args.flow flow.Throw
-    c.args.place c.in_ok-fetched-in-Throw.fetched c.throw_on.result c.in-Throw.is
-    c.requires.here.opcode c.in_ok-fetched-in-Throw.ensures.fetched c.throw_on.ensures.does
+    flow_goes _ _ _ _ flow.Throw _ _ _ c.in-Throw.is c.requires.here.opcode
+    c.in_ok-fetched-in-Throw.ensures.fetched c.throw_on.ensures.does
     (λ e. tt)
 
 pub returns-in_ok-fetched-in-Tailcall-clause-does :
     goal.returns-in_ok-fetched-in-Tailcall-clause-does
 unfolding flow_work
 returns-in_ok-fetched-in-Tailcall-clause-does c =
-    flow_goes c.args.self.now c.two-in-Tailcall.new.self c.tailcall_on.new.self c.args.flow flow.Tailcall
-    c.args.place c.in_ok-fetched-in-Tailcall.fetched c.tailcall_on.result c.in-Tailcall.is
-    c.requires.here.opcode c.in_ok-fetched-in-Tailcall.ensures.fetched c.tailcall_on.ensures.does
+    flow_goes _ _ _ _ flow.Tailcall _ _ _ c.in-Tailcall.is c.requires.here.opcode
+    c.in_ok-fetched-in-Tailcall.ensures.fetched c.tailcall_on.ensures.does
     (λ e. tt)
 
 pub returns-in_ok-fetched-in-Call-clause-does : goal.returns-in_ok-fetched-in-Call-clause-does
 unfolding flow_work
 returns-in_ok-fetched-in-Call-clause-does c =
-    flow_goes c.args.self.now c.two_and_store.new.self c.call_with_on.new.self c.args.flow flow.Call
-    c.args.place c.in_ok-fetched-in-Call.fetched c.call_with_on.result c.in-Call.is
-    c.requires.here.opcode c.in_ok-fetched-in-Call.ensures.fetched c.call_with_on.ensures.does
+    flow_goes _ _ _ _ flow.Call _ _ _ c.in-Call.is c.requires.here.opcode
+    c.in_ok-fetched-in-Call.ensures.fetched c.call_with_on.ensures.does
     (λ e. tt)
 
 pub returns-in_ok-fetched-in-Callf-clause-does : goal.returns-in_ok-fetched-in-Callf-clause-does
 unfolding flow_work
 returns-in_ok-fetched-in-Callf-clause-does c =
-    flow_goes c.args.self.now c.one_and_store.new.self c.call_on.new.self c.args.flow flow.Callf
-    c.args.place c.in_ok-fetched-in-Callf.fetched c.call_on.result c.in-Callf.is
-    c.requires.here.opcode c.in_ok-fetched-in-Callf.ensures.fetched c.call_on.ensures.does
+    flow_goes _ _ _ _ flow.Callf _ _ _ c.in-Callf.is c.requires.here.opcode
+    c.in_ok-fetched-in-Callf.ensures.fetched c.call_on.ensures.does
     (λ e front. c.call_on.ensures.want front e)
 
 pub returns-in_ok-fetched-in-Callfi-clause-does : goal.returns-in_ok-fetched-in-Callfi-clause-does
 unfolding flow_work
 returns-in_ok-fetched-in-Callfi-clause-does c =
-    flow_goes c.args.self.now c.two_and_store-in-Callfi.new.self c.call_on-in-Callfi.new.self c.args.flow flow.Callfi
-    c.args.place c.in_ok-fetched-in-Callfi.fetched c.call_on-in-Callfi.result c.in-Callfi.is
-    c.requires.here.opcode c.in_ok-fetched-in-Callfi.ensures.fetched c.call_on-in-Callfi.ensures.does
+    flow_goes _ _ _ _ flow.Callfi _ _ _ c.in-Callfi.is c.requires.here.opcode
+    c.in_ok-fetched-in-Callfi.ensures.fetched c.call_on-in-Callfi.ensures.does
     (λ e front. c.call_on-in-Callfi.ensures.want front e)
 
 pub returns-in_ok-fetched-in-Callfii-clause-does : goal.returns-in_ok-fetched-in-Callfii-clause-does
 unfolding flow_work
 returns-in_ok-fetched-in-Callfii-clause-does c =
-    flow_goes c.args.self.now c.three_and_store.new.self c.call_on-in-Callfii.new.self c.args.flow flow.Callfii
-    c.args.place c.in_ok-fetched-in-Callfii.fetched c.call_on-in-Callfii.result c.in-Callfii.is
-    c.requires.here.opcode c.in_ok-fetched-in-Callfii.ensures.fetched c.call_on-in-Callfii.ensures.does
+    flow_goes _ _ _ _ flow.Callfii _ _ _ c.in-Callfii.is c.requires.here.opcode
+    c.in_ok-fetched-in-Callfii.ensures.fetched c.call_on-in-Callfii.ensures.does
     (λ e front. c.call_on-in-Callfii.ensures.want front e)
 
 pub returns-in_ok-fetched-in-Callfiii-clause-does :
     goal.returns-in_ok-fetched-in-Callfiii-clause-does
 unfolding flow_work
 returns-in_ok-fetched-in-Callfiii-clause-does c =
-    flow_goes c.args.self.now c.four_and_store.new.self c.call_on-in-Callfiii.new.self c.args.flow flow.Callfiii
-    c.args.place c.in_ok-fetched-in-Callfiii.fetched c.call_on-in-Callfiii.result c.in-Callfiii.is
-    c.requires.here.opcode c.in_ok-fetched-in-Callfiii.ensures.fetched c.call_on-in-Callfiii.ensures.does
+    flow_goes _ _ _ _ flow.Callfiii _ _ _ c.in-Callfiii.is c.requires.here.opcode
+    c.in_ok-fetched-in-Callfiii.ensures.fetched c.call_on-in-Callfiii.ensures.does
     (λ e front. c.call_on-in-Callfiii.ensures.want front e)

@@ -1,5 +1,6 @@
 use Rattle.std.proofs.Common.{arith, refl}
-use Rattle.vm_exec.proofs.RunLemmas.{keeps_quit, none_gone, one_more, over_quit}
+use Rattle.vm_exec.specs.declared.step.Out.TheVariants as out
+use Rattle.vm_exec.proofs.RunLemmas.{kept_behind, none_gone, one_more}
 use Rattle.vm_exec.proofs.machine.Machine.run_on.Goals as goal
 
 pub loop-done-init : goal.loop-done-init
@@ -19,11 +20,9 @@ loop-done-preserved c =
 pub returns-in-Ok-Quits-clause-kept : goal.returns-in-Ok-Quits-clause-kept
 returns-in-Ok-Quits-clause-kept c =
     let does = rw c.in-Ok-Quits.field-0-is at c.in-Ok-Quits.ensures.does in
-    keeps_quit c.loop-done.done c.args.self.now c.loop-done.self c.quick_step.new.self
-    c.loop-done.invariant.1 does
+    (kept_behind _ _ _ c.quick_step.new.self out.Quit c.loop-done.invariant.1 does).0
 
 pub returns-in-Ok-Quits-clause-over : goal.returns-in-Ok-Quits-clause-over
 returns-in-Ok-Quits-clause-over c =
     let does = rw c.in-Ok-Quits.field-0-is at c.in-Ok-Quits.ensures.does in
-    over_quit c.loop-done.done c.args.self.now c.loop-done.self c.quick_step.new.self
-    c.loop-done.invariant.1 does
+    (kept_behind _ _ _ c.quick_step.new.self out.Quit c.loop-done.invariant.1 does).1

@@ -1,6 +1,6 @@
 use Rattle.std.proofs.Common.{sym, subst, take}
 use Rattle.vm_stack.specs.Chain.{Chain, HasFrame}
-use Rattle.vm_stack.proofs.SavedLemmas.{linked_keeps}
+use Rattle.vm_stack.proofs.ChainLemmas.{linked_keeps}
 use Rattle.vm_stack.proofs.TokenLemmas.{token_keeps, token_there}
 use Rattle.vm_stack.proofs.stack.Stack.cut.Goals as goal
 

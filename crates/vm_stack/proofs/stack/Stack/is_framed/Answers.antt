@@ -1,17 +1,15 @@
-use Rattle.std.proofs.Common.{◌≡◌, length, take, arith, sym, ap, ◌∙◌}
+use Rattle.std.proofs.Common.{take, arith, sym, ◌∙◌}
 use Rattle.std.proofs.lemmas.List.{length-take-le}
-use Rattle.vm_stack.proofs.SavedLemmas.{chain_down, framed_low, framed_top, framed_up, no_frames}
+use Rattle.vm_stack.proofs.LinkLemmas.{framed_down, framed_low, framed_top, framed_up, no_frames}
 use Rattle.vm_stack.proofs.stack.Stack.is_framed.Goals as goal
 
 pub returns-then-start-bytes-clause-found : goal.returns-then-start-bytes-clause-found
 returns-then-start-bytes-clause-found c = λ chain has.
-    let top = chain_down c.args.self.now chain has in
-    let inside = top.inside in
-    let same : length c.live-bytes.result.now ≡ length c.args.self.now.bytes =
-    ap length c.live-bytes.ensures.bytes in
-    let place = c.frame-start.ensures in
+    let inside =
+    (framed_down c.args.self.now c.live-bytes.result.now c.frame-start.result
+    c.live-bytes.ensures.bytes c.frame-start.ensures chain has).inside in
     let out = c.if-start-bytes.true in
-    absurd (omega (arith, inside, same, place, out))
+    absurd (omega (arith, inside, out))
 
 pub returns-then-not-is_frame-clause-found : goal.returns-then-not-is_frame-clause-found
 returns-then-not-is_frame-clause-found c = λ chain has.
@@ -41,5 +39,4 @@ pub returns-else-start-eq0-clause-found : goal.returns-else-start-eq0-clause-fou
 returns-else-start-eq0-clause-found c = λ chain has.
     c.is_chain.ensures.found
     (framed_low c.args.self.now c.live-bytes.result.now c.frame-start.result
-    c.live-bytes.ensures.bytes c.frame-start.ensures c.if-start-bytes.false
-    c.if-start-eq0.false chain has)
+    c.live-bytes.ensures.bytes c.frame-start.ensures c.if-start-eq0.false chain has)

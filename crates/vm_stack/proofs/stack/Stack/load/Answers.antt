@@ -1,6 +1,6 @@
 use Rattle.std.proofs.Common.{sym, subst}
 use Rattle.vm_stack.specs.Chain.{Chain}
-use Rattle.vm_stack.proofs.SavedLemmas.{linked_keeps}
+use Rattle.vm_stack.proofs.ChainLemmas.{linked_keeps}
 use Rattle.vm_stack.proofs.stack.Stack.load.Goals as goal
 
 pub returns-clause-kept : goal.returns-clause-kept

@@ -1,19 +1,14 @@
 use Rattle.std.proofs.Common.{length, ap, ◌∙◌}
 use Rattle.byteorder.specs.Endian.{big_bytes}
 use Rattle.vm_stack.specs.StackState.{StackState}
-use Rattle.vm_stack.proofs.ChainLemmas.{set_keeps, length_replaced}
-use Rattle.vm_stack.proofs.ChainLemmas.{has_local, length_word, has_width}
+use Rattle.vm_stack.proofs.LocalLemmas.{length_replaced, local_keeps}
 use Rattle.vm_stack.proofs.stack.Stack.set_local.Goals as goal
 
 pub returns-in-Some-clause-kept : goal.returns-in-Some-clause-kept
 returns-in-Some-clause-kept c = λ chain.
-    let size = length_word c.args.width c.args.value in
-    let inside = c.in-Some.ensures.inside in
     rw (c.put_held.ensures, c.in-Some.ensures.place)
-    (set_keeps c.args.self.now c.args.offset (big_bytes c.args.width c.args.value)
-    (rw size inside) chain
-    (has_local c.args.self.now c.args.width c.args.offset
-    (has_width c.args.width c.requires) inside))
+    (local_keeps c.args.self.now c.args.offset c.args.width c.args.value c.requires
+    c.in-Some.ensures.inside chain)
 
 pub returns-in-Some-clause-size : goal.returns-in-Some-clause-size
 returns-in-Some-clause-size c =
