@@ -1,5 +1,5 @@
-use Rattle.std.proofs.Common.{◌≡◌, ◌+◌, ◌-◌, ◌*◌, ◌≤◌, ◌≢◌, ℕ, List, length, length-drop, drop, take}
-use Rattle.std.proofs.Common.{slice_index, ◌==◌, true, Ok, refl, arith, ap, sym, ◌∙◌}
+use Rattle.std.proofs.Common.{◌≡◌, ◌+◌, ◌-◌, ◌*◌, ◌≤◌, ◌≢◌, ℕ, List, length, length-drop, drop}
+use Rattle.std.proofs.Common.{take, slice_index, ◌==◌, true, Ok, refl, arith, ap, sym, ◌∙◌}
 use Rattle.std.proofs.lemmas.Bool.{eqb-true}
 use Rattle.std.proofs.lemmas.List.{nil_from_length}
 use Rattle.vm_stack.specs.Frame.{aligned, locals_end}
