@@ -1,14 +1,13 @@
--- What a session refuses and shows again, by what the desk says of the request.
-use Rattle.std.proofs.Common.{◌≡◌, ℕ, ◌<◌, length, IfSome, Bool, true, false, ◌&&◌}
-use Rattle.std.proofs.Common.{◌||◌, ◌==◌, ◌+◌, not, cond, nat_le, List, [], ◌∷◌, ◌++◌}
-use Rattle.std.proofs.Common.{Option, Some, None, is_none, refl, sym, ap, ◌∙◌, arith}
+-- What a session refuses, shows again and accepts, by what the desk says of the request.
+use Rattle.std.proofs.Common.{◌≡◌, ℕ, ◌<◌, length, IfSome, Bool, true, false, ◌&&◌, ◌==◌, ◌+◌, not}
+use Rattle.std.proofs.Common.{cond, nat_le, List, [], ◌∷◌, ◌++◌, Option, Some, None, is_none, refl}
+use Rattle.std.proofs.Common.{sym, ap, ◌∙◌, arith}
 use Rattle.std.proofs.lemmas.Bool.Decides.{nat_tests}
-use Rattle.gate_journal.specs.Rows.{is_open}
 use Rattle.gate_journal.specs.declared.command.Command.{Command}
 use Rattle.gate_journal.specs.declared.command.Command.TheVariants as commands
 use Rattle.line_words.specs.declared.request.Request.{Request}
-use Rattle.line_words.specs.declared.request.Request.TheVariants.{Open, Line, Char}
-use Rattle.line_words.specs.declared.request.Request.TheVariants.{File, Last, Close}
+use Rattle.line_words.specs.declared.request.Request.TheVariants.{Open, Line, Char, File, Last}
+use Rattle.line_words.specs.declared.request.Request.TheVariants.{Close}
 use Rattle.line_words.specs.declared.reply.No.{No}
 use Rattle.line_words.specs.declared.reply.No.TheVariants as no
 use Rattle.line_words.specs.declared.reply.Reply.{Reply}
@@ -16,28 +15,21 @@ use Rattle.line_words.specs.declared.reply.Reply.TheVariants as replies
 use Rattle.story_run.specs.declared.story.Story.{Story}
 use Rattle.session_core.specs.declared.decision.Decision.{Decision}
 use Rattle.story_run.specs.World.{WorldState}
-use Rattle.session_core.specs.History.{command_count, game_of, has_key, input_of}
-use Rattle.session_core.specs.History.{is_in_use, last_of, story_at, turned_on, world_of}
-use Rattle.session_core.specs.Checks.{command_of, input_given, is_fresh}
-use Rattle.session_core.specs.Checks.{is_full, opening_command, session_of}
-use Rattle.session_core.specs.Answer.{accepted_by, answer_in, decided, first_refusal}
-use Rattle.session_core.specs.Answer.{plain_checks, refusal_in, story_checks, shown_number}
-use Rattle.session_core.specs.Answer.{show_in, show_reply, show_while, show_with, world_with}
+use Rattle.session_core.specs.History.{command_count, game_of, is_in_use, story_at}
+use Rattle.session_core.specs.Checks.{command_of, is_absent, is_fresh, is_full, opening_command}
+use Rattle.session_core.specs.Checks.{session_of}
+use Rattle.session_core.specs.Answer.{accepted_by, answer_in, decided, first_refusal, plain_checks}
+use Rattle.session_core.specs.Answer.{refusal_in, story_checks, shown_number, show_reply}
+use Rattle.session_core.specs.Answer.{show_while, show_with}
 use Rattle.session_core.proofs.AnswerLemmas.{accepted_has_room_in}
-use Rattle.session_core.proofs.RepeatLemmas.{all_fail, answer_in-none, chosen}
-use Rattle.session_core.proofs.RepeatLemmas.{known, joined, game_of-append}
-use Rattle.session_core.proofs.RepeatLemmas.{game_of-append-open, last_of-joined, some_is}
-use Rattle.session_desk.proofs.VerdictLemmas.{asks}
+use Rattle.session_core.proofs.RepeatLemmas.{all_fail, answer_in-none, chosen, known, some_is}
+use Rattle.session_desk.proofs.VerdictLemmas.{asks, finds_use}
 use Rattle.session_desk.specs.declared.verdict.Verdict.{Verdict}
 use Rattle.session_desk.specs.declared.verdict.Verdict.TheVariants.{Refuse, Again, Fresh, Cold}
-use Rattle.session_desk.specs.declared.held.Held.{Held}
-use Rattle.session_desk.specs.declared.held.Held.TheVariants.{Nothing, Current, Previous}
-use Rattle.session_desk.specs.Desk.{DeskState, aside, game, held_then}
-use Rattle.session_desk.specs.Desk.{world_held, show_at, world_now}
-use Rattle.session_desk.specs.Verdict.{foretold, is_to_story, lacks_world}
-use Rattle.session_desk.specs.Verdict.{needs_world, verdict_told, verdict_by, verdict}
-use Rattle.session_desk.specs.Laws.{decision_by_desk, RefusesAlike}
-use Rattle.session_desk.specs.Laws.{ShowsAgain, ShowsFresh, IsColdAlone}
+use Rattle.session_desk.specs.Desk.{DeskState, game, show_at, world_now}
+use Rattle.session_desk.specs.Verdict.{foretold, is_to_story, lacks_world, needs_world}
+use Rattle.session_desk.specs.Verdict.{verdict_told, verdict_by, verdict}
+use Rattle.session_desk.specs.Laws.{RefusesAlike, ShowsAgain}
 
 -- ---- what was told
 
@@ -67,30 +59,18 @@ told-cold (replies.No x) accepted e = absurd cc
 told-cold (replies.Show s n body) (Some command) e = absurd cc
 told-cold (replies.Show s n body) None e = absurd cc
 
--- where the verdict isn't Cold it was told by the answer
+-- where the verdict isn't Cold the world isn't lacking, and the answer told it
 abbrev is_cold : Verdict → Bool
 is_cold (Refuse why) = false
 is_cold Again = false
 is_cold Fresh = false
 is_cold Cold = true
 
-pub warm : (lacks : Bool) (said other : Verdict)
+warm : (lacks : Bool) (said other : Verdict)
     → cond lacks Cold said ≡ other → is_cold other ≡ false
-    → said ≡ other
-warm true said (Refuse why) e w = absurd cc
-warm true said Again e w = absurd cc
-warm true said Fresh e w = absurd cc
-warm true said Cold e w = absurd cc
-warm false said other e w = e
-
-pub not_lacking : (lacks : Bool) (said other : Verdict)
-    → cond lacks Cold said ≡ other → is_cold other ≡ false
-    → lacks ≡ false
-not_lacking true said (Refuse why) e w = absurd cc
-not_lacking true said Again e w = absurd cc
-not_lacking true said Fresh e w = absurd cc
-not_lacking true said Cold e w = absurd cc
-not_lacking false said other e w = refl
+    → (lacks ≡ false) × (said ≡ other)
+warm true said other e w = absurd (let cold : true ≡ is_cold other = ap is_cold e in cc)
+warm false said other e w = (refl, e)
 
 holds_one : (needs lacks : Bool) → (needs && lacks) ≡ false → needs ≡ true → lacks ≡ false
 holds_one true true e n = absurd cc
@@ -98,14 +78,14 @@ holds_one true false e n = refl
 holds_one false lacks e n = absurd cc
 
 -- a fresh request to the story of a session in use finds its world held
-pub held_now : (desk : DeskState) (request : Request)
+held_now : (desk : DeskState) (request : Request)
     → verdict desk request ≡ Fresh
     → first_refusal (plain_checks desk.stories (game desk) request) ≡ None
     → is_to_story (game desk) request ≡ true → is_none (world_now desk.held) ≡ false
 held_now desk request e none asks =
     holds_one (needs_world desk.stories (game desk) request) (is_none (world_now desk.held))
-    (not_lacking (lacks_world desk request)
-    (foretold desk.stories desk.commands (world_now desk.held) request) Fresh e refl)
+    (warm (lacks_world desk request)
+    (foretold desk.stories desk.commands (world_now desk.held) request) Fresh e refl).0
     (rw (none, asks) refl)
 
 -- ---- a refusal
@@ -128,17 +108,14 @@ refuses desk request why e =
     refused desk.stories (game_of desk.commands) (show_with desk.stories desk.commands now) request
     (refusal_in now desk.stories desk.commands (game_of desk.commands) request) why
     (warm (lacks_world desk request) (foretold desk.stories desk.commands now request)
-    (Refuse why) e refl)
+    (Refuse why) e refl).1
 
 -- ---- a show
 
 abbrev as_again : ℕ → ℕ → List ℕ → Decision
 as_again s n show = record { reply = replies.Show s n show; accepted = None }
 
-abbrev pub as_fresh : ℕ → ℕ → List ℕ → Command → Decision
-as_fresh s n show c = record { reply = replies.Show s n show; accepted = Some c }
-
-pub again_by : (stories : List Story) (game : List Command) (show : Option Command → List ℕ)
+again_by : (stories : List Story) (game : List Command) (show : Option Command → List ℕ)
     (request : Request) (refusal : Option No)
     → verdict_told (decided stories game show request refusal) ≡ Again
     → (refusal ≡ None) × (accepted_by stories game request ≡ None)
@@ -149,7 +126,7 @@ again_by stories game show request None e = (
       (accepted_by stories game request) e,
 )
 
-pub fresh_by : (stories : List Story) (game : List Command) (show : Option Command → List ℕ)
+fresh_by : (stories : List Story) (game : List Command) (show : Option Command → List ℕ)
     (request : Request) (refusal : Option No)
     → verdict_told (decided stories game show request refusal) ≡ Fresh
     → (refusal ≡ None) × ((c : Command) × (accepted_by stories game request ≡ Some c))
@@ -166,7 +143,7 @@ first_of-front [] ys e = refl
 first_of-front ((true, why) ∷ more) ys e = e
 first_of-front ((false, why) ∷ more) ys e = first_of-front more ys e
 
-pub plain : (now : Option WorldState) (stories : List Story) (history game : List Command)
+plain : (now : Option WorldState) (stories : List Story) (history game : List Command)
     (request : Request)
     → refusal_in now stories history game request ≡ None
     → first_refusal (plain_checks stories game request) ≡ None
@@ -179,37 +156,24 @@ plain now stories history game request e =
 first_is_fresh : (stories : List Story) (request : Request)
     → first_refusal (plain_checks stories [] request) ≡ None
     → is_fresh [] request ≡ true
-first_is_fresh stories (Open s key story seed cols rows budget) none = refl
-first_is_fresh stories (Line s key n win text term) none =
-    absurd (let k =
-    known (nat_le 64 s) false
-    (all_fail (plain_checks stories [] (Line s key n win text term)) none).0 in
-    cc)
-first_is_fresh stories (Char s key n win code) none =
-    absurd (let k =
-    known (nat_le 64 s) false (all_fail (plain_checks stories [] (Char s key n win code)) none).0 in
-    cc)
-first_is_fresh stories (File s key n name) none =
-    absurd (let k =
-    known (nat_le 64 s) false (all_fail (plain_checks stories [] (File s key n name)) none).0 in
-    cc)
-first_is_fresh stories (Last s key) none =
-    absurd
-    (let k = known (nat_le 64 s) false (all_fail (plain_checks stories [] (Last s key)) none).0 in
-    cc)
-first_is_fresh stories (Close s key n) none =
-    absurd (let k =
-    known (nat_le 64 s) false (all_fail (plain_checks stories [] (Close s key n)) none).0 in
-    cc)
+first_is_fresh stories request none = by request (all_fail (plain_checks stories [] request) none).0
+  where
+    by : (request : Request) → is_absent [] request ≡ false → is_fresh [] request ≡ true
+    by (Open s key story seed cols rows budget) a = refl
+    by (Line s key n win text term) a = absurd (let k = known (nat_le 64 s) false a in cc)
+    by (Char s key n win code) a = absurd (let k = known (nat_le 64 s) false a in cc)
+    by (File s key n name) a = absurd (let k = known (nat_le 64 s) false a in cc)
+    by (Last s key) a = absurd (let k = known (nat_le 64 s) false a in cc)
+    by (Close s key n) a = absurd (let k = known (nat_le 64 s) false a in cc)
 
-pub taken : (fresh : Bool) (asked : Option Command) (c : Command)
+taken : (fresh : Bool) (asked : Option Command) (c : Command)
     → cond fresh asked None ≡ None → fresh ≡ true
     → asked ≡ Some c → true ≡ false
 taken true asked c e f a = absurd cc
 taken false asked c e f a = absurd cc
 
 -- what is shown again was shown of a game
-pub shown : (stories : List Story) (g : List Command) (now : Option WorldState) (request : Request)
+shown : (stories : List Story) (g : List Command) (now : Option WorldState) (request : Request)
     → first_refusal (plain_checks stories g request) ≡ None
     → accepted_by stories g request ≡ None → show_while (is_in_use g) now ≡ show_at g now
 unfolding accepted_by
@@ -220,16 +184,123 @@ shown stories [] now request none a =
     absurd
     (let e = taken (is_fresh [] request) (command_of stories request) asked.0 a fresh asked.1 in cc)
 
-pub shows_again : ShowsAgain
+-- what a request passed that is shown again
+pub record Repeats (desk : DeskState) (request : Request) : Type 0 where
+  pub told : refusal_in (world_now desk.held) desk.stories desk.commands (game desk) request ≡ None
+  pub none : first_refusal (plain_checks desk.stories (game desk) request) ≡ None
+  pub accepted : accepted_by desk.stories (game desk) request ≡ None
+  pub held : lacks_world desk request ≡ false
+
+pub repeats : (desk : DeskState) (request : Request)
+    → verdict desk request ≡ Again → Repeats desk request
 unfolding answer_in
-shows_again desk request e =
+repeats desk request e =
     let history = desk.commands in
     let now = world_now desk.held in
+    let g = game_of history in
+    let said =
+    warm (lacks_world desk request) (foretold desk.stories history now request) Again e refl in
     let by =
-    again_by desk.stories (game_of history) (show_with desk.stories history now) request
-    (refusal_in now desk.stories history (game_of history) request)
-    (warm (lacks_world desk request) (foretold desk.stories history now request) Again e refl) in
-    answer_in-none desk.stories history now request None by.0 by.1
-    ∙ ap (as_again (session_of request) (shown_number (game_of history) request))
-    (shown desk.stories (game_of history) now request
-    (plain now desk.stories history (game_of history) request by.0) by.1)
+    again_by desk.stories g (show_with desk.stories history now) request
+    (refusal_in now desk.stories history g request) said.1 in
+    record {
+      told = by.0;
+      none = plain now desk.stories history g request by.0;
+      accepted = by.1;
+      held = said.0;
+    }
+
+pub shows_again : ShowsAgain
+shows_again desk request e =
+    let r = repeats desk request e in
+    let g = game desk in
+    answer_in-none desk.stories desk.commands (world_now desk.held) request None r.told r.accepted
+    ∙ ap (as_again (session_of request) (shown_number g request))
+    (shown desk.stories g (world_now desk.held) request r.none r.accepted)
+
+-- ---- what a fresh request passed
+
+pub record Accepts (desk : DeskState) (request : Request) : Type 0 where
+  pub command : Command
+  pub told : refusal_in (world_now desk.held) desk.stories desk.commands (game desk) request ≡ None
+  pub accepted : accepted_by desk.stories (game desk) request ≡ Some command
+  pub asked : command_of desk.stories request ≡ Some command
+  pub none : first_refusal (plain_checks desk.stories (game desk) request) ≡ None
+  pub fresh : is_fresh (game desk) request ≡ true
+  pub room : length desk.commands < 8192
+
+has_room : (accepted : Option Command) (c : Command) (n : ℕ)
+    → IfSome accepted (λ _. n < 8192) → accepted ≡ Some c
+    → n < 8192
+has_room (Some x) c n h e = h
+has_room None c n h e = absurd cc
+
+pub accepts : (desk : DeskState) (request : Request)
+    → verdict desk request ≡ Fresh → Accepts desk request
+unfolding answer_in accepted_by
+accepts desk request e =
+    let history = desk.commands in
+    let now = world_now desk.held in
+    let g = game_of history in
+    let by =
+    fresh_by desk.stories g (show_with desk.stories history now) request
+    (refusal_in now desk.stories history g request)
+    (warm (lacks_world desk request) (foretold desk.stories history now request) Fresh e refl).1 in
+    let taken = chosen (is_fresh g request) (command_of desk.stories request) by.1.0 by.1.1 in
+    record {
+      command = by.1.0;
+      told = by.0;
+      accepted = by.1.1;
+      asked = taken.1;
+      none = plain now desk.stories history g request by.0;
+      fresh = taken.0;
+      room = has_room (accepted_by desk.stories g request) by.1.0 (length history)
+          (accepted_has_room_in now desk.stories history g request
+          (accepted_by desk.stories g request) by.0 refl) by.1.1;
+    }
+
+-- what the command of a fresh request finds: an OPEN a free session, and its story; a CLOSE a
+-- session in use; what gives the story something the session's world too
+abbrev pub IsReadyFor : DeskState → Command → Type 0
+IsReadyFor desk (commands.Open key story digest seed cols rows budget) =
+    (not (is_in_use (game desk)) ≡ true) × (is_none (story_at desk.stories story) ≡ false)
+IsReadyFor desk commands.Close = is_in_use (game desk) ≡ true
+IsReadyFor desk command =
+    (is_in_use (game desk) ≡ true) × (is_none (world_now desk.held) ≡ false)
+
+pub ready : (desk : DeskState) (request : Request) (c : Command)
+    → verdict desk request ≡ Fresh
+    → command_of desk.stories request ≡ Some c
+    → IsReadyFor desk c
+ready desk (Open s key story seed cols rows budget) c v e =
+    opened (story_at desk.stories story) refl e
+  where
+    opened : (found : Option Story) → story_at desk.stories story ≡ found
+        → opening_command found (λ digest. commands.Open key story digest seed cols rows budget)
+        ≡ Some c
+        → IsReadyFor desk c
+    opened None is e = absurd cc
+    opened (Some there) is e =
+        rw (sym (some_is _ c e))
+        ((accepts desk (Open s key story seed cols rows budget) v).fresh, rw is refl)
+ready desk (Line s key n win text term) c v e =
+    let none = (accepts desk (Line s key n win text term) v).none in
+    let used = finds_use desk.stories (game desk) (Line s key n win text term) none in
+    rw (sym (some_is _ c e))
+    (used, held_now desk (Line s key n win text term) v none (rw used refl))
+ready desk (Char s key n win code) c v e =
+    let none = (accepts desk (Char s key n win code) v).none in
+    let used = finds_use desk.stories (game desk) (Char s key n win code) none in
+    rw (sym (some_is _ c e)) (used, held_now desk (Char s key n win code) v none (rw used refl))
+ready desk (File s key n name) c v e =
+    let none = (accepts desk (File s key n name) v).none in
+    let used = finds_use desk.stories (game desk) (File s key n name) none in
+    rw (sym (some_is _ c e)) (used, held_now desk (File s key n name) v none (rw used refl))
+ready desk (Last s key) c v e = absurd cc
+ready desk (Close s key n) c v e =
+    let a = accepts desk (Close s key n) v in
+    rw (sym (some_is _ c e)) (finds_use desk.stories (game desk) (Close s key n) a.none
+    (not_last n (command_count (game desk)) a.fresh))
+  where
+    not_last : (n c : ℕ) → (n == c + 1) ≡ true → (n == c) ≡ false
+    not_last n c e = grind (arith, nat_tests, e)

@@ -1,81 +1,27 @@
 -- A desk's snapshots, behind a command more.
-use Rattle.std.proofs.Common.{◌≡◌, ◌⊎◌, inl, inr, ⊎_elim, ℕ, ◌+◌, ◌<◌, ◌≤◌, max}
-use Rattle.std.proofs.Common.{Bool, true, false, nat_le, cond, IsTrue, List, [], ◌∷◌}
-use Rattle.std.proofs.Common.{◌++◌, length, replicate, Option, Some, None, is_none}
-use Rattle.std.proofs.Common.{Result, Ok, Err, refl, sym, ap, subst, ◌∙◌, arith}
-use Rattle.std.specs.Prelude.{OnErr, OnOk}
+use Rattle.std.proofs.Common.{◌≡◌, ◌⊎◌, inl, inr, ⊎_elim, ℕ, ◌+◌, ◌<◌, ◌≤◌, Bool, true, false, cond}
+use Rattle.std.proofs.Common.{List, [], ◌∷◌, ◌++◌, length, Option, Some, None, is_none, refl, sym}
+use Rattle.std.proofs.Common.{ap, subst, ◌∙◌, arith}
 use Rattle.std.specs.List.{Contains}
 use Rattle.std.proofs.lemmas.List.{length-append}
 use Rattle.std.proofs.lemmas.List.Elements.{filter_map-append}
-use Rattle.disk_model.specs.Disk.{EachImage, OnlyLooks, SameDisk}
-use Rattle.turn_cell.specs.declared.pass.Pass.{Pass}
-use Rattle.turn_cell.specs.Passes.{seen}
 use Rattle.glk_input.specs.declared.input.Input.{Input}
 use Rattle.gate_journal.specs.Rows.{is_open}
-use Rattle.gate_journal.specs.Log.{rows_kept, Log, rows_of}
-use Rattle.gate_journal.specs.Rows.{commands_of}
 use Rattle.gate_journal.specs.declared.command.Command.{Command}
 use Rattle.gate_journal.specs.declared.command.Command.TheVariants as commands
-use Rattle.gate_journal.specs.declared.row.Row.{Row}
-use Rattle.gate_journal.specs.declared.entry.Entry.{Entry as JournalEntry}
-use Rattle.line_words.specs.declared.request.Request.{Request}
-use Rattle.line_words.specs.declared.request.Request.TheVariants.{Open, Line, Char}
-use Rattle.line_words.specs.declared.request.Request.TheVariants.{File, Last, Close}
 use Rattle.story_run.specs.declared.story.Story.{Story}
 use Rattle.story_run.specs.World.{WorldState}
-use Rattle.session_core.specs.declared.entry.Entry.{Entry}
-use Rattle.session_core.specs.Checks.{command_of}
-use Rattle.session_core.specs.History.{game_of, input_of, is_in_use, has_key, world_of, story_at}
-use Rattle.session_core.specs.Answer.{plain_checks}
-use Rattle.session_core.proofs.RepeatLemmas.{all_fail, joined, game_of-append}
-use Rattle.session_core.proofs.RepeatLemmas.{game_of-append-open, some_is}
-use Rattle.snap_store.specs.Store.{IsImageOf, Snapshots, store_area}
-use Rattle.snap_store.specs.declared.side.Side.{Side}
-use Rattle.session_saves.specs.Agreement.{IsAgreed, last_row, opens_of}
+use Rattle.session_core.specs.History.{game_of, input_of}
+use Rattle.session_core.proofs.RepeatLemmas.{joined, game_of-append, game_of-append-open}
+use Rattle.snap_store.specs.Store.{Snapshots}
+use Rattle.session_saves.specs.Agreement.{IsAgreed, last_row}
 use Rattle.session_saves.specs.Game.{inputs_of}
-use Rattle.session_saves.specs.Saves as own
 use Rattle.session_saves.specs.Saves.{IsMissCounted, IsKeptUp, SavesState, is_due}
 use Rattle.session_saves.proofs.AgreementLemmas.{more_commands, new_opens}
 use Rattle.session_saves.proofs.KeptUpLemmas.{stays_kept_up}
-use Rattle.session_desk.specs.declared.held.Held.{Held}
-use Rattle.session_desk.specs.declared.held.Held.TheVariants.{Nothing, Current}
-use Rattle.session_desk.specs.declared.refused.Refused.{Refused}
-use Rattle.session_desk.specs.declared.shared.mark.Mark.{Mark}
-use Rattle.session_desk.specs.declared.shared.mark.Mark.TheVariants as marks
-use Rattle.session_desk.specs.declared.verdict.Verdict.TheVariants.{Fresh}
-use Rattle.session_desk.specs.Desk.{committed, DeskState, desk_emptied, game}
-use Rattle.session_desk.specs.Desk.{HoldsOwnWorld, cold_desk, ran, world_now}
+use Rattle.session_desk.specs.Desk.{DeskState, game, world_now}
 use Rattle.session_desk.specs.Keeping as keeping
-use Rattle.session_desk.specs.Marks.{commands_woven}
-use Rattle.session_desk.specs.Opens.{opens_behind, OpensBy, row_behind}
-use Rattle.session_desk.specs.Shared.{as_opened, desk_tag, IsMarked, IsPassOf, SharedState}
-use Rattle.session_desk.specs.Turn.{history_in}
-use Rattle.session_desk.specs.Sound.{AreKeptUp, EndsStore, IsSameStore}
-use Rattle.session_desk.specs.Sound.{IsSoundDesk, IsWhole, open_rows}
-use Rattle.session_desk.specs.Verdict.{verdict}
-use Rattle.session_desk.proofs.HeldLemmas.{holds-aside, holds-then}
-use Rattle.session_desk.proofs.LawLemmas.{accepts, held_now, knows, opens}
-use Rattle.session_desk.proofs.OpensLemmas.{no_rows, row_by}
-use Rattle.session_desk.proofs.SharedLemmas.{marked-opened}
-
--- ---- the inputs of a game with a command more
-
-inputs-more : (g : List Command) (c : Command)
-    → inputs_of (g ++ c ∷ []) ≡ inputs_of g ++ inputs_of (c ∷ [])
-inputs-more g c = filter_map-append input_of g (c ∷ [])
-
-one_input : (c : Command) (x : Input) → input_of c ≡ Some x → length (inputs_of (c ∷ [])) ≡ 1
-one_input c x e = rw e refl
-
-no_input : (c : Command) → input_of c ≡ None → inputs_of (c ∷ []) ≡ []
-no_input c e = rw e refl
-
-open_input : (c : Command) → is_open c ≡ true → inputs_of (c ∷ []) ≡ []
-open_input (commands.Open key story digest seed cols rows budget) e = refl
-open_input (commands.Line win term text) e = absurd cc
-open_input (commands.Char win code) e = absurd cc
-open_input (commands.File name) e = absurd cc
-open_input commands.Close e = absurd cc
+use Rattle.session_desk.proofs.AlikeLemmas.{IsReadyFor}
 
 -- ---- the areas behind a command
 
@@ -124,16 +70,15 @@ kept-more : {D : Type 0} (saves : SavesState D) (places : List ℕ) (g : List Co
     → IsKeptAt saves places g
     → IsKeptAt saves places (g ++ c ∷ [])
 kept-more saves places g c None counted e done kept place last =
-    let same : length (inputs_of (g ++ c ∷ [])) ≡ length (inputs_of g) =
-    ap (λ (l : List Input). length l) (inputs-more g c)
-    ∙ length-append (inputs_of g) (inputs_of (c ∷ []))
-    ∙ omega (arith, ap (λ (l : List Input). length l) (no_input c e)) in
-    subst (λ (n : ℕ). IsKeptUp place n saves.store.slots saves.missed) (sym same) (kept place last)
+    let same : length (inputs_of (g ++ c ∷ [])) ≡ length (inputs_of g) + 0 =
+    ap (λ (l : List Input). length l) (filter_map-append input_of g (c ∷ []))
+    ∙ length-append (inputs_of g) (inputs_of (c ∷ [])) ∙ rw e refl in
+    let count : length (inputs_of g) ≡ length (inputs_of (g ++ c ∷ [])) = omega (arith, same) in
+    subst (λ (n : ℕ). IsKeptUp place n saves.store.slots saves.missed) count (kept place last)
 kept-more saves places g c (Some x) counted e done kept place last =
     let more : length (inputs_of (g ++ c ∷ [])) ≡ length (inputs_of g) + 1 =
-    ap (λ (l : List Input). length l) (inputs-more g c)
-    ∙ length-append (inputs_of g) (inputs_of (c ∷ []))
-    ∙ omega (arith, one_input c x e) in
+    ap (λ (l : List Input). length l) (filter_map-append input_of g (c ∷ []))
+    ∙ length-append (inputs_of g) (inputs_of (c ∷ [])) ∙ rw e refl in
     let due =
     ⊎_elim (λ none. absurd (let both = sym none ∙ e in cc)) (λ idle. idle place last) done in
     subst (λ (n : ℕ). IsKeptUp place n saves.store.slots saves.missed) (sym more)
@@ -148,8 +93,11 @@ kept-joined saves places (d ∷ ds) c counted done kept =
     kept-more saves places (d ∷ ds) c (input_of c) counted refl done kept
 
 none_since : (c : Command) → is_open c ≡ true → length (inputs_of (c ∷ [])) ≤ 16
-none_since c opens =
-    let none = ap (λ (l : List Input). length l) (open_input c opens) in omega (arith, none)
+none_since (commands.Open key story digest seed cols rows budget) opens = omega arith
+none_since (commands.Line win term text) opens = absurd cc
+none_since (commands.Char win code) opens = absurd cc
+none_since (commands.File name) opens = absurd cc
+none_since commands.Close opens = absurd cc
 
 pub kept-behind : {D : Type 0} (saves : SavesState D) (places : List ℕ) (history : List Command)
     (c : Command) (row : ℕ) (opens : Bool)
@@ -168,41 +116,13 @@ kept-behind saves places history c row false counted e done before =
 
 -- ---- a command that gives the story something finds the world held
 
-open_gives : (stories : List Story) (s : ℕ) (key : List ℕ) (story seed cols rows budget : ℕ)
-    (c : Command)
-    → command_of stories (Open s key story seed cols rows budget) ≡ Some c → input_of c ≡ None
-open_gives stories s key story seed cols rows budget c e =
-    let it = opens (story_at stories story) key story seed cols rows budget c e in rw it.1 refl
-
-input_held : (desk : DeskState) (request : Request) (c : Command)
-    → verdict desk request ≡ Fresh
-    → command_of desk.stories request ≡ Some c
+input_held : (desk : DeskState) (c : Command) → IsReadyFor desk c
     → (input_of c ≡ None) ⊎ (is_none (world_now desk.held) ≡ false)
-input_held desk (Open s key story seed cols rows budget) c v e =
-    inl (open_gives desk.stories s key story seed cols rows budget c e)
-input_held desk (Line s key n win text term) c v e =
-    let g = game desk in
-    let a = accepts desk (Line s key n win text term) v in
-    let k =
-    knows (nat_le 64 s) (has_key g key) (is_in_use g)
-    (all_fail (plain_checks desk.stories g (Line s key n win text term)) a.none).0 in
-    inr (held_now desk (Line s key n win text term) v a.none (rw k.1 refl))
-input_held desk (Char s key n win code) c v e =
-    let g = game desk in
-    let a = accepts desk (Char s key n win code) v in
-    let k =
-    knows (nat_le 64 s) (has_key g key) (is_in_use g)
-    (all_fail (plain_checks desk.stories g (Char s key n win code)) a.none).0 in
-    inr (held_now desk (Char s key n win code) v a.none (rw k.1 refl))
-input_held desk (File s key n name) c v e =
-    let g = game desk in
-    let a = accepts desk (File s key n name) v in
-    let k =
-    knows (nat_le 64 s) (has_key g key) (is_in_use g)
-    (all_fail (plain_checks desk.stories g (File s key n name)) a.none).0 in
-    inr (held_now desk (File s key n name) v a.none (rw k.1 refl))
-input_held desk (Last s key) c v e = absurd cc
-input_held desk (Close s key n) c v e = inl (rw (sym (some_is _ c e)) refl)
+input_held desk (commands.Open key story digest seed cols rows budget) ready = inl refl
+input_held desk commands.Close ready = inl refl
+input_held desk (commands.Line win term text) ready = inr ready.1
+input_held desk (commands.Char win code) ready = inr ready.1
+input_held desk (commands.File name) ready = inr ready.1
 
 not_due : {D : Type 0} (saves : SavesState D) (now : Option WorldState) (row : Option ℕ) (count : ℕ)
     → keeping.due_with saves now row count ≡ false
@@ -211,39 +131,14 @@ not_due : {D : Type 0} (saves : SavesState D) (now : Option WorldState) (row : O
 not_due saves None row count due held place e = absurd cc
 not_due saves (Some w) row count due held place e = rw e at due
 
-pub is_done : {D : Type 0} (saves : SavesState D) (places : List ℕ) (desk : DeskState)
-    (request : Request) (c : Command)
-    → verdict desk request ≡ Fresh
-    → command_of desk.stories request ≡ Some c
+pub is_done : {D : Type 0} (saves : SavesState D) (places : List ℕ) (desk : DeskState) (c : Command)
+    → IsReadyFor desk c
     → keeping.due_with saves (world_now desk.held) (last_row places)
     (length (inputs_of (game desk)))
     ≡ false
     → IsDone saves places (game desk) c
-is_done saves places desk request c v e due =
-    ⊎_elim (λ none.
-    inl none) (λ held. inr (not_due saves (world_now desk.held) (last_row places)
+is_done saves places desk c ready due =
+    ⊎_elim (λ none. inl none)
+    (λ held. inr (not_due saves (world_now desk.held) (last_row places)
     (length (inputs_of (game desk))) due held))
-    (input_held desk request c v e)
-
--- ---- the store
-
-pub no_farther : (old mid new : ℕ)
-    → mid ≤ max old 16781344 → new ≤ max mid 16781344
-    → new ≤ max old 16781344
-no_farther old mid new first next = omega (arith, first, next)
-
-pub at_most : (x y z : ℕ) → x ≤ y → y ≤ z → x ≤ z
-at_most x y z first next = omega (arith, first, next)
-
-as_far : (old mid new : ℕ) → mid ≤ max old 16781344 → new ≡ mid → new ≤ max old 16781344
-as_far old mid new first next = omega (arith, first, next)
-
-pub not_past : (old new : ℕ) → new ≡ old → new ≤ max old 16781344
-not_past old new e = omega (arith, e)
-
-pub some_row : (p row : ℕ) → Some p ≡ Some row → p ≡ row
-some_row p row e = cc
-
-pub rows_of-kept : (rows : List Row) → rows_of (rows_kept rows) ≡ rows
-rows_of-kept [] = refl
-rows_of-kept (r ∷ rows) = ap (λ (x : List Row). r ∷ x) (rows_of-kept rows)
+    (input_held desk c ready)

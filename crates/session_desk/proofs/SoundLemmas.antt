@@ -1,64 +1,52 @@
 -- What holds of a desk, its snapshots and its world, behind each of its steps.
-use Rattle.std.proofs.Common.{◌≡◌, ◌⊎◌, inl, inr, ⊎_elim, ℕ, ◌+◌, ◌<◌, ◌≤◌, max}
-use Rattle.std.proofs.Common.{Bool, true, false, nat_le, cond, IsTrue, List, [], ◌∷◌}
-use Rattle.std.proofs.Common.{◌++◌, length, replicate, Option, Some, None, is_none}
-use Rattle.std.proofs.Common.{Result, Ok, Err, refl, sym, ap, subst, ◌∙◌, arith}
+use Rattle.std.proofs.Common.{◌≡◌, ℕ, ◌≤◌, max, Bool, false, IsTrue, List, [], ◌∷◌, length}
+use Rattle.std.proofs.Common.{replicate, Option, Some, Result, Ok, Err, refl, sym, ap, subst, ◌∙◌}
+use Rattle.std.proofs.Common.{arith}
 use Rattle.std.specs.Prelude.{OnErr, OnOk}
-use Rattle.std.specs.List.{Contains}
-use Rattle.std.proofs.lemmas.List.{length-append}
-use Rattle.std.proofs.lemmas.List.Elements.{filter_map-append}
 use Rattle.disk_model.specs.Disk.{EachImage, OnlyLooks, SameDisk}
 use Rattle.turn_cell.specs.declared.pass.Pass.{Pass}
 use Rattle.turn_cell.specs.Passes.{seen}
-use Rattle.glk_input.specs.declared.input.Input.{Input}
-use Rattle.gate_journal.specs.Rows.{is_open}
+use Rattle.gate_journal.specs.Rows.{is_open, commands_of}
 use Rattle.gate_journal.specs.Log.{rows_kept, Log, rows_of}
-use Rattle.gate_journal.specs.Rows.{commands_of}
 use Rattle.gate_journal.specs.declared.command.Command.{Command}
-use Rattle.gate_journal.specs.declared.command.Command.TheVariants as commands
 use Rattle.gate_journal.specs.declared.row.Row.{Row}
 use Rattle.gate_journal.specs.declared.entry.Entry.{Entry as JournalEntry}
 use Rattle.line_words.specs.declared.request.Request.{Request}
-use Rattle.line_words.specs.declared.request.Request.TheVariants.{Open, Line, Char}
-use Rattle.line_words.specs.declared.request.Request.TheVariants.{File, Last, Close}
 use Rattle.story_run.specs.declared.story.Story.{Story}
 use Rattle.story_run.specs.World.{WorldState}
 use Rattle.session_core.specs.declared.entry.Entry.{Entry}
 use Rattle.session_core.specs.Checks.{command_of}
-use Rattle.session_core.specs.History.{game_of, input_of, is_in_use, has_key, world_of, story_at}
-use Rattle.session_core.specs.Answer.{plain_checks}
-use Rattle.session_core.proofs.RepeatLemmas.{all_fail, joined, game_of-append}
-use Rattle.session_core.proofs.RepeatLemmas.{game_of-append-open, some_is}
+use Rattle.session_core.specs.History.{game_of, world_of}
 use Rattle.snap_store.specs.Store.{IsImageOf, Snapshots, store_area}
 use Rattle.snap_store.specs.declared.side.Side.{Side}
 use Rattle.session_saves.specs.Agreement.{IsAgreed, last_row, opens_of}
 use Rattle.session_saves.specs.Game.{inputs_of}
 use Rattle.session_saves.specs.Saves as own
-use Rattle.session_saves.specs.Saves.{IsMissCounted, IsKeptUp, SavesState, is_due}
-use Rattle.session_saves.proofs.AgreementLemmas.{more_commands, new_opens}
-use Rattle.session_saves.proofs.KeptUpLemmas.{stays_kept_up}
+use Rattle.session_saves.specs.Saves.{IsMissCounted, IsKeptUp, SavesState}
 use Rattle.session_desk.specs.declared.held.Held.{Held}
 use Rattle.session_desk.specs.declared.held.Held.TheVariants.{Nothing, Current}
 use Rattle.session_desk.specs.declared.refused.Refused.{Refused}
 use Rattle.session_desk.specs.declared.shared.mark.Mark.{Mark}
 use Rattle.session_desk.specs.declared.shared.mark.Mark.TheVariants as marks
 use Rattle.session_desk.specs.declared.verdict.Verdict.TheVariants.{Fresh}
-use Rattle.session_desk.specs.Desk.{committed, DeskState, desk_emptied, game}
-use Rattle.session_desk.specs.Desk.{HoldsOwnWorld, cold_desk, ran, world_now}
+use Rattle.session_desk.specs.Desk.{committed, DeskState, desk_emptied, game, HoldsOwnWorld}
+use Rattle.session_desk.specs.Desk.{cold_desk, ran}
 use Rattle.session_desk.specs.Keeping as keeping
 use Rattle.session_desk.specs.Marks.{commands_woven}
 use Rattle.session_desk.specs.Opens.{opens_behind, OpensBy, row_behind}
 use Rattle.session_desk.specs.Shared.{as_opened, desk_tag, IsMarked, IsPassOf, SharedState}
-use Rattle.session_desk.specs.Turn.{history_in}
-use Rattle.session_desk.specs.Sound.{AreKeptUp, EndsStore, IsSameStore}
-use Rattle.session_desk.specs.Sound.{IsSoundDesk, IsWhole, open_rows}
+use Rattle.session_desk.specs.Sound.{AreKeptUp, EndsStore, IsSameStore, IsSoundDesk, IsWhole}
+use Rattle.session_desk.specs.Sound.{open_rows}
 use Rattle.session_desk.specs.Verdict.{verdict}
 use Rattle.session_desk.proofs.HeldLemmas.{holds-aside, holds-then}
-use Rattle.session_desk.proofs.LawLemmas.{accepts, held_now, knows, opens}
+use Rattle.session_desk.proofs.AlikeLemmas.{ready}
 use Rattle.session_desk.proofs.OpensLemmas.{no_rows, row_by}
-use Rattle.session_desk.proofs.SharedLemmas.{marked-opened}
-use Rattle.session_desk.proofs.KeptUpLemmas.{agreed-behind, kept-behind, is_done, no_farther}
-use Rattle.session_desk.proofs.KeptUpLemmas.{at_most, not_past, some_row, rows_of-kept}
+use Rattle.session_desk.proofs.SharedLemmas.{marked-opened, state_of}
+use Rattle.session_desk.proofs.KeptUpLemmas.{agreed-behind, kept-behind, is_done}
+
+rows_of-kept : (rows : List Row) → rows_of (rows_kept rows) ≡ rows
+rows_of-kept [] = refl
+rows_of-kept (r ∷ rows) = ap (λ (x : List Row). r ∷ x) (rows_of-kept rows)
 
 module _ {D : Type 0} (tells : D → Bool) (room label faults reach : D → ℕ) where
   pub same-store : (store : Snapshots D) → IsSameStore tells room label faults reach store store
@@ -82,8 +70,8 @@ module _ {D : Type 0} (tells : D → Bool) (room label faults reach : D → ℕ)
       size = same.size ∙ first.same.size;
       name = same.name ∙ first.same.name;
     };
-    counts = at_most (faults old.disk) (faults mid.disk) (faults new.disk) first.counts counts;
-    reaches = no_farther (reach old.disk) (reach mid.disk) (reach new.disk) first.reaches reaches;
+    counts = let before = first.counts in omega (arith, before, counts);
+    reaches = let before = first.reaches in omega (arith, before, reaches);
     made = made ∙ first.made;
   }
 
@@ -191,7 +179,7 @@ module _ {D : Type 0} (tells : D → Bool) (seen_of : D → List ℕ)
         kept_up =
             λ none. rw (is, ok)
             (kept-behind old.saves places old.desk.commands c row (is_open c) counted refl
-            (is_done old.saves places old.desk request c fresh asked due)
+            (is_done old.saves places old.desk c (ready old.desk request c fresh asked) due)
             (w.kept_up (subst (λ (s : ℕ). commands_of old.rows s ≡ []) session none)));
       }
   whole-committed l m place old desk pass request c
@@ -232,7 +220,7 @@ module _ {D : Type 0} (tells : D → Bool) (seen_of : D → List ℕ)
       whole-rested l place old held saves w
       (store-kept tells room label faults reach old.store old.saves.store saves.store w.store
       looks.same counts
-      (not_past (reach old.saves.store.disk) (reach saves.store.disk) looks.asked) made)
+      (let asked = looks.asked in omega (arith, asked)) made)
       holds
       (λ sound side area e. (w.own sound).agreed side area
       (sym (areas side
@@ -268,7 +256,8 @@ module _ {D : Type 0} (tells : D → Bool) (seen_of : D → List ℕ)
       agrees old.desk.stories (open_rows old) (game old.desk)
       (still_tells tells room label faults reach old.store old.saves.store w.store sound.0)
       (sym w.row ∙ at) (sym counted) (rw held at o.holds) o.agreed)
-      (λ none p last. let same_row = some_row p row (sym last ∙ sym w.row ∙ at) in
+      (λ none p last. let both = sym last ∙ sym w.row ∙ at in
+      let same_row : p ≡ row = cc in
       let before = w.kept_up none p last in
       rw (same_row, sym counted) (keeps (rw (same_row, sym counted) at before)))
 
@@ -299,24 +288,6 @@ module _ {D : Type 0} (tells : D → Bool) (seen_of : D → List ℕ)
             cc);
       }
 
-  abbrev pub state : DeskState → List Entry
-      → Pass (Log D) JournalEntry → SavesState D → Snapshots D
-      → List Row → SharedState D
-  state desk history pass saves store rows =
-      record {
-        desk = desk;
-        history = history;
-        pass = pass;
-        saves = saves;
-        store = store;
-        rows = rows;
-      }
-
-  same_state : (a b : DeskState) (h k : List Entry) (pass : Pass (Log D) JournalEntry)
-      (v w : SavesState D) (x y : Snapshots D) (r q : List Row)
-      → a ≡ b → h ≡ k → v ≡ w → x ≡ y → r ≡ q → state a h pass v x r ≡ state b k pass w y q
-  same_state a b h k pass v w x y r q e f i j m = rw (e, f, i, j, m) refl
-
   pub whole-open : (l : List Mark) (place : Option ℕ) (desk : DeskState) (s : ℕ)
       (stories : List Story) (budget : ℕ) (rows : List Row) (pass : Pass (Log D) JournalEntry)
       (saves : SavesState D) (given : Snapshots D) (first : Pass (Log D) JournalEntry)
@@ -327,24 +298,19 @@ module _ {D : Type 0} (tells : D → Bool) (seen_of : D → List ℕ)
       → place ≡ last_row (opens_of rows s)
       → saves ≡ own.saves_of_opened_store store → given ≡ store
       → first ≡ pass
-      → Whole l place
-      (state desk (commands_woven l desk.commands) pass saves given (rows_of (seen first)))
-      × (state desk (commands_woven l desk.commands) pass saves given (rows_of (seen first))
-      ≡ as_opened s stories budget rows pass store)
+      → Whole l place (state_of desk l pass saves given first)
+      × (state_of desk l pass saves given first ≡ as_opened s stories budget rows pass store)
   whole-open l place desk s stories budget rows pass saves given first store all has of
-      saw at clear is was =
+      saw lies clear is was =
       let m = marked-opened l desk s stories budget rows pass all has of saw in
-      let same : state desk (commands_woven l desk.commands) pass saves given (rows_of (seen first))
+      let opened : rows_of (seen first) ≡ rows =
+      ap (λ (p : Pass (Log D) JournalEntry). rows_of (seen p)) was
+      ∙ ap rows_of saw ∙ rows_of-kept rows in
+      let same : state_of desk l pass saves given first
       ≡ as_opened s stories budget rows pass store =
-      same_state desk (cold_desk s stories budget (commands_of rows s))
-      (commands_woven l desk.commands) (history_in (rows_kept rows) s) pass saves
-      (own.saves_of_opened_store store) given store (rows_of (seen first)) rows
-      has m.1 clear is (ap (λ (p : Pass (Log D) JournalEntry). rows_of (seen p)) was
-      ∙ ap rows_of saw ∙ rows_of-kept rows) in (
+      rw (m.1, has, clear, is, opened) refl in (
         subst (λ (x : SharedState D). Whole l place x) (sym same)
-            (subst (λ (o : Option ℕ). Whole l o (as_opened s stories budget rows pass store))
-            (sym at)
-            (whole-opened l s stories budget rows pass store
+            (rw lies (whole-opened l s stories budget rows pass store
             (subst (λ (d : DeskState). IsMarked l d pass) has m.0) saw)),
         same,
       )
