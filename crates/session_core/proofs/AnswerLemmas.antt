@@ -1,6 +1,6 @@
 -- The first check that holds, and the world after one command more.
-use Rattle.std.proofs.Common.{◌≡◌, ℕ, ◌<◌, Bool, true, false, ◌&&◌, nat_le, cond, length, List}
-use Rattle.std.proofs.Common.{[], ◌∷◌, ◌++◌, Option, Some, None, IfSome, refl, ap, sym, ◌∙◌, arith}
+use Rattle.std.proofs.Common.{◌≡◌, ℕ, ◌<◌, Bool, true, false, ◌&&◌, nat_le, cond, length, List, []}
+use Rattle.std.proofs.Common.{◌∷◌, ◌++◌, Option, Some, None, IfSome, refl, ap, sym, ◌∙◌, arith}
 use Rattle.std.proofs.lemmas.Bool.Decides.{nat_tests}
 use Rattle.std.specs.List.{filter_map}
 use Rattle.glk_input.specs.declared.input.Input.{Input}
@@ -13,8 +13,8 @@ use Rattle.story_run.specs.declared.story.Story.{Story}
 use Rattle.story_run.specs.Solo.{is_wanted, world_after_input, turned_by}
 use Rattle.session_core.specs.History.{input_of, turned_on, world_of}
 use Rattle.session_core.specs.Checks.{command_of, is_fresh, is_full}
-use Rattle.session_core.specs.Answer.{first_refusal, plain_checks, story_checks}
-use Rattle.session_core.specs.Answer.{refusal_in, refusal_of, accepted_by}
+use Rattle.session_core.specs.Answer.{first_refusal, plain_checks, story_checks, refusal_in}
+use Rattle.session_core.specs.Answer.{refusal_of, accepted_by}
 
 pub first_of-append-some : (xs ys : List (Bool × No)) (why : No)
     → first_refusal xs ≡ Some why

@@ -1,4 +1,3 @@
-pub mod HistoryLemmas
 pub mod AnswerLemmas
 pub mod IsolationLemmas
 pub mod RepeatLemmas

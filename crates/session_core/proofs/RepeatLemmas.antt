@@ -1,8 +1,9 @@
 -- What a session's game is once a command has joined it, and that no check holds of that command
 -- then.
-use Rattle.std.proofs.Common.{◌≡◌, ℕ, suc, ◌+◌, ◌-◌, Bool, true, false, ◌&&◌, ◌||◌, ◌==◌}
-use Rattle.std.proofs.Common.{not, nat_lt, nat_le, cond, List, [], ◌∷◌, ◌++◌, length, Option}
-use Rattle.std.proofs.Common.{Some, None, refl, ap, sym, subst, ◌∙◌, arith, slice_get}
+use Rattle.std.proofs.Common.{◌≡◌, ℕ, suc, ◌+◌, ◌-◌, Bool, true, false, ◌&&◌, ◌||◌, ◌==◌, not}
+use Rattle.std.proofs.Common.{nat_lt, nat_le, cond, List, [], ◌∷◌, ◌++◌, length, Option, Some, None}
+use Rattle.std.proofs.Common.{refl, ap, sym, ◌∙◌, arith, slice_get}
+use Rattle.std.proofs.lemmas.Bool.{and_parts}
 use Rattle.std.proofs.lemmas.Bool.Decides.{nat_tests}
 use Rattle.std.proofs.lemmas.List.{length-append}
 use Rattle.std.specs.Str.{bytes_eq}
@@ -11,22 +12,22 @@ use Rattle.gate_journal.specs.Rows.{is_open}
 use Rattle.gate_journal.specs.declared.command.Command.{Command}
 use Rattle.gate_journal.specs.declared.command.Command.TheVariants as commands
 use Rattle.line_words.specs.declared.request.Request.{Request}
-use Rattle.line_words.specs.declared.request.Request.TheVariants.{Open, Line, Char}
-use Rattle.line_words.specs.declared.request.Request.TheVariants.{File, Last, Close}
+use Rattle.line_words.specs.declared.request.Request.TheVariants.{Open, Line, Char, File, Last}
+use Rattle.line_words.specs.declared.request.Request.TheVariants.{Close}
 use Rattle.line_words.specs.declared.reply.No.{No}
-use Rattle.line_words.specs.declared.reply.Reply.TheVariants as replies
+use Rattle.line_words.specs.declared.reply.No.TheVariants.{Full}
 use Rattle.story_run.specs.declared.story.Story.{Story}
-use Rattle.session_core.specs.declared.decision.Decision.{Decision}
 use Rattle.story_run.specs.World.{WorldState}
-use Rattle.session_core.specs.History.{later, game_of, command_count}
-use Rattle.session_core.specs.History.{last_of, is_in_use, story_at, world_of}
-use Rattle.session_core.specs.Checks.{session_of, command_of, opening_command}
-use Rattle.session_core.specs.Checks.{is_fresh, is_absent, is_taken, is_story_missing}
-use Rattle.session_core.specs.Checks.{is_changed, is_early, is_different, is_ahead}
-use Rattle.session_core.specs.Answer.{first_refusal, checks, refusal_in, refusal_of}
-use Rattle.session_core.specs.Answer.{accepted_by, history_extended, game_show, show_with}
-use Rattle.session_core.specs.Answer.{shown_number, show_reply, decided, answer, answer_in}
+use Rattle.session_core.specs.History.{later, game_of, command_count, has_key, last_of, story_at}
+use Rattle.session_core.specs.History.{world_of}
+use Rattle.session_core.specs.Checks.{command_of, opening_command, is_absent, is_changed, is_fresh}
+use Rattle.session_core.specs.Checks.{is_full, is_other_story}
+use Rattle.session_core.specs.Answer.{accepted_by, answer, answer_in, checks, decided}
+use Rattle.session_core.specs.Answer.{first_refusal, game_show, history_extended, plain_checks}
+use Rattle.session_core.specs.Answer.{refusal_in, refusal_of, show_reply, show_with, shown_number}
+use Rattle.session_core.specs.Answer.{story_checks}
 use Rattle.session_core.specs.Repeats.{again}
+use Rattle.session_core.proofs.AnswerLemmas.{first_of-append-none}
 
 -- ---- the game after a command
 
@@ -61,23 +62,11 @@ at_end (c ∷ cs) x = at_end cs x
 pub last_of-joined : (c : Command) (cs : List Command) (x : Command)
     → last_of (c ∷ (cs ++ x ∷ [])) ≡ Some x
 last_of-joined c cs x =
-    let len : length (cs ++ x ∷ []) ≡ length cs + 1 = length-append cs (x ∷ []) in
-    let index : suc (length (cs ++ x ∷ [])) - 1 ≡ suc (length cs) = omega (arith, len) in
+    let index : suc (length (cs ++ x ∷ [])) - 1 ≡ suc (length cs) =
+    omega (arith, length-append cs (x ∷ [])) in
     ap (λ (i : ℕ). slice_get (c ∷ (cs ++ x ∷ [])) i) index ∙ at_end cs x
 
-count-joined : (c : Command) (cs : List Command) (x : Command)
-    → command_count (c ∷ (cs ++ x ∷ [])) ≡ command_count (c ∷ cs) + 1
-count-joined c cs x = omega (arith, length-append cs (x ∷ []))
-
 -- ---- what an accepted request passed
-
-record Passed (stories : List Story) (history : List Command) (request : Request)
-    (command : Command) : Type 0 where
-  pub present : is_absent (game_of history) request ≡ false
-  pub unchanged : is_changed stories (game_of history) request ≡ false
-  pub fresh : is_fresh (game_of history) request ≡ true
-  pub asked : command_of stories request ≡ Some command
-  pub told : refusal_of stories history (game_of history) request ≡ None
 
 -- no check of the list holds
 abbrev pub AllFail : List (Bool × No) → Type 0
@@ -102,82 +91,6 @@ pub chosen : (fresh : Bool) (asked : Option Command) (command : Command)
 chosen true asked command e = (refl, e)
 chosen false asked command e = absurd cc
 
-passed : (stories : List Story) (history : List Command) (request : Request) (command : Command)
-    → (answer stories history request).accepted ≡ Some command
-    → Passed stories history request command
-unfolding answer refusal_of refusal_in accepted_by
-passed stories history request command e =
-    let game = game_of history in
-    let show : Option Command → List ℕ =
-    λ accepted. game_show stories (game_of (history_extended history accepted)) in
-    let parts =
-    accepted_none stories game show request (refusal_of stories history game request) command e in
-    let taken = chosen (is_fresh game request) (command_of stories request) command parts.1 in
-    let fails = all_fail (checks (world_of stories game) stories history game request) parts.0 in
-    record {
-      present = fails.0;
-      unchanged = fails.1.1.1.0;
-      fresh = taken.0;
-      asked = taken.1;
-      told = parts.0;
-    }
-
--- ---- no check holds of the same request then
-
-record Passes (stories : List Story) (game : List Command) (request : Request) : Type 0 where
-  pub present : is_absent game request ≡ false
-  pub taken : is_taken game request ≡ false
-  pub missing : is_story_missing stories game request ≡ false
-  pub changed : is_changed stories game request ≡ false
-  pub early : is_early game request ≡ false
-  pub different : is_different game request ≡ false
-  pub ahead : is_ahead game request ≡ false
-  pub stale : is_fresh game request ≡ false
-
-none_holds : (stories : List Story) (history game : List Command) (request : Request)
-    → Passes stories game request
-    → refusal_of stories history game request ≡ None
-unfolding refusal_of refusal_in
-none_holds stories history game request p =
-    rw (p.present, p.taken, p.missing, p.changed, p.early, p.different, p.ahead, p.stale) refl
-
-nothing_accepted : (stories : List Story) (game : List Command) (request : Request)
-    → is_fresh game request ≡ false
-    → accepted_by stories game request ≡ None
-unfolding accepted_by
-nothing_accepted stories game request e = rw e refl
-
-taken-some : (stories : List Story) (game : List Command) (request : Request) (command : Command)
-    → is_fresh game request ≡ true
-    → command_of stories request ≡ Some command
-    → accepted_by stories game request ≡ Some command
-unfolding accepted_by
-taken-some stories game request command f e = rw (f, e) refl
-
-decided-none : (stories : List Story) (game : List Command) (show : Option Command → List ℕ)
-    (request : Request) (refusal : Option No) (accepted : Option Command)
-    → refusal ≡ None → accepted_by stories game request ≡ accepted
-    → decided stories game show request refusal
-    ≡ record { reply = show_reply game (show accepted) request; accepted = accepted }
-decided-none stories game show request refusal accepted e a = rw (e, a) refl
-
-pub answer-none : (stories : List Story) (history : List Command) (request : Request)
-    (accepted : Option Command)
-    → refusal_of stories history (game_of history) request ≡ None
-    → accepted_by stories (game_of history) request ≡ accepted
-    → answer stories history request
-    ≡ record {
-      reply =
-          show_reply (game_of history)
-          (game_show stories (game_of (history_extended history accepted))) request;
-      accepted = accepted;
-    }
-unfolding answer
-answer-none stories history request accepted e a =
-    decided-none stories (game_of history)
-    (λ taken. game_show stories (game_of (history_extended history taken))) request
-    (refusal_of stories history (game_of history) request) accepted e a
-
 pub answer_in-none : (stories : List Story) (history : List Command) (now : Option WorldState)
     (request : Request) (accepted : Option Command)
     → refusal_in now stories history (game_of history) request ≡ None
@@ -188,29 +101,10 @@ pub answer_in-none : (stories : List Story) (history : List Command) (now : Opti
       accepted = accepted;
     }
 unfolding answer_in
-answer_in-none stories history now request accepted e a =
-    decided-none stories (game_of history) (show_with stories history now) request
-    (refusal_in now stories history (game_of history) request) accepted e a
+answer_in-none stories history now request accepted e a = rw (e, a) refl
 
 pub some_is : (x y : Command) → Some x ≡ Some y → x ≡ y
 some_is x y e = cc
-
--- ---- the numbers of the next command, once it was accepted
-
-numbers : (n c d : ℕ) → (n == c + 1) ≡ true → d ≡ c + 1
-    → (nat_lt n d ≡ false) × ((n == d) ≡ true) × (nat_lt (d + 1) n ≡ false) × ((n == d + 1) ≡ false)
-numbers n c d e same =
-    let is : n ≡ c + 1 = grind (arith, nat_tests, e) in (
-      grind (arith, nat_tests, is, same),
-      grind (arith, nat_tests, is, same),
-      grind (arith, nat_tests, is, same),
-      grind (arith, nat_tests, is, same),
-    )
-
-both : (x y : Bool) → (x && y) ≡ true → (x ≡ true) × (y ≡ true)
-both true true e = (refl, refl)
-both true false e = absurd cc
-both false y e = absurd cc
 
 -- the session number is one, and the request is known
 pub known : (far is : Bool) → (far || not is) ≡ false → (far ≡ false) × (is ≡ true)
@@ -218,257 +112,191 @@ known true is e = absurd cc
 known false true e = (refl, refl)
 known false false e = absurd cc
 
+-- ---- the same request, once its command was accepted
+
+-- no check without the world holds of the request, and it isn't new
+abbrev Passes : List Story → List Command → Request → Type 0
+Passes stories game request =
+    (first_refusal (plain_checks stories game request) ≡ None) × (is_fresh game request ≡ false)
+
+none_holds : (stories : List Story) (history game : List Command) (request : Request)
+    → Passes stories game request
+    → refusal_of stories history game request ≡ None
+unfolding refusal_of refusal_in
+none_holds stories history game request p =
+    first_of-append-none (plain_checks stories game request)
+    (story_checks (world_of stories game) stories game request
+    ++ (is_full history game request, Full) ∷ []) p.0
+    ∙ rw p.1 refl
+
 same_number : (n : ℕ) → (n == n) ≡ true
 same_number n = grind (arith, nat_tests)
 
 same_list : (xs : List ℕ) → bytes_eq xs xs ≡ true
 same_list xs = (bytes_eq-Decides xs xs).1 refl
 
--- ---- each kind of request
+-- a game opened with this key, once a command has joined it whose number was the next one
+record Joins (stories : List Story) (g : List Command) (key : List ℕ) (n : ℕ) (x : Command)
+    : Type 0 where
+  pub keyed : has_key (joined g x) key ≡ true
+  pub last : last_of (joined g x) ≡ Some x
+  pub story : is_other_story stories (joined g x) ≡ is_other_story stories g
+  pub early : nat_lt n (command_count (joined g x)) ≡ false
+  pub same : (n == command_count (joined g x)) ≡ true
+  pub ahead : nat_lt (command_count (joined g x) + 1) n ≡ false
+  pub stale : (n == command_count (joined g x) + 1) ≡ false
 
-line_passes : (stories : List Story) (g : List Command) (s : ℕ) (key : List ℕ)
-    (n win : ℕ) (text : List ℕ) (term : ℕ)
-    → is_absent g (Line s key n win text term) ≡ false
-    → is_changed stories g (Line s key n win text term) ≡ false
-    → is_fresh g (Line s key n win text term) ≡ true
-    → Passes stories (joined g (commands.Line win term text)) (Line s key n win text term)
-line_passes stories [] s key n win text term a u f =
-    absurd (let k = known (nat_le 64 s) false a in cc)
-line_passes stories (commands.Open k t d sd cl ro b ∷ cs) s key n win text term a u f =
+joins : (stories : List Story) (g : List Command) (key : List ℕ) (n : ℕ) (x : Command)
+    → has_key g key ≡ true → (n == command_count g + 1) ≡ true
+    → Joins stories g key n x
+joins stories (commands.Open k t d sd cl ro b ∷ cs) key n x keyed next =
     let head = commands.Open k t d sd cl ro b in
-    let x = commands.Line win term text in
-    let is = known (nat_le 64 s) (bytes_eq k key && (is_in_use (head ∷ cs) || false)) a in
-    let keys = both (bytes_eq k key) (is_in_use (head ∷ cs) || false) is.1 in
-    let ns =
-    numbers n (command_count (head ∷ cs)) (command_count (head ∷ (cs ++ x ∷ []))) f
-    (count-joined head cs x) in
+    let more : command_count (joined (head ∷ cs) x) ≡ n =
+    grind (arith, nat_tests, next, length-append cs (x ∷ [])) in
     record {
-      present = rw (is.0, keys.0, last_of-joined head cs x) refl;
-      taken = refl;
-      missing = refl;
-      changed = u;
-      early = ns.0;
-      different =
-          rw (ns.1, last_of-joined head cs x, same_number win, same_number term, same_list text)
-          refl;
-      ahead = ns.2;
-      stale = ns.3;
+      keyed = keyed;
+      last = last_of-joined head cs x;
+      story = refl;
+      early = grind (arith, nat_tests, more);
+      same = grind (arith, nat_tests, more);
+      ahead = grind (arith, nat_tests, more);
+      stale = grind (arith, nat_tests, more);
     }
-line_passes stories (commands.Line w t x ∷ cs) s key n win text term a u f =
-    absurd (let k = known (nat_le 64 s) false a in cc)
-line_passes stories (commands.Char w c ∷ cs) s key n win text term a u f =
-    absurd (let k = known (nat_le 64 s) false a in cc)
-line_passes stories (commands.File x ∷ cs) s key n win text term a u f =
-    absurd (let k = known (nat_le 64 s) false a in cc)
-line_passes stories (commands.Close ∷ cs) s key n win text term a u f =
-    absurd (let k = known (nat_le 64 s) false a in cc)
+joins stories [] key n x keyed next = absurd cc
+joins stories (commands.Line w t text ∷ cs) key n x keyed next = absurd cc
+joins stories (commands.Char w c ∷ cs) key n x keyed next = absurd cc
+joins stories (commands.File name ∷ cs) key n x keyed next = absurd cc
+joins stories (commands.Close ∷ cs) key n x keyed next = absurd cc
 
-char_passes : (stories : List Story) (g : List Command) (s : ℕ) (key : List ℕ) (n win code : ℕ)
-    → is_absent g (Char s key n win code) ≡ false
-    → is_changed stories g (Char s key n win code) ≡ false
-    → is_fresh g (Char s key n win code) ≡ true
-    → Passes stories (joined g (commands.Char win code)) (Char s key n win code)
-char_passes stories [] s key n win code a u f = absurd (let k = known (nat_le 64 s) false a in cc)
-char_passes stories (commands.Open k t d sd cl ro b ∷ cs) s key n win code a u f =
-    let head = commands.Open k t d sd cl ro b in
-    let x = commands.Char win code in
-    let is = known (nat_le 64 s) (bytes_eq k key && (is_in_use (head ∷ cs) || false)) a in
-    let keys = both (bytes_eq k key) (is_in_use (head ∷ cs) || false) is.1 in
-    let ns =
-    numbers n (command_count (head ∷ cs)) (command_count (head ∷ (cs ++ x ∷ []))) f
-    (count-joined head cs x) in
-    record {
-      present = rw (is.0, keys.0, last_of-joined head cs x) refl;
-      taken = refl;
-      missing = refl;
-      changed = u;
-      early = ns.0;
-      different = rw (ns.1, last_of-joined head cs x, same_number win, same_number code) refl;
-      ahead = ns.2;
-      stale = ns.3;
-    }
-char_passes stories (commands.Line w t x ∷ cs) s key n win code a u f =
-    absurd (let k = known (nat_le 64 s) false a in cc)
-char_passes stories (commands.Char w c ∷ cs) s key n win code a u f =
-    absurd (let k = known (nat_le 64 s) false a in cc)
-char_passes stories (commands.File x ∷ cs) s key n win code a u f =
-    absurd (let k = known (nat_le 64 s) false a in cc)
-char_passes stories (commands.Close ∷ cs) s key n win code a u f =
-    absurd (let k = known (nat_le 64 s) false a in cc)
+-- the number is one of a session, and the command that comes next joins the game
+known_joins : (stories : List Story) (g : List Command) (far used : Bool) (key : List ℕ) (n : ℕ)
+    (x : Command)
+    → (far || not (has_key g key && used)) ≡ false → (n == command_count g + 1) ≡ true
+    → (far ≡ false) × Joins stories g key n x
+known_joins stories g far used key n x a f =
+    let k = known far (has_key g key && used) a in
+    (k.0, joins stories g key n x (and_parts (has_key g key) used k.1).0 f)
 
-file_passes : (stories : List Story) (g : List Command) (s : ℕ) (key : List ℕ) (n : ℕ)
-    (name : List ℕ)
-    → is_absent g (File s key n name) ≡ false
-    → is_changed stories g (File s key n name) ≡ false
-    → is_fresh g (File s key n name) ≡ true
-    → Passes stories (joined g (commands.File name)) (File s key n name)
-file_passes stories [] s key n name a u f = absurd (let k = known (nat_le 64 s) false a in cc)
-file_passes stories (commands.Open k t d sd cl ro b ∷ cs) s key n name a u f =
-    let head = commands.Open k t d sd cl ro b in
-    let x = commands.File name in
-    let is = known (nat_le 64 s) (bytes_eq k key && (is_in_use (head ∷ cs) || false)) a in
-    let keys = both (bytes_eq k key) (is_in_use (head ∷ cs) || false) is.1 in
-    let ns =
-    numbers n (command_count (head ∷ cs)) (command_count (head ∷ (cs ++ x ∷ []))) f
-    (count-joined head cs x) in
-    record {
-      present = rw (is.0, keys.0, last_of-joined head cs x) refl;
-      taken = refl;
-      missing = refl;
-      changed = u;
-      early = ns.0;
-      different = rw (ns.1, last_of-joined head cs x, same_list name) refl;
-      ahead = ns.2;
-      stale = ns.3;
-    }
-file_passes stories (commands.Line w t x ∷ cs) s key n name a u f =
-    absurd (let k = known (nat_le 64 s) false a in cc)
-file_passes stories (commands.Char w c ∷ cs) s key n name a u f =
-    absurd (let k = known (nat_le 64 s) false a in cc)
-file_passes stories (commands.File x ∷ cs) s key n name a u f =
-    absurd (let k = known (nat_le 64 s) false a in cc)
-file_passes stories (commands.Close ∷ cs) s key n name a u f =
-    absurd (let k = known (nat_le 64 s) false a in cc)
-
-close_passes : (stories : List Story) (g : List Command) (s : ℕ) (key : List ℕ) (n : ℕ)
-    → is_absent g (Close s key n) ≡ false → is_fresh g (Close s key n) ≡ true
-    → Passes stories (joined g commands.Close) (Close s key n)
-close_passes stories [] s key n a f = absurd (let k = known (nat_le 64 s) false a in cc)
-close_passes stories (commands.Open k t d sd cl ro b ∷ cs) s key n a f =
-    let head = commands.Open k t d sd cl ro b in
-    let x = commands.Close in
-    let is =
-    known (nat_le 64 s)
-    (bytes_eq k key && (is_in_use (head ∷ cs) || (n == command_count (head ∷ cs)))) a in
-    let keys =
-    both (bytes_eq k key) (is_in_use (head ∷ cs) || (n == command_count (head ∷ cs))) is.1 in
-    let ns =
-    numbers n (command_count (head ∷ cs)) (command_count (head ∷ (cs ++ x ∷ []))) f
-    (count-joined head cs x) in
-    record {
-      present = rw (is.0, keys.0, last_of-joined head cs x, ns.1) refl;
-      taken = refl;
-      missing = refl;
-      changed = refl;
-      early = ns.0;
-      different = rw (ns.1, last_of-joined head cs x) refl;
-      ahead = ns.2;
-      stale = ns.3;
-    }
-close_passes stories (commands.Line w t x ∷ cs) s key n a f =
-    absurd (let k = known (nat_le 64 s) false a in cc)
-close_passes stories (commands.Char w c ∷ cs) s key n a f =
-    absurd (let k = known (nat_le 64 s) false a in cc)
-close_passes stories (commands.File x ∷ cs) s key n a f =
-    absurd (let k = known (nat_le 64 s) false a in cc)
-close_passes stories (commands.Close ∷ cs) s key n a f =
-    absurd (let k = known (nat_le 64 s) false a in cc)
-
-open_passes : (stories : List Story) (g : List Command) (s : ℕ) (key : List ℕ)
-    (story seed cols rows budget : ℕ) (there : Option Story) (x : Command)
-    → is_absent g (Open s key story seed cols rows budget) ≡ false → story_at stories story ≡ there
+open_passes : (stories : List Story) (s : ℕ) (key : List ℕ) (story seed cols rows budget : ℕ)
+    (there : Option Story) (x : Command)
+    → nat_le 64 s ≡ false → story_at stories story ≡ there
     → opening_command there (λ digest. commands.Open key story digest seed cols rows budget)
     ≡ Some x
     → (is_open x ≡ true) × Passes stories (x ∷ []) (Open s key story seed cols rows budget)
-open_passes stories g s key story seed cols rows budget None x a t e = absurd cc
-open_passes stories g s key story seed cols rows budget (Some file) x a t e =
-    let is : commands.Open key story file.digest seed cols rows budget ≡ x = some_is _ x e in
-    let far = (known (nat_le 64 s) true a).0 in
-    subst (λ (y : Command).
-    (is_open y ≡ true) × Passes stories (y ∷ []) (Open s key story seed cols rows budget)) is (
+open_passes stories s key story seed cols rows budget None x far t e = absurd cc
+open_passes stories s key story seed cols rows budget (Some file) x far t e =
+    rw (sym (some_is _ x e)) (
       refl,
-      record {
-        present = rw far refl;
-        taken =
-            rw
-            (same_list key, same_number story, same_number seed, same_number cols, same_number rows)
-            refl;
-        missing = refl;
-        changed = rw (t, same_list file.digest) refl;
-        early = refl;
-        different = refl;
-        ahead = refl;
-        stale = refl;
-      },
+      (
+        rw (
+          far,
+          t,
+          same_list key,
+          same_number story,
+          same_number seed,
+          same_number cols,
+          same_number rows,
+          same_list file.digest,
+        ) refl,
+        refl,
+      ),
     )
 
--- ---- the same request again
-
-record Again (stories : List Story) (game old : List Command) (request : Request) : Type 0 where
-  pub passes : Passes stories game request
-  pub number : shown_number game request ≡ shown_number old request
-
-joins : (stories : List Story) (history : List Command) (request : Request) (x command : Command)
-    → Some x ≡ Some command → is_open x ≡ false
-    → Passes stories (joined (game_of history) x) request
-    → Passes stories (game_of (history ++ command ∷ [])) request
-joins stories history request x command same shut p =
-    let grown = game_of-append history x shut in
-    subst (λ (c : Command). Passes stories (game_of (history ++ c ∷ [])) request)
-    (some_is x command same)
-    (subst (λ (g : List Command). Passes stories g request) (sym grown) p)
-
-comes_again : (stories : List Story) (history : List Command) (request : Request)
-    (command : Command)
-    → Passed stories history request command
-    → Again stories (game_of (history ++ command ∷ [])) (game_of history) request
-comes_again stories history (Open s key story seed cols rows budget) command p =
+passes_again : (stories : List Story) (history : List Command) (request : Request) (x : Command)
+    → is_absent (game_of history) request ≡ false
+    → is_changed stories (game_of history) request ≡ false
+    → is_fresh (game_of history) request ≡ true
+    → command_of stories request ≡ Some x
+    → Passes stories (game_of (history ++ x ∷ [])) request
+passes_again stories history (Open s key story seed cols rows budget) x a u f e =
     let o =
-    open_passes stories (game_of history) s key story seed cols rows budget
-    (story_at stories story) command p.present refl p.asked in
-    record {
-      passes =
-          subst (λ (g : List Command). Passes stories g (Open s key story seed cols rows budget))
-          (sym (game_of-append-open history command o.0)) o.1;
-      number = refl;
-    }
-comes_again stories history (Line s key n win text term) command p = record {
-  passes =
-      joins stories history _ (commands.Line win term text) command p.asked refl
-      (line_passes stories (game_of history) s key n win text term p.present p.unchanged p.fresh);
-  number = refl;
-}
-comes_again stories history (Char s key n win code) command p = record {
-  passes =
-      joins stories history _ (commands.Char win code) command p.asked refl
-      (char_passes stories (game_of history) s key n win code p.present p.unchanged p.fresh);
-  number = refl;
-}
-comes_again stories history (File s key n name) command p = record {
-  passes =
-      joins stories history _ (commands.File name) command p.asked refl
-      (file_passes stories (game_of history) s key n name p.present p.unchanged p.fresh);
-  number = refl;
-}
-comes_again stories history (Last s key) command p = absurd (let e = p.asked in cc)
-comes_again stories history (Close s key n) command p = record {
-  passes =
-      joins stories history _ commands.Close command p.asked refl
-      (close_passes stories (game_of history) s key n p.present p.fresh);
-  number = refl;
-}
+    open_passes stories s key story seed cols rows budget (story_at stories story) x
+    (known (nat_le 64 s) true a).0 refl e in
+    rw (game_of-append-open history x o.0) o.1
+passes_again stories history (Line s key n win text term) x a u f e =
+    let c = commands.Line win term text in
+    let j = known_joins stories (game_of history) (nat_le 64 s) _ key n c a f in
+    rw (sym (some_is _ x e), game_of-append history c refl) (
+      rw (
+        j.0,
+        j.1.keyed,
+        j.1.last,
+        j.1.story,
+        u,
+        j.1.early,
+        j.1.same,
+        j.1.ahead,
+        same_number win,
+        same_number term,
+        same_list text,
+      ) refl,
+      j.1.stale,
+    )
+passes_again stories history (Char s key n win code) x a u f e =
+    let c = commands.Char win code in
+    let j = known_joins stories (game_of history) (nat_le 64 s) _ key n c a f in
+    rw (sym (some_is _ x e), game_of-append history c refl) (
+      rw (
+        j.0,
+        j.1.keyed,
+        j.1.last,
+        j.1.story,
+        u,
+        j.1.early,
+        j.1.same,
+        j.1.ahead,
+        same_number win,
+        same_number code,
+      ) refl,
+      j.1.stale,
+    )
+passes_again stories history (File s key n name) x a u f e =
+    let c = commands.File name in
+    let j = known_joins stories (game_of history) (nat_le 64 s) _ key n c a f in
+    rw (sym (some_is _ x e), game_of-append history c refl) (
+      rw (j.0, j.1.keyed, j.1.last, j.1.story, u, j.1.early, j.1.same, j.1.ahead, same_list name)
+          refl,
+      j.1.stale,
+    )
+passes_again stories history (Last s key) x a u f e = absurd cc
+passes_again stories history (Close s key n) x a u f e =
+    let j = known_joins stories (game_of history) (nat_le 64 s) _ key n commands.Close a f in
+    rw (sym (some_is _ x e), game_of-append history commands.Close refl) (
+      rw (j.0, j.1.keyed, j.1.last, j.1.early, j.1.same, j.1.ahead) refl,
+      j.1.stale,
+    )
+
+-- the number that a new command shows is its own, whatever the game is
+same_shown_number : (g h : List Command) (request : Request)
+    → is_fresh g request ≡ true
+    → shown_number g request ≡ shown_number h request
+same_shown_number g h (Open s key story seed cols rows budget) f = refl
+same_shown_number g h (Line s key n win text term) f = refl
+same_shown_number g h (Char s key n win code) f = refl
+same_shown_number g h (File s key n name) f = refl
+same_shown_number g h (Last s key) f = absurd cc
+same_shown_number g h (Close s key n) f = refl
 
 pub repeats : (stories : List Story) (history : List Command) (request : Request)
     (command : Command)
     → (answer stories history request).accepted ≡ Some command
     → answer stories (history ++ command ∷ []) request ≡ again (answer stories history request)
+unfolding answer refusal_of refusal_in accepted_by
 repeats stories history request command e =
-    let p = passed stories history request command e in
     let game = game_of history in
     let grown = game_of (history ++ command ∷ []) in
-    let a = comes_again stories history request command p in
-    let first =
-    answer-none stories history request (Some command) p.told
-    (taken-some stories game request command p.fresh p.asked) in
-    let second =
-    answer-none stories (history ++ command ∷ []) request None
-    (none_holds stories (history ++ command ∷ []) grown request a.passes)
-    (nothing_accepted stories grown request a.passes.stale) in
-    second
-    ∙ ap (λ (n : ℕ). shows stories (history ++ command ∷ []) n request) a.number
-    ∙ sym (ap again first) where
-      shows : List Story → List Command → ℕ → Request → Decision
-      shows stories commands n request = record {
-        reply = replies.Show (session_of request) n (game_show stories (game_of commands));
-        accepted = None;
-      }
+    let by =
+    accepted_none stories game
+    (λ accepted. game_show stories (game_of (history_extended history accepted))) request
+    (refusal_of stories history game request) command e in
+    let taken = chosen (is_fresh game request) (command_of stories request) command by.1 in
+    let fails = all_fail (checks (world_of stories game) stories history game request) by.0 in
+    let p = passes_again stories history request command fails.0 fails.1.1.1.0 taken.0 taken.1 in
+    rw (
+      by.0,
+      none_holds stories (history ++ command ∷ []) grown request p,
+      taken.0,
+      taken.1,
+      p.1,
+      same_shown_number game grown request taken.0,
+    ) refl

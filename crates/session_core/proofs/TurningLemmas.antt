@@ -7,13 +7,12 @@ use Rattle.story_run.specs.World.{WorldState}
 use Rattle.session_core.specs.declared.entry.Entry.{Entry}
 use Rattle.session_core.specs.declared.entry.Entry.TheVariants.{Accepted, Faulted}
 use Rattle.session_core.specs.declared.entry.Outcome.{Outcome}
-use Rattle.session_core.specs.declared.entry.Outcome.TheVariants.{Answered, DiskFailed}
-use Rattle.session_core.specs.declared.entry.Outcome.TheVariants.{OutOfMemory, Forgotten}
-use Rattle.session_core.specs.Turning.{AddsTo, commands_in, decision_in}
-use Rattle.session_core.specs.Turning.{decision_on, turn_in, turn_met, turn_of}
+use Rattle.session_core.specs.declared.entry.Outcome.TheVariants.{Answered, DiskFailed, OutOfMemory}
+use Rattle.session_core.specs.declared.entry.Outcome.TheVariants.{Forgotten}
+use Rattle.session_core.specs.Turning.{AddsTo, commands_in, decision_in, turn_in, turn_met}
 
 -- whatever is decided and met, a turn adds nothing, or one entry of its number
-pub met_adds : (h : List Entry) (by : ℕ) (reply : Reply) (accepted : Option Command)
+met_adds : (h : List Entry) (by : ℕ) (reply : Reply) (accepted : Option Command)
     (outcome : Outcome)
     → AddsTo h by (turn_met h by reply accepted outcome).history
 met_adds h by reply None Answered = inl refl
@@ -24,14 +23,6 @@ met_adds h by reply (Some c) Answered = inr (Accepted by c, refl, refl)
 met_adds h by reply (Some c) (DiskFailed from to) = inr (Faulted by from to, refl, refl)
 met_adds h by reply (Some c) OutOfMemory = inl refl
 met_adds h by reply (Some c) Forgotten = inr (Accepted by c, refl, refl)
-
-pub turn_adds : (stories : List Story) (budget : ℕ) (h : List Entry) (by : ℕ)
-    (line : List ℕ) (outcome : Outcome)
-    → AddsTo h by (turn_of stories budget h by line outcome).history
-unfolding turn_of
-turn_adds stories budget h by line outcome =
-    met_adds h by (decision_on stories budget (commands_in h) line).reply
-    (decision_on stories budget (commands_in h) line).accepted outcome
 
 pub turn_in_adds : (stories : List Story) (budget : ℕ) (h : List Entry)
     (now : Option WorldState) (by : ℕ) (line : List ℕ) (outcome : Outcome)

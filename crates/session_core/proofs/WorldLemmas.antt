@@ -1,6 +1,6 @@
 -- A session whose world is the one of its game.
-use Rattle.std.proofs.Common.{◌≡◌, ℕ, Bool, true, false, List, [], ◌∷◌}
-use Rattle.std.proofs.Common.{◌++◌, Option, Some, None, refl, sym, ap, ◌∙◌}
+use Rattle.std.proofs.Common.{◌≡◌, ℕ, Bool, true, false, List, [], ◌∷◌, ◌++◌, Option, Some, None}
+use Rattle.std.proofs.Common.{refl, sym, ap, ◌∙◌}
 use Rattle.gate_journal.specs.Rows.{is_open}
 use Rattle.gate_journal.specs.declared.command.Command.{Command}
 use Rattle.gate_journal.specs.declared.command.Command.TheVariants as commands
@@ -14,15 +14,15 @@ use Rattle.story_run.specs.Solo.{opening}
 use Rattle.session_core.specs.declared.decision.Decision.{Decision}
 use Rattle.session_core.specs.History.{game_of, input_of, is_in_use, story_at, world_in, world_of}
 use Rattle.session_core.specs.Answer.{accepted_by, answer, answer_in, decided, history_extended}
-use Rattle.session_core.specs.Answer.{refusal_in, refusal_of, game_show, show_reply}
-use Rattle.session_core.specs.Answer.{show_while, show_with, turned_in, world_then}
+use Rattle.session_core.specs.Answer.{refusal_in, refusal_of, game_show, show_while, show_with}
+use Rattle.session_core.specs.Answer.{turned_in, world_then}
 use Rattle.session_core.specs.Sessions.{with_budget}
-use Rattle.session_core.specs.Turning.{commands_in, decided_by, decision_in}
-use Rattle.session_core.specs.Turning.{decision_on, turn_in, turn_met, turn_of}
+use Rattle.session_core.specs.Turning.{commands_in, decided_by, decision_in, decision_on, turn_in}
+use Rattle.session_core.specs.Turning.{turn_met, turn_of}
 use Rattle.session_core.specs.Worlds.{AnswersAlike, DecidesAlike, TurnsAlike}
 use Rattle.session_core.proofs.AnswerLemmas.{turned_by-more}
-use Rattle.session_core.proofs.RepeatLemmas.{game_of-append, game_of-append-open}
-use Rattle.session_core.proofs.RepeatLemmas.{joined, last_of-joined}
+use Rattle.session_core.proofs.RepeatLemmas.{game_of-append, game_of-append-open, joined}
+use Rattle.session_core.proofs.RepeatLemmas.{last_of-joined}
 
 -- ---- the world with a command more
 
@@ -91,17 +91,12 @@ shows_alike stories history accepted =
     same_while (is_in_use (game_of (history_extended history accepted))) _ _
     (world_then-game stories history accepted)
 
-pub decided-alike : (stories : List Story) (game : List Command) (f g : Option Command → List ℕ)
+decided-alike : (stories : List Story) (game : List Command) (f g : Option Command → List ℕ)
     (request : Request) (refusal : Option No)
-    → ((accepted : Option Command) → f accepted ≡ g accepted)
+    → f (accepted_by stories game request) ≡ g (accepted_by stories game request)
     → decided stories game f request refusal ≡ decided stories game g request refusal
 decided-alike stories game f g request (Some why) e = refl
-decided-alike stories game f g request None e =
-    ap (λ (show : List ℕ). showing show) (e (accepted_by stories game request))
-  where
-    showing : List ℕ → Decision
-    showing show =
-        record { reply = show_reply game show request; accepted = accepted_by stories game request }
+decided-alike stories game f g request None e = rw e refl
 
 pub answers_alike : AnswersAlike
 unfolding answer answer_in refusal_of
@@ -110,7 +105,7 @@ answers_alike stories history request =
     (show_with stories history (world_of stories (game_of history)))
     (λ accepted. game_show stories (game_of (history_extended history accepted))) request
     (refusal_in (world_of stories (game_of history)) stories history (game_of history) request)
-    (shows_alike stories history)
+    (shows_alike stories history (accepted_by stories (game_of history) request))
 
 decided_by-alike : (f g : Request → Decision) (line : List ℕ) (read : Option Request)
     → ((request : Request) → f request ≡ g request)

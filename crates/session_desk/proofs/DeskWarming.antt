@@ -2,6 +2,7 @@
 use Rattle.std.proofs.Common.{◌≡◌, ◌≢◌, ℕ, ◌+◌, ◌≤◌, Bool, true, false, IsTrue, List, length}
 use Rattle.std.proofs.Common.{Option, Some, IsSome, Result, Ok, Err, refl, sym, subst, ◌∙◌}
 use Rattle.std.specs.Prelude.{OnOk}
+use Rattle.std.proofs.lemmas.Bool.{and_parts}
 use Rattle.disk_model.specs.Disk.{OnlyLooks, Rose}
 use Rattle.turn_cell.specs.Passes.{seen}
 use Rattle.gate_journal.specs.Log.{rows_of}
@@ -30,12 +31,11 @@ use Rattle.session_desk.specs.Sound.{IsSoundDesk, IsWhole, open_rows}
 use Rattle.session_desk.specs.Verdict.{verdict}
 use Rattle.session_desk.proofs.LawLemmas.{warm_tells}
 use Rattle.session_desk.proofs.OpensLemmas.{in_use_row}
-use Rattle.session_desk.proofs.RunLemmas.{both_hold}
 use Rattle.session_desk.proofs.SharedLemmas.{rows-seen}
 use Rattle.session_desk.proofs.SoundLemmas.{still_tells, whole-looked}
 
 pub cold_used : (desk : DeskState) → is_cold desk ≡ true → is_in_use (game desk) ≡ true
-cold_used desk cold = (both_hold (is_in_use (game desk)) _ cold).0
+cold_used desk cold = (and_parts (is_in_use (game desk)) _ cold).0
 
 is_some : (o : Option ℕ) (q : ℕ) → o ≡ Some q → IsSome o
 is_some o q e = rw e refl
@@ -86,15 +86,8 @@ module _ {D : Type 0} (tells : D → Bool) (seen_of : D → List ℕ)
         holds = holds;
         place = row;
         row = sym w.row ∙ at;
-        warms = subst (λ (x : Option WorldState). From old.desk.stories (game old.desk) x) is
-            (subst (λ (x : List Command). From old.desk.stories x o) game_is
-            (subst (λ (x : List Story). From x g o) same warms));
+        warms = rw (same, game_is, is) at warms;
       }
-    where
-      From : List Story → List Command → Option WorldState → Type 0
-      From x y z =
-          WarmsFrom (tells old.saves.store.disk) (seen_of old.saves.store.disk) row
-          (faults old.saves.store.disk) (faults saves.store.disk) x y z before after
 
   -- on a sound desk with the session's own world
   pub warm_own : (l : List Mark) (place : Option ℕ) (old : SharedState D) (stories : List Story)
@@ -112,23 +105,10 @@ module _ {D : Type 0} (tells : D → Bool) (seen_of : D → List ℕ)
   warm_own l place old stories g row o world w at same game_is is other value sound =
       let told =
       still_tells tells room label faults reach old.store old.saves.store w.store sound.0 in
-      let v : (rows : List ℕ)
-      → IsTrue (tells old.saves.store.disk)
-      → last_row rows ≡ Some row
-      → is_other_story old.desk.stories (game old.desk) ≡ false
-      → IsAgreed seen_of old.desk.stories rows (game old.desk) old.saves.store
-      → o ≡ world_of old.desk.stories (game old.desk) =
-      subst (λ (y : List Command). (rows : List ℕ)
-      → IsTrue (tells old.saves.store.disk)
-      → last_row rows ≡ Some row
-      → is_other_story old.desk.stories y ≡ false
-      → IsAgreed seen_of old.desk.stories rows y old.saves.store → o ≡ world_of old.desk.stories y)
-      game_is
-      (subst (λ (x : List Story). (rows : List ℕ)
-      → IsTrue (tells old.saves.store.disk)
-      → last_row rows ≡ Some row → is_other_story x g ≡ false
-      → IsAgreed seen_of x rows g old.saves.store → o ≡ world_of x g) same value) in
-      sym (v (open_rows old) told (sym w.row ∙ at) other (w.own sound).agreed) ∙ is
+      let own =
+      sym (value (open_rows old) told (sym w.row ∙ at) (rw (same, game_is) other)
+      (rw (same, game_is) (w.own sound).agreed)) ∙ is in
+      rw (same, game_is) at own
 
   -- and in so many steps
   pub warm_cost : (l : List Mark) (place : Option ℕ) (old : SharedState D) (saves : SavesState D)
@@ -151,17 +131,12 @@ module _ {D : Type 0} (tells : D → Bool) (seen_of : D → List ℕ)
       before after w at same game_is other cost p sound steady last =
       let told =
       still_tells tells room label faults reach old.store old.saves.store w.store sound.0 in
-      let is : row ≡ p = some_is (sym at ∙ w.row ∙ last) in
+      let both = sym at ∙ w.row ∙ last in
+      let is : row ≡ p = cc in
       let taken =
       cost (open_rows old) told steady (sym w.row ∙ at) (rw (same, game_is) other)
       (rw (same, game_is) (w.own sound).agreed) in
-      subst (λ (q : ℕ). after ≡ before + turns_after old.desk.stories (game old.desk)
-      (count_in (area_given
-      (newest_area q (length (inputs_of (game old.desk))) (seen_of old.saves.store.disk))))) is
-      (rw (same, game_is) at taken)
-    where
-      some_is : {q r : ℕ} → Some q ≡ Some r → q ≡ r
-      some_is e = cc
+      rw (same, game_is, is) at taken
 
   pub whole_warmed : (may_leave : D → List ℕ → Type 0) (moment : D → ℕ)
       (left_since : D → ℕ → List ℕ → Type 0)

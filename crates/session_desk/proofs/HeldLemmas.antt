@@ -1,6 +1,6 @@
 -- What is held of a game with one command more.
-use Rattle.std.proofs.Common.{◌≡◌, ◌==◌, ◌<◌, ◌≤◌, arith, Bool, true, false, cond, List}
-use Rattle.std.proofs.Common.{[], ◌∷◌, ◌++◌, length, Option, Some, None, refl, sym, ap, ◌∙◌}
+use Rattle.std.proofs.Common.{◌≡◌, ℕ, ◌==◌, ◌<◌, arith, Bool, true, false, cond, List, [], ◌∷◌}
+use Rattle.std.proofs.Common.{◌++◌, length, Option, Some, None, refl, sym, ap, ◌∙◌}
 use Rattle.std.proofs.lemmas.List.{length-append}
 use Rattle.gate_journal.specs.Rows.{is_open}
 use Rattle.gate_journal.specs.declared.command.Command.{Command}
@@ -8,16 +8,16 @@ use Rattle.gate_journal.specs.declared.command.Command.TheVariants as commands
 use Rattle.story_run.specs.declared.story.Story.{Story}
 use Rattle.story_run.specs.World.{WorldState}
 use Rattle.story_run.specs.Solo.{last_lines}
-use Rattle.session_core.specs.History.{game_of, input_of, is_in_use}
-use Rattle.session_core.specs.History.{game_goes_on, last_of, turned_on, world_of}
+use Rattle.session_core.specs.History.{game_of, input_of, is_in_use, game_goes_on, last_of}
+use Rattle.session_core.specs.History.{turned_on, world_of}
 use Rattle.session_core.specs.Checks.{input_given}
 use Rattle.session_core.specs.Answer.{turned_in}
 use Rattle.session_core.proofs.RepeatLemmas.{joined, game_of-append, last_of-joined}
 use Rattle.session_core.proofs.WorldLemmas.{world_of-joined}
 use Rattle.session_desk.specs.declared.held.Held.{Held}
 use Rattle.session_desk.specs.declared.held.Held.TheVariants.{Nothing, Current, Previous}
-use Rattle.session_desk.specs.Desk.{aside, held_then, world_held, show_at}
-use Rattle.session_desk.specs.Desk.{DeskState, HoldsOwnWorld, IsDesk, IsHeldInUse}
+use Rattle.session_desk.specs.Desk.{aside, held_then, world_held, show_at, DeskState, HoldsOwnWorld}
+use Rattle.session_desk.specs.Desk.{IsDesk, IsHeldInUse}
 
 -- ---- a world is held while the session is in use
 
@@ -51,20 +51,6 @@ aside-used history (commands.File name) Nothing h = tt
 aside-used history (commands.File name) (Previous w) h = tt
 aside-used history (commands.File name) (Current w) h =
     used_on history (commands.File name) refl refl h
-
-begun-used : (used : Bool) (now : Option WorldState) (game : List Command)
-    → is_in_use game ≡ used
-    → IsHeldInUse game (cond used (world_held now) Nothing)
-begun-used true None game e = tt
-begun-used true (Some w) game e = e
-begun-used false now game e = tt
-
-pub then-used : (stories : List Story) (game : List Command) (held : Held)
-    → IsHeldInUse game held
-    → IsHeldInUse game (held_then stories game held)
-then-used stories game Nothing h = begun-used (is_in_use game) (world_of stories game) game refl
-then-used stories game (Current w) h = h
-then-used stories game (Previous w) h = h
 
 -- ---- the session's own world
 
@@ -128,24 +114,25 @@ holds-then stories game Nothing h =
 holds-then stories game (Current w) h = h
 holds-then stories game (Previous w) h = h
 
-more_fit : (xs : List Command) (c : Command) → length xs < 8192 → length (xs ++ c ∷ []) ≤ 8192
-more_fit xs c lt = omega (arith, length-append xs (c ∷ []))
+-- the desk of these fields
+abbrev pub desk_of : ℕ → List Story → ℕ → List Command → Held → DeskState
+desk_of session stories budget commands held = record {
+  session = session;
+  stories = stories;
+  budget = budget;
+  commands = commands;
+  held = held;
+}
 
 -- what holds of every desk holds of one with a command more
 pub is_desk-committed : (desk : DeskState) (c : Command) (commands : List Command) (held : Held)
     → IsDesk desk → length desk.commands < 8192
     → commands ≡ desk.commands ++ c ∷ [] → held ≡ aside c desk.held
-    → IsDesk (record {
-      session = desk.session;
-      stories = desk.stories;
-      budget = desk.budget;
-      commands = commands;
-      held = held;
-    })
+    → IsDesk (desk_of desk.session desk.stories desk.budget commands held)
 is_desk-committed desk c commands held is room e h =
     record {
       numbered = is.numbered;
-      within = rw e (more_fit desk.commands c room);
+      within = rw e (omega (arith, room, length-append desk.commands (c ∷ [])));
       in_use = rw (e, h) (aside-used desk.commands c desk.held is.in_use);
     }
 

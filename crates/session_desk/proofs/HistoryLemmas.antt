@@ -1,6 +1,6 @@
 -- The history in a journal's entries, with what a turn adds to it.
-use Rattle.std.proofs.Common.{◌≡◌, ℕ, ◌+◌, ◌==◌, Bool, true, false, cond, List, []}
-use Rattle.std.proofs.Common.{◌∷◌, ◌++◌, Option, Some, None, refl, ap, ◌∙◌, arith}
+use Rattle.std.proofs.Common.{◌≡◌, ℕ, ◌+◌, ◌==◌, Bool, true, false, cond, List, [], ◌∷◌, ◌++◌}
+use Rattle.std.proofs.Common.{Option, Some, None, refl, ap, ◌∙◌, arith}
 use Rattle.std.proofs.lemmas.Bool.Decides.{nat_tests}
 use Rattle.std.proofs.lemmas.List.{append-nil}
 use Rattle.gate_journal.specs.Log.{next_row, rows_of}
@@ -13,17 +13,17 @@ use Rattle.line_words.specs.declared.reply.Reply.{Reply}
 use Rattle.session_core.specs.declared.entry.Entry.{Entry}
 use Rattle.session_core.specs.declared.entry.Entry.TheVariants as entries
 use Rattle.session_core.specs.declared.entry.Outcome.{Outcome}
-use Rattle.session_core.specs.declared.entry.Outcome.TheVariants.{Answered, DiskFailed}
-use Rattle.session_core.specs.declared.entry.Outcome.TheVariants.{OutOfMemory, Forgotten}
+use Rattle.session_core.specs.declared.entry.Outcome.TheVariants.{Answered, DiskFailed, OutOfMemory}
+use Rattle.session_core.specs.declared.entry.Outcome.TheVariants.{Forgotten}
 use Rattle.session_core.specs.Turning.{commands_in, MayMeet, turn_met}
 use Rattle.session_desk.specs.Turn.{entries_added, history_in}
 
 -- ---- entries behind entries
 
-front : (own : Bool) (e : Entry) (xs ys : List Entry)
-    → cond own (e ∷ (xs ++ ys)) (xs ++ ys) ≡ cond own (e ∷ xs) xs ++ ys
-front true e xs ys = refl
-front false e xs ys = refl
+pub front : {A : Type 0} (own : Bool) (x : A) (xs ys : List A)
+    → cond own (x ∷ (xs ++ ys)) (xs ++ ys) ≡ cond own (x ∷ xs) xs ++ ys
+front true x xs ys = refl
+front false x xs ys = refl
 
 pub history_in-append : (xs ys : List JournalEntry) (s : ℕ)
     → history_in (xs ++ ys) s ≡ history_in xs s ++ history_in ys s

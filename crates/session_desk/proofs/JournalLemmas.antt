@@ -1,35 +1,31 @@
 -- The rows of one session, and what may follow them.
-use Rattle.std.proofs.Common.{◌≡◌, ℕ, ◌<◌, ◌≤◌, Bool, true, false, ◌==◌, not}
-use Rattle.std.proofs.Common.{nat_le, cond, List, [], ◌∷◌, ◌++◌, length, Some}
-use Rattle.std.proofs.Common.{None, refl, sym, ap, subst, ◌∙◌, append_assoc, arith}
+use Rattle.std.proofs.Common.{◌≡◌, ℕ, ◌<◌, ◌≤◌, Bool, true, false, ◌==◌, not, cond, List, [], ◌∷◌}
+use Rattle.std.proofs.Common.{◌++◌, length, Option, Some, None, refl, sym, ap, subst, ◌∙◌, arith}
 use Rattle.std.proofs.lemmas.Bool.Decides.{nat_tests}
 use Rattle.std.proofs.lemmas.List.{length-append}
-use Rattle.gate_journal.specs.Command.{HasDigest}
-use Rattle.gate_journal.specs.Rows.{is_open}
-use Rattle.gate_journal.specs.Command.{IsBudget, IsCommand}
+use Rattle.gate_journal.specs.Command.{HasDigest, IsBudget, IsCommand}
+use Rattle.gate_journal.specs.Rows.{is_open, commands_of, is_free, is_close, may_follow, IsJournal}
+use Rattle.gate_journal.specs.Rows.{IsNext, MayStand}
 use Rattle.gate_journal.specs.Log.{next_row}
-use Rattle.gate_journal.specs.Rows.{commands_of, is_free, is_close, may_follow}
-use Rattle.gate_journal.specs.Rows.{EachNext, IsJournal, IsNext, MayStand}
 use Rattle.gate_journal.specs.declared.command.Command.{Command}
 use Rattle.gate_journal.specs.declared.command.Command.TheVariants as commands
 use Rattle.gate_journal.specs.declared.row.Row.{Row}
 use Rattle.line_words.specs.declared.request.Request.{Request}
-use Rattle.line_words.specs.declared.request.Request.TheVariants.{Open, Line, Char}
-use Rattle.line_words.specs.declared.request.Request.TheVariants.{File, Last, Close}
+use Rattle.line_words.specs.declared.request.Request.TheVariants.{Open, Line, Char, File, Last}
+use Rattle.line_words.specs.declared.request.Request.TheVariants.{Close}
 use Rattle.line_words.specs.Spelling.{IsRequest}
 use Rattle.line_words.proofs.RequestLaws.{request_only}
 use Rattle.story_run.specs.declared.story.Story.{Story}
-use Rattle.session_core.specs.History.{game_of, command_count, game_goes_on}
-use Rattle.session_core.specs.History.{has_key, is_in_use, story_at}
-use Rattle.session_core.specs.Checks.{command_of, is_fresh}
-use Rattle.session_core.specs.Answer.{first_refusal, plain_checks}
-use Rattle.session_core.proofs.RepeatLemmas.{all_fail, joined, game_of-append}
-use Rattle.session_core.proofs.RepeatLemmas.{game_of-append-open, last_of-joined, some_is}
+use Rattle.session_core.specs.History.{game_of, game_goes_on, is_in_use, story_at}
+use Rattle.session_core.specs.Checks.{command_of, opening_command}
+use Rattle.session_core.proofs.RepeatLemmas.{joined, game_of-append, game_of-append-open}
+use Rattle.session_core.proofs.RepeatLemmas.{last_of-joined, some_is}
 use Rattle.session_desk.specs.Desk.{DeskState}
 use Rattle.session_core.specs.Sessions.{with_budget}
 use Rattle.session_desk.specs.Commit.{IsInRange}
 use Rattle.session_desk.specs.Laws.{JournalsFit, ReadsInRange}
-use Rattle.session_desk.proofs.LawLemmas.{Accepts, closes, knows, not_last, opens}
+use Rattle.session_desk.proofs.AlikeLemmas.{IsReadyFor}
+use Rattle.session_desk.proofs.OpensLemmas.{behind_each}
 
 -- ---- the rows of a session, with one row more
 
@@ -106,101 +102,62 @@ agree-follow xs (commands.Char win code) m a = agree-one xs (commands.Char win c
 agree-follow xs (commands.File name) m a = agree-one xs (commands.File name) refl a m
 agree-follow xs commands.Close m a = agree-one xs commands.Close refl a m
 
-agree-if : (own : Bool) (xs : List Command) (c : Command)
-    → (own ≡ true → may_follow xs c ≡ true) → Agree xs
-    → Agree (cond own (xs ++ c ∷ []) xs)
-agree-if true xs c m a = agree-follow xs c (m refl) a
-agree-if false xs c m a = a
+-- ---- what holds of the commands of a session
 
-same_session : (n s : ℕ) → (n == s) ≡ true → n ≡ s
-same_session n s e = grind (arith, nat_tests, e)
+kept-if : (P : List Command → Type 0) (own : Bool) (xs : List Command) (c : Command)
+    → (own ≡ true → P (xs ++ c ∷ [])) → P xs
+    → P (cond own (xs ++ c ∷ []) xs)
+kept-if P true xs c keeps p = keeps refl
+kept-if P false xs c keeps p = p
 
-agree-next : (rows : List Row) (r : Row) (s : ℕ)
-    → IsNext rows r → Agree (commands_of rows s)
-    → Agree (commands_of (rows ++ r ∷ []) s)
-agree-next rows r s next a =
-    rw (commands_of-append rows r s)
-    (agree-if (r.session == s) (commands_of rows s) r.command
-    (λ (e : (r.session == s) ≡ true). subst
-    (λ (n : ℕ). may_follow (commands_of rows n) r.command ≡ true)
-    (same_session r.session s e) next.stands.follows) a)
-
-append_nil : (rows : List Row) → rows ++ [] ≡ rows
-append_nil [] = refl
-append_nil (r ∷ rows) = ap (λ (x : List Row). r ∷ x) (append_nil rows)
-
-agree-all : (s : ℕ) (rows more : List Row)
-    → EachNext rows more → Agree (commands_of rows s)
-    → Agree (commands_of (rows ++ more) s)
-agree-all s rows [] each a = rw (append_nil rows) a
-agree-all s rows (r ∷ more) each a =
-    subst (λ (x : List Row). Agree (commands_of x s)) (append_assoc rows (r ∷ []) more)
-    (agree-all s (rows ++ r ∷ []) more each.1 (agree-next rows r s each.0 a))
+-- what each command keeps that may follow holds of a session's commands in a journal
+kept-all : (P : List Command → Type 0) (s : ℕ) (rows : List Row)
+    → ((xs : List Command) (c : Command)
+    → may_follow xs c ≡ true → length xs < 8192 → P xs
+    → P (xs ++ c ∷ []))
+    → IsJournal rows → P []
+    → P (commands_of rows s)
+kept-all P s rows keeps journal none =
+    behind_each (λ (all : List Row). P (commands_of all s)) [] rows next journal none
+  where
+    next : (before : List Row) (r : Row)
+        → IsNext before r → P (commands_of before s)
+        → P (commands_of (before ++ r ∷ []) s)
+    next before r is p =
+        rw (commands_of-append before r s)
+        (kept-if P (r.session == s) (commands_of before s) r.command
+        (λ own. let same : r.session ≡ s = grind (arith, nat_tests, own) in
+        keeps (commands_of before s) r.command (rw same at is.stands.follows)
+        (rw same at is.stands.fewer) p) p)
 
 agrees : (rows : List Row) (s : ℕ) → IsJournal rows → Agree (commands_of rows s)
-agrees rows s journal = agree-all s [] rows journal refl
+agrees rows s journal =
+    kept-all Agree s rows (λ xs c follows fewer a. agree-follow xs c follows a) journal refl
 
 -- ---- a fresh command may follow
 
--- a session in use isn't free
-one_follows : (xs : List Command)
-    → Agree xs → is_in_use (game_of xs) ≡ true
-    → not (is_free xs) ≡ true
-one_follows xs a used = rw (a, used) refl
-
-follows : (stories : List Story) (xs : List Command) (request : Request) (c : Command) → Agree xs
-    → first_refusal (plain_checks stories (game_of xs) request) ≡ None
-    → is_fresh (game_of xs) request ≡ true
-    → command_of stories request ≡ Some c
-    → may_follow xs c ≡ true
-follows stories xs (Open s key story seed cols rows budget) c a none fresh e =
-    let opens_it = opens (story_at stories story) key story seed cols rows budget c e in
-    rw opens_it.1 (a ∙ fresh)
-follows stories xs (Line s key n win text term) c a none fresh e =
-    let g = game_of xs in
-    let used =
-    knows (nat_le 64 s) (has_key g key) (is_in_use g)
-    (all_fail (plain_checks stories g (Line s key n win text term)) none).0 in
-    rw (sym (some_is _ c e)) (one_follows xs a used.1)
-follows stories xs (Char s key n win code) c a none fresh e =
-    let g = game_of xs in
-    let used =
-    knows (nat_le 64 s) (has_key g key) (is_in_use g)
-    (all_fail (plain_checks stories g (Char s key n win code)) none).0 in
-    rw (sym (some_is _ c e)) (one_follows xs a used.1)
-follows stories xs (File s key n name) c a none fresh e =
-    let g = game_of xs in
-    let used =
-    knows (nat_le 64 s) (has_key g key) (is_in_use g)
-    (all_fail (plain_checks stories g (File s key n name)) none).0 in
-    rw (sym (some_is _ c e)) (one_follows xs a used.1)
-follows stories xs (Last s key) c a none fresh e = absurd cc
-follows stories xs (Close s key n) c a none fresh e =
-    let g = game_of xs in
-    let used =
-    closes (nat_le 64 s) (has_key g key) (is_in_use g)
-    (n == command_count g) (all_fail (plain_checks stories g (Close s key n)) none).0
-    (not_last n (command_count g) fresh) in
-    rw (sym (some_is _ c e)) (one_follows xs a used.1)
+follows : (desk : DeskState) (c : Command)
+    → Agree desk.commands → IsReadyFor desk c
+    → may_follow desk.commands c ≡ true
+follows desk (commands.Open key story digest seed cols rows budget) a ready = a ∙ ready.0
+follows desk commands.Close a ready = rw (a, ready) refl
+follows desk (commands.Line win term text) a ready = rw (a, ready.0) refl
+follows desk (commands.Char win code) a ready = rw (a, ready.0) refl
+follows desk (commands.File name) a ready = rw (a, ready.0) refl
 
 -- the journal may keep what a desk accepts
-pub may_stand : (desk : DeskState) (rows : List Row) (request : Request) (command : Command)
-    → Accepts desk request
-    → command_of desk.stories request ≡ Some command
-    → IsCommand command → desk.session < 64
+pub may_stand : (desk : DeskState) (rows : List Row) (c : Command)
+    → IsReadyFor desk c → length desk.commands < 8192
+    → IsCommand c → desk.session < 64
     → IsJournal rows
     → commands_of rows desk.session ≡ desk.commands
-    → MayStand rows desk.session command
-may_stand desk rows request command a asked ranges below journal kept =
-    let agree : Agree desk.commands =
-    subst (λ (x : List Command). Agree x) kept (agrees rows desk.session journal) in
-    record {
-      below = below;
-      ranges = ranges;
-      follows =
-          rw kept (follows desk.stories desk.commands request command agree a.none a.fresh asked);
-      fewer = rw kept a.room;
-    }
+    → MayStand rows desk.session c
+may_stand desk rows c ready room ranges below journal kept = record {
+  below = below;
+  ranges = ranges;
+  follows = rw kept (follows desk c (rw kept at (agrees rows desk.session journal)) ready);
+  fewer = rw kept room;
+}
 
 -- ---- the ranges of a command
 
@@ -209,18 +166,19 @@ pub in_range : (stories : List Story) (request : Request) (c : Command)
     → IsInRange request → command_of stories request ≡ Some c
     → HasDigest c → IsCommand c
 in_range stories (Open s key story seed cols rows budget) c range e digest =
-    let opens_it = opens (story_at stories story) key story seed cols rows budget c e in
-    subst (λ (x : Command). IsCommand x) (sym opens_it.1)
-    (range opens_it.0 (subst (λ (x : Command). HasDigest x) opens_it.1 digest))
-in_range stories (Line s key n win text term) c range e digest =
-    subst (λ (x : Command). IsCommand x) (some_is _ c e) range
-in_range stories (Char s key n win code) c range e digest =
-    subst (λ (x : Command). IsCommand x) (some_is _ c e) range
-in_range stories (File s key n name) c range e digest =
-    subst (λ (x : Command). IsCommand x) (some_is _ c e) range
+    opened (story_at stories story) e
+  where
+    opened : (found : Option Story)
+        → opening_command found (λ d. commands.Open key story d seed cols rows budget) ≡ Some c
+        → IsCommand c
+    opened None e = absurd cc
+    opened (Some there) e =
+        rw (sym (some_is _ c e)) (range there.digest (rw (sym (some_is _ c e)) at digest))
+in_range stories (Line s key n win text term) c range e digest = rw (sym (some_is _ c e)) range
+in_range stories (Char s key n win code) c range e digest = rw (sym (some_is _ c e)) range
+in_range stories (File s key n name) c range e digest = rw (sym (some_is _ c e)) range
 in_range stories (Last s key) c range e digest = absurd cc
-in_range stories (Close s key n) c range e digest =
-    subst (λ (x : Command). IsCommand x) (some_is _ c e) tt
+in_range stories (Close s key n) c range e digest = rw (sym (some_is _ c e)) tt
 
 digest_range : (request : Request) (budget : ℕ)
     → IsRequest request → IsBudget budget
@@ -253,28 +211,7 @@ read_in_range line request budget e is =
 
 -- ---- the rows of a session are not too many
 
-fits-if : (own : Bool) (xs : List Command) (c : Command)
-    → (own ≡ true → length xs < 8192) → length xs ≤ 8192
-    → length (cond own (xs ++ c ∷ []) xs) ≤ 8192
-fits-if true xs c fewer le = let lt = fewer refl in omega (arith, length-append xs (c ∷ []), lt)
-fits-if false xs c fewer le = le
-
-fits-next : (rows : List Row) (r : Row) (s : ℕ)
-    → IsNext rows r → length (commands_of rows s) ≤ 8192
-    → length (commands_of (rows ++ r ∷ []) s) ≤ 8192
-fits-next rows r s next le =
-    rw (commands_of-append rows r s)
-    (fits-if (r.session == s) (commands_of rows s) r.command
-    (λ (e : (r.session == s) ≡ true). subst (λ (n : ℕ). length (commands_of rows n) < 8192)
-    (same_session r.session s e) next.stands.fewer) le)
-
-fits-all : (s : ℕ) (rows more : List Row)
-    → EachNext rows more → length (commands_of rows s) ≤ 8192
-    → length (commands_of (rows ++ more) s) ≤ 8192
-fits-all s rows [] each le = rw (append_nil rows) le
-fits-all s rows (r ∷ more) each le =
-    subst (λ (x : List Row). length (commands_of x s) ≤ 8192) (append_assoc rows (r ∷ []) more)
-    (fits-all s (rows ++ r ∷ []) more each.1 (fits-next rows r s each.0 le))
-
 pub journal_fits : JournalsFit
-journal_fits rows s journal = fits-all s [] rows journal (omega arith)
+journal_fits rows s journal =
+    kept-all (λ (xs : List Command). length xs ≤ 8192) s rows
+    (λ xs c follows fewer le. omega (arith, length-append xs (c ∷ []), fewer)) journal (omega arith)

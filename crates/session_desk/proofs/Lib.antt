@@ -1,4 +1,5 @@
 pub mod VerdictLemmas
+pub mod AlikeLemmas
 pub mod LawLemmas
 pub mod GameLemmas
 pub mod HeldLemmas
@@ -14,6 +15,7 @@ pub mod OpensLemmas
 pub mod SharedLemmas
 pub mod SharedTurnLemmas
 pub mod StoryLemmas
+pub mod KeptUpLemmas
 pub mod SoundLemmas
 pub mod DeskWarming
 pub mod SharingLemmas

@@ -1,29 +1,26 @@
 -- Where an answer needs no world.
-use Rattle.std.proofs.Common.{◌≡◌, ℕ, Bool, true, false, ◌&&◌, ◌==◌, ◌+◌, cond, nat_le}
-use Rattle.std.proofs.Common.{List, Option, Some, None, is_none, refl, sym, ap, ◌∙◌}
+use Rattle.std.proofs.Common.{◌≡◌, ℕ, Bool, true, false, ◌&&◌, ◌==◌, ◌+◌, cond, List, Option, Some}
+use Rattle.std.proofs.Common.{None, is_none, refl, sym, ap, ◌∙◌}
 use Rattle.gate_journal.specs.declared.command.Command.{Command}
 use Rattle.gate_journal.specs.declared.command.Command.TheVariants as commands
 use Rattle.line_words.specs.declared.request.Request.{Request}
-use Rattle.line_words.specs.declared.request.Request.TheVariants.{Open, Line, Char}
-use Rattle.line_words.specs.declared.request.Request.TheVariants.{File, Last, Close}
+use Rattle.line_words.specs.declared.request.Request.TheVariants.{Open, Line, Char, File, Last}
+use Rattle.line_words.specs.declared.request.Request.TheVariants.{Close}
 use Rattle.line_words.specs.declared.reply.No.{No}
 use Rattle.line_words.specs.declared.reply.Reply.TheVariants as replies
 use Rattle.story_run.specs.declared.story.Story.{Story}
 use Rattle.story_run.specs.World.{WorldState}
-use Rattle.session_core.specs.declared.decision.Decision.{Decision}
-use Rattle.session_core.specs.History.{command_count, game_of, has_key}
-use Rattle.session_core.specs.History.{is_in_use, story_at, world_of}
+use Rattle.session_core.specs.History.{command_count, game_of, is_in_use, story_at, world_of}
 use Rattle.session_core.specs.Checks.{is_fresh, opening_command}
-use Rattle.session_core.specs.Answer.{accepted_by, answer_in, decided, first_refusal}
-use Rattle.session_core.specs.Answer.{plain_checks, refusal_in, show_reply, show_with}
+use Rattle.session_core.specs.Answer.{accepted_by, answer_in, decided, first_refusal, plain_checks}
+use Rattle.session_core.specs.Answer.{refusal_in, show_with}
 use Rattle.session_core.proofs.AnswerLemmas.{refusal_in-plain}
-use Rattle.session_core.proofs.RepeatLemmas.{all_fail}
 use Rattle.session_desk.specs.declared.held.Held.{Held}
 use Rattle.session_desk.specs.declared.held.Held.TheVariants.{Nothing, Current, Previous}
-use Rattle.session_desk.specs.Desk.{game, HoldsOwnWorld, world_now}
+use Rattle.session_desk.specs.Desk.{HoldsOwnWorld, world_now}
 use Rattle.session_desk.specs.Verdict.{is_to_story, needs_world}
-use Rattle.session_desk.proofs.LawLemmas.{knows}
-use Rattle.session_desk.proofs.VerdictLemmas.{checks_free, past_story, stale-passes}
+use Rattle.session_desk.proofs.VerdictLemmas.{asks_story, checks_free, finds_use, past_story}
+use Rattle.session_desk.proofs.VerdictLemmas.{stale-passes}
 use Rattle.session_desk.proofs.WarmLemmas.{closed_again}
 
 -- ---- the same refusal
@@ -46,9 +43,9 @@ refusal_free stories history now other request true none free fresh =
 
 -- ---- the same show
 
-not_used : (used : Bool) → (used && true) ≡ false → used ≡ false
-not_used true e = absurd cc
-not_used false e = refl
+left_not : (x : Bool) → (x && true) ≡ false → x ≡ false
+left_not true e = absurd cc
+left_not false e = refl
 
 open_free : (stories : List Story) (history : List Command) (now other : Option WorldState)
     (found : Option Story) (key : List ℕ) (story seed cols rows budget : ℕ)
@@ -72,10 +69,6 @@ none_taken : (fresh : Bool) (c : Command) → fresh ≡ false → cond fresh (So
 none_taken true c e = absurd cc
 none_taken false c e = refl
 
-used_asks : (used : Bool) → used ≡ true → (used && true) ≡ false → true ≡ false
-used_asks true u e = e
-used_asks false u e = sym u
-
 show_free : (stories : List Story) (history : List Command) (now other : Option WorldState)
     (request : Request)
     → first_refusal (plain_checks stories (game_of history) request) ≡ None
@@ -84,33 +77,21 @@ show_free : (stories : List Story) (history : List Command) (now other : Option 
     ≡ show_with stories history other (accepted_by stories (game_of history) request)
 unfolding accepted_by
 show_free stories history now other (Open s key story seed cols rows budget) none free =
-    let unused = not_used (is_in_use (game_of history)) free in
+    let unused = left_not (is_in_use (game_of history)) free in
     rw unused (open_free stories history now other
     (story_at stories story) key story seed cols rows budget unused)
 show_free stories history now other (Line s key n win text term) none free =
-    let g = game_of history in
-    let used =
-    knows (nat_le 64 s) (has_key g key) (is_in_use g)
-    (all_fail (plain_checks stories g (Line s key n win text term)) none).0 in
-    absurd (let e = used_asks (is_in_use g) used.1 free in cc)
+    absurd (asks_story (is_in_use (game_of history))
+    (finds_use stories (game_of history) (Line s key n win text term) none) free)
 show_free stories history now other (Char s key n win code) none free =
-    let g = game_of history in
-    let used =
-    knows (nat_le 64 s) (has_key g key) (is_in_use g)
-    (all_fail (plain_checks stories g (Char s key n win code)) none).0 in
-    absurd (let e = used_asks (is_in_use g) used.1 free in cc)
+    absurd (asks_story (is_in_use (game_of history))
+    (finds_use stories (game_of history) (Char s key n win code) none) free)
 show_free stories history now other (File s key n name) none free =
-    let g = game_of history in
-    let used =
-    knows (nat_le 64 s) (has_key g key) (is_in_use g)
-    (all_fail (plain_checks stories g (File s key n name)) none).0 in
-    absurd (let e = used_asks (is_in_use g) used.1 free in cc)
+    absurd (asks_story (is_in_use (game_of history))
+    (finds_use stories (game_of history) (File s key n name) none) free)
 show_free stories history now other (Last s key) none free =
-    let g = game_of history in
-    let used =
-    knows (nat_le 64 s) (has_key g key) (is_in_use g)
-    (all_fail (plain_checks stories g (Last s key)) none).0 in
-    absurd (let e = used_asks (is_in_use g) used.1 free in cc)
+    absurd (asks_story (is_in_use (game_of history))
+    (finds_use stories (game_of history) (Last s key) none) free)
 show_free stories history now other (Close s key n) none free =
     let g = game_of history in
     close_free stories history now other (n == command_count g + 1)
@@ -125,11 +106,7 @@ decided_alike : (stories : List Story) (game : List Command) (f g : Option Comma
     → f (accepted_by stories game request) ≡ g (accepted_by stories game request)
     → decided stories game f request refusal ≡ decided stories game g request refusal
 decided_alike stories game f g request (Some why) e = refl
-decided_alike stories game f g request None e = ap (λ (show : List ℕ). showing show) e
-  where
-    showing : List ℕ → Decision
-    showing show =
-        record { reply = show_reply game show request; accepted = accepted_by stories game request }
+decided_alike stories game f g request None e = rw e refl
 
 refused_alike : (stories : List Story) (history : List Command) (now : Option WorldState)
     (request : Request) (why : No)
@@ -185,26 +162,24 @@ pub record IsBy (stories : List Story) (history : List Command) (held : Held)
   pub same : answer_in stories history (world_now held) request
       ≡ answer_in stories history now request
 
-needs_not : (needs : Bool) → (needs && true) ≡ false → needs ≡ false
-needs_not true e = absurd cc
-needs_not false e = refl
+-- of a world that isn't held
+by_own : (stories : List Story) (history : List Command) (held : Held) (request : Request)
+    → world_now held ≡ None
+    → (needs_world stories (game_of history) request && true) ≡ false
+    → IsBy stories history held request
+by_own stories history held request none lacks = record {
+  now = world_of stories (game_of history);
+  own = λ h. refl;
+  same =
+      rw none (asks_no_world stories history None (world_of stories (game_of history)) request
+      (left_not (needs_world stories (game_of history) request) lacks));
+}
 
 pub is_by : (stories : List Story) (history : List Command) (held : Held) (request : Request)
     → (needs_world stories (game_of history) request && is_none (world_now held)) ≡ false
     → IsBy stories history held request
 is_by stories history (Current w) request lacks =
     record { now = Some w; own = λ h. sym h; same = refl }
-is_by stories history Nothing request lacks = record {
-  now = world_of stories (game_of history);
-  own = λ h. refl;
-  same =
-      asks_no_world stories history None (world_of stories (game_of history)) request
-      (needs_not (needs_world stories (game_of history) request) lacks);
-}
-is_by stories history (Previous w) request lacks = record {
-  now = world_of stories (game_of history);
-  own = λ h. refl;
-  same =
-      asks_no_world stories history None (world_of stories (game_of history)) request
-      (needs_not (needs_world stories (game_of history) request) lacks);
-}
+is_by stories history Nothing request lacks = by_own stories history Nothing request refl lacks
+is_by stories history (Previous w) request lacks =
+    by_own stories history (Previous w) request refl lacks

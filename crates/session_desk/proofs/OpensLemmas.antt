@@ -8,10 +8,9 @@ use Rattle.std.proofs.lemmas.Bool.Decides.{nat_tests}
 use Rattle.std.proofs.lemmas.List.{append-nil, length-append}
 use Rattle.std.proofs.lemmas.List.Elements.{Contains-append_cases}
 use Rattle.turn_cell.specs.History.{Continues, Each, IsForeign}
-use Rattle.gate_journal.specs.Rows.{is_open}
+use Rattle.gate_journal.specs.Rows.{is_open, row_body, commands_of, EachNext, IsJournal, IsNext}
+use Rattle.gate_journal.specs.Rows.{journal_bytes}
 use Rattle.gate_journal.specs.Log.{next_row, entry_number, rows_of}
-use Rattle.gate_journal.specs.Rows.{row_body, commands_of, EachNext}
-use Rattle.gate_journal.specs.Rows.{IsJournal, IsNext, journal_bytes}
 use Rattle.gate_journal.specs.declared.command.Command.{Command}
 use Rattle.gate_journal.specs.declared.command.Command.TheVariants as commands
 use Rattle.gate_journal.specs.declared.row.Row.{Row}
@@ -19,11 +18,12 @@ use Rattle.gate_journal.specs.declared.entry.Entry.{Entry as JournalEntry}
 use Rattle.gate_journal.specs.declared.entry.Entry.TheVariants.{Kept, Faulted}
 use Rattle.gate_journal.proofs.RowLemmas.{spelled-push}
 use Rattle.line_words.specs.declared.request.Request.{Request}
-use Rattle.line_words.specs.declared.request.Request.TheVariants.{Open, Line, Char}
-use Rattle.line_words.specs.declared.request.Request.TheVariants.{File, Last, Close}
+use Rattle.line_words.specs.declared.request.Request.TheVariants.{Open, Line, Char, File, Last}
+use Rattle.line_words.specs.declared.request.Request.TheVariants.{Close}
 use Rattle.story_run.specs.declared.story.Story.{Story}
 use Rattle.session_core.specs.Checks.{command_of, opening_command}
 use Rattle.session_core.specs.History.{game_of, is_in_use, later, story_at}
+use Rattle.session_core.specs.Turning.{commands_in}
 use Rattle.session_core.proofs.RepeatLemmas.{some_is}
 use Rattle.session_saves.specs.Agreement.{last_row, opens_of}
 use Rattle.session_saves.proofs.AgreementLemmas.{last-append}
@@ -31,14 +31,10 @@ use Rattle.session_desk.specs.declared.refused.Refused.{Refused}
 use Rattle.session_desk.specs.declared.refused.Refused.TheVariants.{DiskFault, NoMemory}
 use Rattle.session_desk.specs.Opens.{AreBefore, is_to_open, opens_behind, OpensBy, row_behind}
 use Rattle.session_desk.specs.Shared.{met_by}
-use Rattle.session_desk.specs.Turn.{entries_added}
+use Rattle.session_desk.specs.Turn.{entries_added, history_in}
+use Rattle.session_desk.proofs.HistoryLemmas.{commands_in-history, front}
 
 -- ---- rows behind rows
-
-front : (own : Bool) (p : ℕ) (xs ys : List ℕ)
-    → cond own (p ∷ (xs ++ ys)) (xs ++ ys) ≡ cond own (p ∷ xs) xs ++ ys
-front true p xs ys = refl
-front false p xs ys = refl
 
 pub opens_of-append : (xs ys : List Row) (s : ℕ)
     → opens_of (xs ++ ys) s ≡ opens_of xs s ++ opens_of ys s
@@ -72,17 +68,33 @@ later_numbered (Faulted by from to ∷ seen) rest each = later_numbered seen res
 abbrev pub Others : ℕ → List JournalEntry → Type 0
 Others s rest = Each (IsForeign entry_number ((s + 1) ∷ [])) rest
 
-opens_none : (s : ℕ) (rest : List JournalEntry)
+-- a session without commands has no OPEN row
+pub no_rows : (rows : List Row) (s : ℕ) → commands_of rows s ≡ [] → opens_of rows s ≡ []
+no_rows [] s e = refl
+no_rows (r ∷ rows) s e =
+    none_own (r.session == s) (is_open r.command) r.command r.place (commands_of rows s)
+    (opens_of rows s) e (no_rows rows s)
+  where
+    none_own : (own opens : Bool) (c : Command) (place : ℕ) (cs : List Command) (places : List ℕ)
+        → cond own (c ∷ cs) cs ≡ []
+        → (cs ≡ [] → places ≡ []) → cond (own && opens) (place ∷ places) places ≡ []
+    none_own true opens c place cs places e rest = absurd cc
+    none_own false opens c place cs places e rest = rest e
+
+-- they add nothing to the history of this one
+pub foreign_none : (s : ℕ) (rest : List JournalEntry)
     → Each IsNumbered (rows_of rest) → Others s rest
-    → opens_of (rows_of rest) s ≡ []
-opens_none s [] n f = refl
-opens_none s (Kept r ∷ rest) n f =
+    → history_in rest s ≡ []
+foreign_none s [] n f = refl
+foreign_none s (Kept r ∷ rest) n f =
     let differ : (r.session == s) ≡ false =
     ne_eqb r.session s (λ e. f.0 (inl (sym (n.0 ∙ ap (λ (k : ℕ). k + 1) e)))) in
-    rw differ (opens_none s rest n.1 f.1)
-opens_none s (Faulted by from to ∷ rest) n f = opens_none s rest n f.1
+    rw differ (foreign_none s rest n.1 f.1)
+foreign_none s (Faulted by from to ∷ rest) n f =
+    let differ : (by == s + 1) ≡ false = ne_eqb by (s + 1) (λ e. f.0 (inl (sym e))) in
+    rw differ (foreign_none s rest n f.1)
 
--- they add no OPEN row of this one
+-- nor an OPEN row
 pub opens_of-since : (s : ℕ) (log seen : List JournalEntry)
     → IsJournal (rows_of log)
     → Continues (IsForeign entry_number ((s + 1) ∷ [])) log seen
@@ -91,8 +103,9 @@ opens_of-since s log seen journal on =
     let rows : IsJournal (rows_of (seen ++ on.0)) =
     subst (λ (es : List JournalEntry). IsJournal (rows_of es)) on.1 journal in
     let none : opens_of (rows_of on.0) s ≡ [] =
-    opens_none s on.0 (later_numbered seen on.0 (next_numbered [] (rows_of (seen ++ on.0)) rows))
-    on.2 in
+    no_rows (rows_of on.0) s (sym (commands_in-history on.0 s)
+    ∙ ap commands_in (foreign_none s on.0
+    (later_numbered seen on.0 (next_numbered [] (rows_of (seen ++ on.0)) rows)) on.2)) in
     ap (λ (es : List JournalEntry). opens_of (rows_of es) s) on.1
     ∙ ap (λ (rows : List Row). opens_of rows s) (rows_of-append seen on.0)
     ∙ opens_of-append (rows_of seen) (rows_of on.0) s
@@ -131,24 +144,23 @@ below_next s rows r next below x has =
     (λ new. let is = if_one (r.session == s && is_open r.command) r.place x new in
     let at = next.place in omega (arith, is, at, longer)) split
 
-append_none : (rows : List Row) → rows ++ [] ≡ rows
-append_none rows = append-nil rows
-
-below_all : (s : ℕ) (rows more : List Row)
-    → EachNext rows more
-    → AreBelow (opens_of rows s) (length (journal_bytes rows))
-    → AreBelow (opens_of (rows ++ more) s) (length (journal_bytes (rows ++ more)))
-below_all s rows [] each below = rw (append_none rows) below
-below_all s rows (r ∷ more) each below =
-    subst (λ (x : List Row). AreBelow (opens_of x s) (length (journal_bytes x)))
-    (append_assoc rows (r ∷ []) more)
-    (below_all s (rows ++ r ∷ []) more each.1 (below_next s rows r each.0 below))
+-- what each row keeps holds behind them all
+pub behind_each : (P : List Row → Type 0) (rows more : List Row)
+    → ((before : List Row) (r : Row) → IsNext before r → P before → P (before ++ r ∷ []))
+    → EachNext rows more → P rows
+    → P (rows ++ more)
+behind_each P rows [] keeps each p = subst P (sym (append-nil rows)) p
+behind_each P rows (r ∷ more) keeps each p =
+    subst P (append_assoc rows (r ∷ []) more)
+    (behind_each P (rows ++ r ∷ []) more keeps each.1 (keeps rows r each.0 p))
 
 -- a journal's places are before its end
 pub opens_below : (s : ℕ) (rows : List Row)
     → IsJournal rows → (x : ℕ) → Contains (opens_of rows s) x
     → x < length (journal_bytes rows)
-opens_below s rows journal = below_all s [] rows journal (λ x has. absurd (contains_none x has))
+opens_below s rows journal =
+    behind_each (λ (all : List Row). AreBelow (opens_of all s) (length (journal_bytes all))) [] rows
+    (below_next s) journal (λ x has. absurd (contains_none x has))
 
 -- ---- behind a commit
 
@@ -289,16 +301,3 @@ pub in_use_row : (rows : List Row) (s : ℕ) (commands : List Command)
 in_use_row rows s commands is used =
     has_row (opens_of rows s) (game_of commands)
     (λ none. ap game_of (sym is) ∙ no_game rows s none) used
-
--- and one without commands has none
-pub no_rows : (rows : List Row) (s : ℕ) → commands_of rows s ≡ [] → opens_of rows s ≡ []
-no_rows [] s e = refl
-no_rows (r ∷ rows) s e =
-    none_own (r.session == s) (is_open r.command) r.command r.place (commands_of rows s)
-    (opens_of rows s) e (no_rows rows s)
-  where
-    none_own : (own opens : Bool) (c : Command) (place : ℕ) (cs : List Command) (places : List ℕ)
-        → cond own (c ∷ cs) cs ≡ []
-        → (cs ≡ [] → places ≡ []) → cond (own && opens) (place ∷ places) places ≡ []
-    none_own true opens c place cs places e rest = absurd cc
-    none_own false opens c place cs places e rest = rest e

@@ -1,12 +1,12 @@
 -- A shared desk and the journal that it stands on.
-use Rattle.std.proofs.Common.{◌≡◌, ◌⊎◌, inl, inr, ⊎_elim, ℕ, ◌+◌, ◌==◌, Bool, true, false}
-use Rattle.std.proofs.Common.{cond, List, [], ◌∷◌, ◌++◌, length, map, replicate, Option}
-use Rattle.std.proofs.Common.{Some, None, Result, Ok, Err, refl, sym, ap, subst, ◌∙◌, ne_eqb}
+use Rattle.std.proofs.Common.{◌≡◌, ◌⊎◌, inl, inr, ⊎_elim, ℕ, ◌+◌, ◌==◌, Bool, true, false, cond}
+use Rattle.std.proofs.Common.{List, [], ◌∷◌, ◌++◌, length, map, replicate, Option, Some, None}
+use Rattle.std.proofs.Common.{Result, Ok, Err, refl, sym, ap, subst, ◌∙◌}
 use Rattle.std.specs.Prelude.{IfErr, OnErr, OnOk}
 use Rattle.std.proofs.lemmas.List.{append-nil, map-append}
 use Rattle.atomic_table.specs.Seated.{TableId}
 use Rattle.turn_cell.specs.declared.pass.Pass.{Pass}
-use Rattle.turn_cell.specs.History.{Continues, Each, IsForeign}
+use Rattle.turn_cell.specs.History.{Continues, IsForeign}
 use Rattle.turn_cell.specs.Passes.{pass_numbers, seen}
 use Rattle.turn_cell.specs.Views.{MayLeave, tag_in}
 use Rattle.turn_cell.specs.declared.view.View.{View}
@@ -23,8 +23,8 @@ use Rattle.story_run.specs.declared.story.Story.{Story}
 use Rattle.session_core.specs.declared.entry.Entry.{Entry}
 use Rattle.session_core.specs.declared.entry.Entry.TheVariants as entries
 use Rattle.session_core.specs.declared.entry.Outcome.{Outcome}
-use Rattle.session_core.specs.declared.entry.Outcome.TheVariants.{Answered, DiskFailed}
-use Rattle.session_core.specs.declared.entry.Outcome.TheVariants.{OutOfMemory, Forgotten}
+use Rattle.session_core.specs.declared.entry.Outcome.TheVariants.{Answered, DiskFailed, OutOfMemory}
+use Rattle.session_core.specs.declared.entry.Outcome.TheVariants.{Forgotten}
 use Rattle.session_core.specs.Checks.{command_of}
 use Rattle.session_core.specs.Turning.{commands_in}
 use Rattle.session_core.proofs.RepeatLemmas.{some_is}
@@ -35,16 +35,32 @@ use Rattle.session_desk.specs.declared.shared.mark.Mark.{Mark}
 use Rattle.session_desk.specs.declared.shared.mark.Mark.TheVariants as marks
 use Rattle.session_desk.specs.Desk.{committed, DeskState, cold_desk}
 use Rattle.session_desk.specs.Marks.{count_commands, marks_by, commands_woven}
-use Rattle.session_desk.specs.Shared.{desk_tag, DeskTag, history_met, IsMarked}
-use Rattle.session_desk.specs.Shared.{IsPassOf, LeavesHistory, met_by, SharedState}
-use Rattle.session_desk.specs.Shared.{TakesEntry, unnumbered, unplaced}
+use Rattle.session_desk.specs.Shared.{desk_tag, DeskTag, history_met, IsMarked, IsPassOf}
+use Rattle.session_desk.specs.Shared.{LeavesHistory, met_by, SharedState, TakesEntry, unnumbered}
+use Rattle.session_desk.specs.Shared.{unplaced}
 use Rattle.session_desk.specs.Turn.{entries_added, history_in}
-use Rattle.session_desk.proofs.OpensLemmas.{IsNumbered, later_numbered, next_numbered, Others}
+use Rattle.session_desk.proofs.OpensLemmas.{foreign_none, later_numbered, next_numbered}
 use Rattle.snap_store.specs.Store.{Snapshots}
-use Rattle.session_desk.proofs.MarkLemmas.{commands_in-woven, count-all}
-use Rattle.session_desk.proofs.MarkLemmas.{count-by, woven-all, woven-by}
-use Rattle.session_desk.proofs.HistoryLemmas.{commands_in-history}
-use Rattle.session_desk.proofs.HistoryLemmas.{history_in-added, history_in-append}
+use Rattle.session_saves.specs.Saves.{SavesState}
+use Rattle.session_desk.proofs.MarkLemmas.{commands_in-woven, count-all, count-by, woven-all}
+use Rattle.session_desk.proofs.MarkLemmas.{woven-by}
+use Rattle.session_desk.proofs.HistoryLemmas.{commands_in-history, history_in-added}
+use Rattle.session_desk.proofs.HistoryLemmas.{history_in-append}
+
+-- the state of a desk with these fields
+abbrev pub state_of :
+    {D : Type 0}
+    → DeskState → List Mark → Pass (Log D) JournalEntry → SavesState D → Snapshots D
+    → Pass (Log D) JournalEntry
+    → SharedState D
+state_of desk marks pass saves store first = record {
+  desk = desk;
+  history = commands_woven marks desk.commands;
+  pass = pass;
+  saves = saves;
+  store = store;
+  rows = rows_of (seen first);
+}
 
 -- ---- without the numbers of passes
 
@@ -68,18 +84,6 @@ unnumbered-met h by (Some c) OutOfMemory = refl
 unnumbered-met h by (Some c) Forgotten = map-append unnumbered h (entries.Accepted by c ∷ [])
 
 -- ---- entries of other sessions change nothing of one
-
-foreign_none : (s : ℕ) (rest : List JournalEntry)
-    → Each IsNumbered (rows_of rest) → Others s rest
-    → history_in rest s ≡ []
-foreign_none s [] n f = refl
-foreign_none s (Kept r ∷ rest) n f =
-    let differ : (r.session == s) ≡ false =
-    ne_eqb r.session s (λ e. f.0 (inl (sym (n.0 ∙ ap (λ (k : ℕ). k + 1) e)))) in
-    rw differ (foreign_none s rest n.1 f.1)
-foreign_none s (Faulted by from to ∷ rest) n f =
-    let differ : (by == s + 1) ≡ false = ne_eqb by (s + 1) (λ e. f.0 (inl (sym e))) in
-    rw differ (foreign_none s rest n f.1)
 
 -- the history of a session in a journal is the one in what its pass had seen of it
 pub history_in-since : (s : ℕ) (log seen : List JournalEntry)

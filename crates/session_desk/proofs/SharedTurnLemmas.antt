@@ -1,34 +1,29 @@
 -- Turns of a shared desk, by what they met.
-use Rattle.std.proofs.Common.{◌≡◌, ◌≢◌, inl, inr, ℕ, ◌+◌, Bool, true, false, List}
-use Rattle.std.proofs.Common.{[], ◌∷◌, ◌++◌, Option, Some, refl, sym, ap, subst, ◌∙◌}
+use Rattle.std.proofs.Common.{◌≡◌, ◌≢◌, inl, inr, ℕ, ◌+◌, Bool, true, false, List, [], ◌∷◌, ◌++◌}
+use Rattle.std.proofs.Common.{Option, Some, refl, sym, ap, subst, ◌∙◌}
 use Rattle.std.proofs.lemmas.List.{append-nil}
 use Rattle.turn_cell.specs.History.{Continues, IsForeign}
 use Rattle.gate_journal.specs.Log.{entry_number}
 use Rattle.gate_journal.specs.declared.command.Command.{Command}
 use Rattle.gate_journal.specs.declared.entry.Entry.{Entry as JournalEntry}
-use Rattle.line_words.specs.declared.reply.No.TheVariants as no
 use Rattle.line_words.specs.declared.reply.Reply.{Reply}
-use Rattle.line_words.specs.declared.reply.Reply.TheVariants as replies
 use Rattle.session_core.specs.declared.decision.Decision.{Decision}
 use Rattle.session_core.specs.declared.entry.Entry.{Entry}
 use Rattle.session_core.specs.declared.entry.Entry.TheVariants as entries
-use Rattle.session_core.specs.declared.entry.Outcome.TheVariants.{Answered, DiskFailed, OutOfMemory}
-use Rattle.session_core.specs.Turning.{AddsTo, MayMeet, turn_met}
+use Rattle.session_core.specs.declared.entry.Outcome.TheVariants.{Answered, OutOfMemory}
 use Rattle.session_core.specs.Answer.{answer_in}
 use Rattle.session_core.specs.Checks.{command_of}
 use Rattle.session_core.specs.History.{game_of, world_of}
 use Rattle.session_core.proofs.RepeatLemmas.{some_is}
-use Rattle.story_run.specs.declared.story.Story.{Story}
 use Rattle.line_words.specs.declared.request.Request.{Request}
 use Rattle.turn_cell.specs.Passes.{seen}
-use Rattle.session_core.proofs.TurningLemmas.{met_adds}
 use Rattle.session_desk.specs.declared.held.Held.{Held}
 use Rattle.session_desk.specs.declared.turned.Turned.{Turned}
 use Rattle.session_desk.specs.declared.verdict.Verdict.TheVariants.{Cold}
 use Rattle.session_desk.specs.Desk.{committed, DeskState, game, HoldsOwnWorld, ran, shown_to}
 use Rattle.session_desk.specs.Laws.{decision_by_desk}
-use Rattle.session_desk.specs.Shared.{desk_tag, DeskTag, GoesOn, Rests}
-use Rattle.session_desk.specs.Shared.{SharedState, TakesEntry, TurnsTo}
+use Rattle.session_desk.specs.Shared.{desk_tag, DeskTag, GoesOn, Rests, SharedState, TakesEntry}
+use Rattle.session_desk.specs.Shared.{TurnsTo}
 use Rattle.session_desk.specs.Sound.{Decides, IsSoundDesk, TurnsBy}
 use Rattle.session_desk.specs.Verdict.{lacks_world, verdict}
 use Rattle.session_desk.proofs.LawLemmas.{cold_alone}
@@ -51,13 +46,6 @@ turns-shown d by h t show c e (inl is) =
     rw (e, is) (record { met = tt; reply = refl; history = refl })
 turns-shown d by h t show c e (inr is) =
     rw (e, is) (record { met = tt; reply = refl; history = refl })
-
-pub turns-failed : (d : Decision) (by from to : ℕ) (h : List Entry) (show : Reply) (c : Command)
-    → d ≡ record { reply = show; accepted = Some c }
-    → TurnsTo d by h
-    (record { reply = replies.No (no.DiskFault from to); outcome = DiskFailed from to })
-    (h ++ entries.Faulted by from to ∷ [])
-turns-failed d by from to h show c e = rw e (record { met = tt; reply = refl; history = refl })
 
 -- ---- the journal
 
@@ -143,19 +131,10 @@ pub turns-by : {D : Type 0} (tells : D → Bool) (seen_of : D → List ℕ) (req
 turns-by tells seen_of request by old new t d decides turns goes = record {
   now = decides.now;
   own = decides.own;
-  met = subst (λ (x : Decision). MayMeet x.accepted t.outcome) decides.decides turns.met;
-  reply =
-      subst
-      (λ (x : Decision). t.reply ≡ (turn_met old.history by x.reply x.accepted t.outcome).reply)
-      decides.decides turns.reply;
-  history =
-      subst (λ (x : Decision).
-      new.history ≡ (turn_met old.history by x.reply x.accepted t.outcome).history) decides.decides
-      turns.history;
-  journal =
-      subst (λ (x : Decision).
-      GoesOn old.desk.session x.accepted t.outcome (seen old.pass) (seen new.pass))
-      decides.decides goes;
+  met = rw decides.decides at turns.met;
+  reply = rw decides.decides at turns.reply;
+  history = rw decides.decides at turns.history;
+  journal = rw decides.decides at goes;
 }
 
 -- a turn that makes the session accept nothing
@@ -166,12 +145,8 @@ pub turns-by-quiet : {D : Type 0} (tells : D → Bool) (seen_of : D → List ℕ
     → TurnsBy tells seen_of request by old t new
 turns-by-quiet tells seen_of request by old new t rests (d, decides, quiet) =
     turns-by tells seen_of request by old new t d decides
-    (subst (λ (h : List Entry). TurnsTo d by old.history t h) (sym rests.history)
-    (turns-quiet d by old.history t quiet))
-    (subst
-    (λ (es : List JournalEntry). GoesOn old.desk.session d.accepted t.outcome (seen old.pass) es)
-    (sym (ap seen rests.pass))
-    (goes-quiet d old.desk.session (seen old.pass) t quiet))
+    (rw rests.history (turns-quiet d by old.history t quiet))
+    (rw rests.pass (goes-quiet d old.desk.session (seen old.pass) t quiet))
 
 -- a turn of a command, behind the steps that leave the session
 pub turns-by-fresh : {D : Type 0} (tells : D → Bool) (seen_of : D → List ℕ)
@@ -182,22 +157,10 @@ pub turns-by-fresh : {D : Type 0} (tells : D → Bool) (seen_of : D → List ℕ
     (seen mid.pass) (seen new.pass)
     → TurnsBy tells seen_of request by old t new
 turns-by-fresh tells seen_of request by old mid new t rests decides turns goes =
+    let session : mid.desk.session ≡ old.desk.session =
+    ap (λ (d : DeskState). d.session) rests.desk in
     turns-by tells seen_of request by old new t (decision_by_desk mid.desk request) decides
-    (subst (λ (h : List Entry). TurnsTo (decision_by_desk mid.desk request) by h t new.history)
-    rests.history turns)
-    (subst (λ (es : List JournalEntry). GoesOn old.desk.session
-    (decision_by_desk mid.desk request).accepted t.outcome es (seen new.pass)) (ap seen rests.pass)
-    (subst (λ (s : ℕ).
-    GoesOn s (decision_by_desk mid.desk request).accepted t.outcome (seen mid.pass) (seen new.pass))
-    (ap (λ (d : DeskState). d.session) rests.desk) goes))
-
-pub turns-by-add : {D : Type 0} (tells : D → Bool) (seen_of : D → List ℕ) (request : Request)
-    (by : ℕ) (old new : SharedState D) (t : Turned)
-    → TurnsBy tells seen_of request by old t new → AddsTo old.history by new.history
-turns-by-add tells seen_of request by old new t turns =
-    subst (λ (x : List Entry). AddsTo old.history by x) (sym turns.history)
-    (met_adds old.history by (answer_in old.desk.stories old.desk.commands turns.now request).reply
-    (answer_in old.desk.stories old.desk.commands turns.now request).accepted t.outcome)
+    (rw rests.history at turns) (rw (rests.pass, session) at goes)
 
 -- ---- a command that was committed
 
@@ -208,11 +171,6 @@ AnswersFresh desk request =
     × (decision_by_desk desk request
     ≡ record { reply = shown_to (ran (committed desk c)) request; accepted = Some c })
 
-same_command : (stories : List Story) (request : Request) (c d : Command)
-    → command_of stories request ≡ Some c
-    → command_of stories request ≡ Some d → c ≡ d
-same_command stories request c d e f = some_is c d (sym e ∙ f)
-
 pub fresh-shown : {D : Type 0} (request : Request) (by : ℕ) (old mid new : SharedState D)
     (t : Turned)
     → AnswersFresh old.desk request
@@ -221,11 +179,9 @@ pub fresh-shown : {D : Type 0} (request : Request) (by : ℕ) (old mid new : Sha
     → Rests mid new
     → TurnsTo (decision_by_desk old.desk request) by old.history t new.history
 fresh-shown request by old mid new t f takes shown rests =
-    let same : f.0 ≡ takes.command =
-    same_command old.desk.stories request f.0 takes.command f.1 takes.asked in
+    let same : f.0 ≡ takes.command = some_is f.0 takes.command (sym f.1 ∙ takes.asked) in
     let is : IsShown (shown_to (ran (committed old.desk f.0)) request) t =
-    subst (λ (c : Command). IsShown (shown_to (ran (committed old.desk c)) request) t) (sym same)
-    (subst (λ (d : DeskState). IsShown (shown_to (ran d) request) t) takes.taken shown) in
+    rw same (rw takes.taken at shown) in
     let history : new.history ≡ old.history ++ entries.Accepted by f.0 ∷ [] =
     rests.history ∙ takes.entry
     ∙ ap (λ (c : Command). old.history ++ entries.Accepted by c ∷ []) (sym same) in
@@ -244,9 +200,7 @@ pub fresh-goes : {D : Type 0} (request : Request) (by : ℕ) (old mid new : Shar
     → GoesOn old.desk.session (decision_by_desk old.desk request).accepted t.outcome
     (seen old.pass) (seen new.pass)
 fresh-goes request by old mid new t f goes shown rests =
-    subst (λ (es : List JournalEntry). GoesOn old.desk.session
-    (decision_by_desk old.desk request).accepted t.outcome (seen old.pass) es)
-    (sym (ap seen rests.pass))
+    rw rests.pass
     (goes-shown old.desk.session (decision_by_desk old.desk request).accepted (seen old.pass)
     (seen mid.pass) t (shown_to (ran mid.desk) request) f.0
     (ap (λ (d : Decision). d.accepted) f.2) shown (goes f.0 f.1))

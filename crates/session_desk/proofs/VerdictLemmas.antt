@@ -1,15 +1,15 @@
 -- What a session will answer, by the checks that hold.
-use Rattle.std.proofs.Common.{◌≡◌, ℕ, ◌<◌, ◌≤◌, Bool, true, false, ◌&&◌, ◌||◌}
-use Rattle.std.proofs.Common.{not, nat_le, List, [], ◌∷◌, ◌++◌, length, Option}
-use Rattle.std.proofs.Common.{Some, None, is_none, refl, sym, ap, ◌∙◌, arith}
+use Rattle.std.proofs.Common.{◌≡◌, ℕ, ◌<◌, ◌≤◌, ◌==◌, Bool, true, false, ◌&&◌, ◌||◌, not, nat_le}
+use Rattle.std.proofs.Common.{List, [], ◌∷◌, ◌++◌, length, Option, Some, None, is_none, refl, sym}
+use Rattle.std.proofs.Common.{ap, ◌∙◌, arith}
 use Rattle.std.proofs.lemmas.Bool.Decides.{nat_tests}
 use Rattle.glk_input.specs.declared.input.Input.{Input}
 use Rattle.glk_input.specs.declared.input.Input.TheVariants as inputs
 use Rattle.gate_journal.specs.declared.command.Command.{Command}
 use Rattle.gate_journal.specs.declared.command.Command.TheVariants as commands
 use Rattle.line_words.specs.declared.request.Request.{Request}
-use Rattle.line_words.specs.declared.request.Request.TheVariants.{Open, Line, Char}
-use Rattle.line_words.specs.declared.request.Request.TheVariants.{File, Last, Close}
+use Rattle.line_words.specs.declared.request.Request.TheVariants.{Open, Line, Char, File, Last}
+use Rattle.line_words.specs.declared.request.Request.TheVariants.{Close}
 use Rattle.line_words.specs.declared.reply.No.{No}
 use Rattle.line_words.specs.declared.reply.No.TheVariants as no
 use Rattle.story_run.specs.declared.story.Story.{Story}
@@ -17,13 +17,13 @@ use Rattle.story_run.specs.declared.stage.Stage.{Stage}
 use Rattle.story_run.specs.declared.stage.Stage.TheVariants.{AtSelect, AtPrompt, Quit, Fault}
 use Rattle.story_run.specs.World.{WorldState}
 use Rattle.story_run.specs.Solo.{is_wanted, stage_wants}
-use Rattle.session_core.specs.History.{game_of, is_in_use, has_key, story_at}
-use Rattle.session_core.specs.Checks.{command_of, opening_command, input_given}
-use Rattle.session_core.specs.Checks.{is_fresh, is_full, over_in, unwanted_in}
-use Rattle.session_core.specs.Answer.{first_refusal, plain_checks, story_checks}
-use Rattle.session_core.specs.Answer.{refusal_in, accepted_by, answer_in}
-use Rattle.session_core.proofs.AnswerLemmas.{first_of-append-none}
-use Rattle.session_core.proofs.AnswerLemmas.{refusal_in-plain, refusal_in-story}
+use Rattle.session_core.specs.History.{command_count, game_of, is_in_use, has_key, story_at}
+use Rattle.session_core.specs.Checks.{command_of, opening_command, input_given, is_absent, is_fresh}
+use Rattle.session_core.specs.Checks.{is_full, over_in, unwanted_in}
+use Rattle.session_core.specs.Answer.{first_refusal, plain_checks, story_checks, refusal_in}
+use Rattle.session_core.specs.Answer.{accepted_by, answer_in}
+use Rattle.session_core.proofs.AnswerLemmas.{first_of-append-none, refusal_in-plain}
+use Rattle.session_core.proofs.AnswerLemmas.{refusal_in-story}
 use Rattle.session_core.proofs.RepeatLemmas.{all_fail}
 use Rattle.session_desk.specs.declared.verdict.Verdict.TheVariants.{Refuse, Again, Fresh}
 use Rattle.session_desk.specs.Wanted.{declines, outline, request_input}
@@ -183,42 +183,54 @@ nothing_given : (stories : List Story) (game : List Command) (now : Option World
 nothing_given stories game now request fresh none =
     rw (fresh, given-asked stories request, none, over_none now, unwanted_none now) refl
 
-both_false : (used closes : Bool) → (used && not closes) ≡ false → closes ≡ false → used ≡ false
-both_false true false e f = absurd cc
-both_false true true e f = absurd cc
-both_false false closes e f = refl
+-- ---- whom a request finds
 
--- a session that isn't in use knows no request for its story
-unknown : (far key used : Bool)
-    → (far || not (key && (used || false))) ≡ false
-    → used ≡ false → true ≡ false
-unknown true key used e u = e
-unknown false true true e u = u
-unknown false true false e u = e
-unknown false false used e u = e
+-- but for an OPEN, and a CLOSE with the number of the last command, a request that is known finds
+-- its session in use
+abbrev pub FindsUse : List Command → Request → Type 0
+FindsUse g (Open s key story seed cols rows budget) = Unit {0}
+FindsUse g (Close s key n) = (n == command_count g) ≡ false → is_in_use g ≡ true
+FindsUse g request = is_in_use g ≡ true
 
+pub finds_use : (stories : List Story) (g : List Command) (request : Request)
+    → first_refusal (plain_checks stories g request) ≡ None
+    → FindsUse g request
+finds_use stories g request none = by request (all_fail (plain_checks stories g request) none).0
+  where
+    in_use : (far key used again : Bool)
+        → (far || not (key && (used || again))) ≡ false
+        → again ≡ false → used ≡ true
+    in_use true key used again e a = absurd cc
+    in_use false true true again e a = refl
+    in_use false true false again e a = absurd cc
+    in_use false false used again e a = absurd cc
+
+    by : (request : Request) → is_absent g request ≡ false → FindsUse g request
+    by (Open s key story seed cols rows budget) a = tt
+    by (Line s key n win text term) a =
+        in_use (nat_le 64 s) (has_key g key) (is_in_use g) false a refl
+    by (Char s key n win code) a = in_use (nat_le 64 s) (has_key g key) (is_in_use g) false a refl
+    by (File s key n name) a = in_use (nat_le 64 s) (has_key g key) (is_in_use g) false a refl
+    by (Last s key) a = in_use (nat_le 64 s) (has_key g key) (is_in_use g) false a refl
+    by (Close s key n) a =
+        in_use (nat_le 64 s) (has_key g key) (is_in_use g) (n == command_count g) a
+
+pub asks_story : (used : Bool) → used ≡ true → (used && true) ≡ false → ⊥
+asks_story true u free = cc
+asks_story false u free = cc
+
+-- what is no request to the story of a session in use gives it nothing
 free_gives : (stories : List Story) (game : List Command) (request : Request)
     → first_refusal (plain_checks stories game request) ≡ None
     → (is_in_use game && not (is_close_request request)) ≡ false → request_input request ≡ None
 free_gives stories game (Open s key story seed cols rows budget) none free = refl
 free_gives stories game (Line s key n win text term) none free =
-    let fails = all_fail (plain_checks stories game (Line s key n win text term)) none in
-    absurd (let e =
-    unknown (nat_le 64 s) (has_key game key) (is_in_use game) fails.0
-    (both_false (is_in_use game) false free refl) in
-    cc)
+    absurd (asks_story (is_in_use game)
+    (finds_use stories game (Line s key n win text term) none) free)
 free_gives stories game (Char s key n win code) none free =
-    let fails = all_fail (plain_checks stories game (Char s key n win code)) none in
-    absurd (let e =
-    unknown (nat_le 64 s) (has_key game key) (is_in_use game) fails.0
-    (both_false (is_in_use game) false free refl) in
-    cc)
+    absurd (asks_story (is_in_use game) (finds_use stories game (Char s key n win code) none) free)
 free_gives stories game (File s key n name) none free =
-    let fails = all_fail (plain_checks stories game (File s key n name)) none in
-    absurd (let e =
-    unknown (nat_le 64 s) (has_key game key) (is_in_use game) fails.0
-    (both_false (is_in_use game) false free refl) in
-    cc)
+    absurd (asks_story (is_in_use game) (finds_use stories game (File s key n name) none) free)
 free_gives stories game (Last s key) none free = refl
 free_gives stories game (Close s key n) none free = refl
 

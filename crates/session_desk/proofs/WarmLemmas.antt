@@ -1,31 +1,31 @@
 -- A desk may be warmed where a request finds it cold, and is warm once its command was run.
-use Rattle.std.proofs.Common.{◌≡◌, ℕ, Bool, true, false, ◌&&◌, ◌==◌, not}
-use Rattle.std.proofs.Common.{nat_le, nat_lt, cond, List, [], ◌∷◌, ◌++◌, Option}
-use Rattle.std.proofs.Common.{Some, None, is_none, refl, sym, arith, ◌+◌}
+use Rattle.std.proofs.Common.{◌≡◌, ℕ, Bool, true, false, ◌&&◌, ◌==◌, not, nat_lt, cond, List, []}
+use Rattle.std.proofs.Common.{◌∷◌, ◌++◌, Option, Some, None, is_none, refl, arith, ◌+◌}
+use Rattle.std.proofs.lemmas.Bool.{and_parts}
 use Rattle.std.proofs.lemmas.Bool.Decides.{nat_tests}
 use Rattle.gate_journal.specs.declared.command.Command.{Command}
 use Rattle.gate_journal.specs.declared.command.Command.TheVariants as commands
 use Rattle.line_words.specs.declared.reply.No.{No}
 use Rattle.line_words.specs.declared.request.Request.{Request}
-use Rattle.line_words.specs.declared.request.Request.TheVariants.{Open, Line, Char}
-use Rattle.line_words.specs.declared.request.Request.TheVariants.{File, Last, Close}
+use Rattle.line_words.specs.declared.request.Request.TheVariants.{Open, Line, Char, File, Last}
+use Rattle.line_words.specs.declared.request.Request.TheVariants.{Close}
 use Rattle.story_run.specs.declared.setup.Setup.{Setup}
 use Rattle.story_run.specs.declared.story.Story.{Story}
 use Rattle.story_run.specs.World.{WorldState}
-use Rattle.session_core.specs.History.{command_count, game_of, game_goes_on, has_key}
-use Rattle.session_core.specs.History.{is_in_use, last_of, story_at, world_in, world_of}
-use Rattle.session_core.specs.Checks.{command_of, is_last, is_other_story, opening_command}
+use Rattle.session_core.specs.History.{command_count, game_of, game_goes_on, is_in_use, last_of}
+use Rattle.session_core.specs.History.{story_at, world_in, world_of}
+use Rattle.session_core.specs.Checks.{is_changed, is_last, is_other_story}
 use Rattle.session_core.specs.Answer.{accepted_by, first_refusal, plain_checks}
-use Rattle.session_core.proofs.RepeatLemmas.{all_fail, joined, game_of-append}
-use Rattle.session_core.proofs.RepeatLemmas.{game_of-append-open, last_of-joined, some_is}
+use Rattle.session_core.proofs.RepeatLemmas.{all_fail, game_of-append, game_of-append-open}
+use Rattle.session_core.proofs.RepeatLemmas.{joined, last_of-joined}
 use Rattle.session_desk.specs.declared.held.Held.{Held}
 use Rattle.session_desk.specs.declared.held.Held.TheVariants.{Nothing, Current, Previous}
-use Rattle.session_desk.specs.declared.verdict.Verdict.TheVariants.{Again, Fresh, Cold}
+use Rattle.session_desk.specs.declared.verdict.Verdict.TheVariants.{Again, Cold}
 use Rattle.session_desk.specs.Desk.{DeskState, aside, game, held_then, world_held, world_now}
-use Rattle.session_desk.specs.Verdict.{is_to_story, needs_world, verdict}
+use Rattle.session_desk.specs.Verdict.{is_to_story, lacks_world, needs_world, verdict}
 use Rattle.session_desk.specs.Laws.{StaysWarm}
-use Rattle.session_desk.proofs.LawLemmas.{accepts, cold_alone, held_now, knows, opens, repeats}
-use Rattle.session_desk.proofs.RunLemmas.{both_hold}
+use Rattle.session_desk.proofs.AlikeLemmas.{IsReadyFor, ready, repeats}
+use Rattle.session_desk.proofs.LawLemmas.{cold_alone}
 
 -- ---- a desk that a request finds cold has its story
 
@@ -37,20 +37,21 @@ unchanged : (stories : List Story) (g : List Command) (request : Request)
     → first_refusal (plain_checks stories g request) ≡ None
     → is_to_story g request ≡ true
     → is_other_story stories g ≡ false
-unchanged stories g (Open s key story seed cols rows budget) none asks =
-    let fails = all_fail (plain_checks stories g (Open s key story seed cols rows budget)) none in
-    left_false (is_in_use g) (is_other_story stories g) fails.1.1.1.0
-    (both_hold (is_in_use g) true asks).0
-unchanged stories g (Line s key n win text term) none asks =
-    (all_fail (plain_checks stories g (Line s key n win text term)) none).1.1.1.0
-unchanged stories g (Char s key n win code) none asks =
-    (all_fail (plain_checks stories g (Char s key n win code)) none).1.1.1.0
-unchanged stories g (File s key n name) none asks =
-    (all_fail (plain_checks stories g (File s key n name)) none).1.1.1.0
-unchanged stories g (Last s key) none asks =
-    (all_fail (plain_checks stories g (Last s key)) none).1.1.1.0
-unchanged stories g (Close s key n) none asks =
-    absurd (let e = (both_hold (is_in_use g) false asks).1 in cc)
+unchanged stories g request none asks =
+    by request (all_fail (plain_checks stories g request) none).1.1.1.0 asks
+  where
+    by : (request : Request)
+        → is_changed stories g request ≡ false → is_to_story g request ≡ true
+        → is_other_story stories g ≡ false
+    by (Open s key story seed cols rows budget) same asks =
+        left_false (is_in_use g) (is_other_story stories g) same
+        (and_parts (is_in_use g) true asks).0
+    by (Line s key n win text term) same asks = same
+    by (Char s key n win code) same asks = same
+    by (File s key n name) same asks = same
+    by (Last s key) same asks = same
+    by (Close s key n) same asks =
+        absurd (let e = (and_parts (is_in_use g) false asks).1 in cc)
 
 none_is : {A : Type 0} → (o : Option A) → is_none o ≡ true → o ≡ None
 none_is None e = refl
@@ -61,10 +62,10 @@ may_warm : (desk : DeskState) (request : Request)
     → is_other_story desk.stories (game desk) ≡ false
 may_warm desk request e =
     let lacks =
-    both_hold (needs_world desk.stories (game desk) request) (is_none (world_now desk.held))
+    and_parts (needs_world desk.stories (game desk) request) (is_none (world_now desk.held))
     ((cold_alone desk request).0 e) in
     let needs =
-    both_hold (is_none (first_refusal (plain_checks desk.stories (game desk) request)))
+    and_parts (is_none (first_refusal (plain_checks desk.stories (game desk) request)))
     (is_to_story (game desk) request) lacks.0 in
     unchanged desk.stories (game desk) request
     (none_is (first_refusal (plain_checks desk.stories (game desk) request)) needs.0) needs.1
@@ -79,13 +80,15 @@ holds_world : (used : Bool) → (used && false) ≡ false
 holds_world true = refl
 holds_world false = refl
 
-input_run : (stories : List Story) (g : List Command) (c : Command) (held : Held)
+input_run : (stories : List Story) (history : List Command) (c : Command) (held : Held)
     → ((w : WorldState) → aside c (Current w) ≡ Previous w)
     → is_none (world_now held) ≡ false
-    → IsWarmWith g (held_then stories g (aside c held))
-input_run stories g c Nothing sets held = absurd cc
-input_run stories g c (Previous w) sets held = absurd cc
-input_run stories g c (Current w) sets held = rw (sets w) (holds_world (is_in_use g))
+    → IsWarmWith (game_of (history ++ c ∷ []))
+    (held_then stories (game_of (history ++ c ∷ [])) (aside c held))
+input_run stories history c Nothing sets held = absurd cc
+input_run stories history c (Previous w) sets held = absurd cc
+input_run stories history c (Current w) sets held =
+    rw (sets w) (holds_world (is_in_use (game_of (history ++ c ∷ []))))
 
 begun_run : (used : Bool) (now : Option WorldState)
     → is_none now ≡ false
@@ -94,70 +97,33 @@ begun_run true None some = absurd cc
 begun_run true (Some w) some = refl
 begun_run false now some = refl
 
-found_world : (found : Option Story) (setup : Setup) (after : List Command) (key : List ℕ)
-    (story seed cols rows budget : ℕ) (c : Command)
-    → opening_command found (λ digest. commands.Open key story digest seed cols rows budget)
-    ≡ Some c
+found_world : (found : Option Story) (setup : Setup) (after : List Command)
+    → is_none found ≡ false
     → is_none (world_in found setup after) ≡ false
-found_world None setup after key story seed cols rows budget c e = absurd cc
-found_world (Some there) setup after key story seed cols rows budget c e = refl
-
-open_run : (stories : List Story) (history : List Command) (held : Held) (key : List ℕ)
-    (story seed cols rows budget : ℕ) (c : Command)
-    → opening_command (story_at stories story)
-    (λ digest. commands.Open key story digest seed cols rows budget)
-    ≡ Some c
-    → IsWarmWith (game_of (history ++ c ∷ []))
-    (held_then stories (game_of (history ++ c ∷ [])) (aside c held))
-open_run stories history held key story seed cols rows budget c e =
-    let it = opens (story_at stories story) key story seed cols rows budget c e in
-    let x = commands.Open key story it.0 seed cols rows budget in
-    rw it.1 (rw (game_of-append-open history x refl)
-    (begun_run true (world_of stories (x ∷ []))
-    (found_world (story_at stories story)
-    (record { seed = seed; cols = cols; rows = rows; budget = budget })
-    [] key story seed cols rows budget c e)))
+found_world None setup after some = absurd cc
+found_world (Some there) setup after some = refl
 
 closed_free : (g : List Command) → is_in_use (joined g commands.Close) ≡ false
 closed_free [] = refl
 closed_free (d ∷ ds) = rw (last_of-joined d ds commands.Close) refl
 
-after_run : (desk : DeskState) (request : Request) (c : Command)
-    → verdict desk request ≡ Fresh
-    → first_refusal (plain_checks desk.stories (game desk) request) ≡ None
-    → command_of desk.stories request ≡ Some c
+after_run : (desk : DeskState) (c : Command) → IsReadyFor desk c
     → IsWarmWith (game_of (desk.commands ++ c ∷ []))
     (held_then desk.stories (game_of (desk.commands ++ c ∷ [])) (aside c desk.held))
-after_run desk (Open s key story seed cols rows budget) c v none e =
-    open_run desk.stories desk.commands desk.held key story seed cols rows budget c e
-after_run desk (Line s key n win text term) c v none e =
-    let g = game desk in
-    let k =
-    knows (nat_le 64 s) (has_key g key) (is_in_use g)
-    (all_fail (plain_checks desk.stories g (Line s key n win text term)) none).0 in
-    rw (sym (some_is _ c e)) (input_run desk.stories
-    (game_of (desk.commands ++ commands.Line win term text ∷ [])) (commands.Line win term text)
-    desk.held (λ w. refl) (held_now desk (Line s key n win text term) v none (rw k.1 refl)))
-after_run desk (Char s key n win code) c v none e =
-    let g = game desk in
-    let k =
-    knows (nat_le 64 s) (has_key g key) (is_in_use g)
-    (all_fail (plain_checks desk.stories g (Char s key n win code)) none).0 in
-    rw (sym (some_is _ c e)) (input_run desk.stories
-    (game_of (desk.commands ++ commands.Char win code ∷ [])) (commands.Char win code) desk.held
-    (λ w. refl) (held_now desk (Char s key n win code) v none (rw k.1 refl)))
-after_run desk (File s key n name) c v none e =
-    let g = game desk in
-    let k =
-    knows (nat_le 64 s) (has_key g key) (is_in_use g)
-    (all_fail (plain_checks desk.stories g (File s key n name)) none).0 in
-    rw (sym (some_is _ c e)) (input_run desk.stories
-    (game_of (desk.commands ++ commands.File name ∷ [])) (commands.File name) desk.held
-    (λ w. refl) (held_now desk (File s key n name) v none (rw k.1 refl)))
-after_run desk (Last s key) c v none e = absurd cc
-after_run desk (Close s key n) c v none e =
-    rw (sym (some_is _ c e))
-    (rw (game_of-append desk.commands commands.Close refl) (rw (closed_free (game desk)) refl))
+after_run desk (commands.Open key story digest seed cols rows budget) ready =
+    let c = commands.Open key story digest seed cols rows budget in
+    rw (game_of-append-open desk.commands c refl)
+    (begun_run true (world_of desk.stories (c ∷ []))
+    (found_world (story_at desk.stories story)
+    (record { seed = seed; cols = cols; rows = rows; budget = budget }) [] ready.1))
+after_run desk commands.Close ready =
+    rw (game_of-append desk.commands commands.Close refl) (rw (closed_free (game desk)) refl)
+after_run desk (commands.Line win term text) ready =
+    input_run desk.stories desk.commands (commands.Line win term text) desk.held (λ w. refl) ready.1
+after_run desk (commands.Char win code) ready =
+    input_run desk.stories desk.commands (commands.Char win code) desk.held (λ w. refl) ready.1
+after_run desk (commands.File name) ready =
+    input_run desk.stories desk.commands (commands.File name) desk.held (λ w. refl) ready.1
 
 -- ---- where the last show is given again
 
@@ -207,29 +173,27 @@ held_by (Some why) used none e held = absurd cc
 after_again : (desk : DeskState) (request : Request)
     → verdict desk request ≡ Again
     → (is_in_use (game desk) && is_none (world_now desk.held)) ≡ false
-after_again desk (Open s key story seed cols rows budget) e =
-    let r = repeats desk (Open s key story seed cols rows budget) e in
-    held_by _ (is_in_use (game desk)) (is_none (world_now desk.held)) r.none r.held
-after_again desk (Line s key n win text term) e =
-    let r = repeats desk (Line s key n win text term) e in
-    held_by _ (is_in_use (game desk)) (is_none (world_now desk.held)) r.none r.held
-after_again desk (Char s key n win code) e =
-    let r = repeats desk (Char s key n win code) e in
-    held_by _ (is_in_use (game desk)) (is_none (world_now desk.held)) r.none r.held
-after_again desk (File s key n name) e =
-    let r = repeats desk (File s key n name) e in
-    held_by _ (is_in_use (game desk)) (is_none (world_now desk.held)) r.none r.held
-after_again desk (Last s key) e =
-    let r = repeats desk (Last s key) e in
-    held_by _ (is_in_use (game desk)) (is_none (world_now desk.held)) r.none r.held
-after_again desk (Close s key n) e =
-    let r = repeats desk (Close s key n) e in
-    rw (closed_again desk.stories (game desk) s key n r.none r.accepted) refl
+after_again desk request e =
+    let r = repeats desk request e in by request r.none r.accepted r.held
+  where
+    by : (request : Request)
+        → first_refusal (plain_checks desk.stories (game desk) request) ≡ None
+        → accepted_by desk.stories (game desk) request ≡ None → lacks_world desk request ≡ false
+        → (is_in_use (game desk) && is_none (world_now desk.held)) ≡ false
+    by (Open s key story seed cols rows budget) plain accepted held =
+        held_by _ (is_in_use (game desk)) _ plain held
+    by (Line s key n win text term) plain accepted held =
+        held_by _ (is_in_use (game desk)) _ plain held
+    by (Char s key n win code) plain accepted held =
+        held_by _ (is_in_use (game desk)) _ plain held
+    by (File s key n name) plain accepted held = held_by _ (is_in_use (game desk)) _ plain held
+    by (Last s key) plain accepted held = held_by _ (is_in_use (game desk)) _ plain held
+    by (Close s key n) plain accepted held =
+        rw (closed_again desk.stories (game desk) s key n plain accepted) refl
 
 pub stays_warm : StaysWarm
 stays_warm desk request = (
   λ e. may_warm desk request e,
-  λ command e asked.
-      let a = accepts desk request e in after_run desk request command e a.none asked,
+  λ command e asked. after_run desk command (ready desk request command e asked),
   λ e. after_again desk request e,
 )

@@ -1,4 +1,5 @@
 pub mod ImageLemmas
+pub mod PuttingLemmas
 pub mod SteadyLemmas
 pub mod AreaLemmas
 pub mod KnownLemmas

@@ -1,4 +1,4 @@
-use Rattle.session_desk.proofs.LawLemmas as laws
+use Rattle.session_desk.proofs.AlikeLemmas as laws
 use Rattle.session_desk.proofs.laws.shows_again.Goals as goal
 
 pub returns : goal.returns

@@ -1,19 +1,15 @@
 use Rattle.std.proofs.Common.{◌≡◌, Some}
 use Rattle.session_core.specs.History.{game_of}
 use Rattle.session_core.specs.Answer.{first_refusal, plain_checks}
-use Rattle.session_desk.specs.Desk.{DeskState}
+use Rattle.session_desk.proofs.HeldLemmas.{desk_of}
 use Rattle.session_desk.proofs.VerdictLemmas.{plain-told}
 use Rattle.session_desk.proofs.desk.Desk.check.Goals as goal
 
 pub returns-in-Some-clause-value : goal.returns-in-Some-clause-value
 returns-in-Some-clause-value c =
-    let desk : DeskState = record {
-      session = c.self.inside.session;
-      stories = c.self.inside.stories.now;
-      budget = c.self.inside.budget;
-      commands = c.self.inside.commands.items;
-      held = c.self.inside.held;
-    } in
+    let desk =
+    desk_of c.self.inside.session c.self.inside.stories.now c.self.inside.budget
+    c.self.inside.commands.items c.self.inside.held in
     let refused : first_refusal (plain_checks c.self.inside.stories.now
     (game_of c.self.inside.commands.items) c.args.request.now)
     ≡ Some c.in-Some.why = cc in

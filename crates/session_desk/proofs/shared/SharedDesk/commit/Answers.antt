@@ -1,6 +1,5 @@
-use Rattle.std.proofs.Common.{◌≡◌, false, List, ◌++◌, ◌∙◌, Some, refl, ap, sym, subst}
+use Rattle.std.proofs.Common.{◌≡◌, false, List, ◌++◌, ◌∙◌, Some, refl, ap, sym}
 use Rattle.turn_cell.specs.Passes.{seen}
-use Rattle.gate_journal.specs.Log.{rows_of}
 use Rattle.session_desk.specs.declared.shared.mark.Mark.{Mark}
 use Rattle.session_desk.specs.declared.verdict.Verdict.TheVariants.{Fresh}
 use Rattle.session_desk.specs.Keeping.{snapshot_due}
@@ -10,7 +9,8 @@ use Rattle.session_desk.specs.Verdict.{verdict}
 use Rattle.session_desk.proofs.LawLemmas.{shows_fresh}
 use Rattle.session_desk.proofs.MarkLemmas.{woven-by}
 use Rattle.session_desk.proofs.SharedLemmas.{err_unplaced, leaves_history, marked-by, met_unplaced}
-use Rattle.session_desk.proofs.SharedLemmas.{ok_unplaced, rows-seen, tag-by, takes, why_unplaced}
+use Rattle.session_desk.proofs.SharedLemmas.{ok_unplaced, rows-seen, state_of, tag-by, takes}
+use Rattle.session_desk.proofs.SharedLemmas.{why_unplaced}
 use Rattle.session_desk.proofs.SharedTurnLemmas.{goes-nowhere}
 use Rattle.session_desk.proofs.SoundLemmas.{whole-committed}
 use Rattle.session_desk.proofs.shared.SharedDesk.commit.Goals as goal
@@ -26,25 +26,17 @@ commit_in_turn-done-requires-clause-rows g c =
 
 pub invariant_of-self-2 : goal.invariant_of-self-2
 invariant_of-self-2 g c =
-    let old : SharedState g.row.D.Denot = record {
-      desk = c.self.inside.desk;
-      history = commands_woven c.self.inside.marks.items c.self.inside.desk.commands;
-      pass = c.self.inside.pass;
-      saves = c.self.inside.saves;
-      store = c.self.inside.store.value;
-      rows = rows_of (seen c.self.inside.first.value);
-    } in
+    let old : SharedState g.row.D.Denot =
+    state_of c.self.inside.desk c.self.inside.marks.items c.self.inside.pass c.self.inside.saves
+    c.self.inside.store.value c.self.inside.first.value in
     let fresh : verdict old.desk c.args.request.now ≡ Fresh =
-    subst (λ (s : SharedState g.row.D.Denot). verdict s.desk c.args.request.now ≡ Fresh)
-    (sym c.self.view_is) c.requires.fresh in
+    rw (← c.self.view_is) at c.requires.fresh in
     let f = shows_fresh old.desk c.args.request.now fresh in
     let marked : c.note.new.marks.items
     ≡ c.self.inside.marks.items ++ marks_by c.args.by c.commit_in_turn-done.result = cc in
     let ok = c.commit_in_turn-done.ensures.ok f.0 f.1 in
     let err = c.commit_in_turn-done.ensures.err in
-    let idle : snapshot_due old ≡ false =
-    subst (λ (s : SharedState g.row.D.Denot). snapshot_due s ≡ false)
-    (sym c.self.view_is) c.requires.due in
+    let idle : snapshot_due old ≡ false = rw (← c.self.view_is) at c.requires.due in
     let m : IsMarked c.note.new.marks.items c.commit_in_turn-done.new.desk
     c.commit_in_turn-done.new.pass =
     marked-by c.self.inside.marks.items c.note.new.marks.items c.args.by c.self.inside.desk
@@ -60,39 +52,26 @@ invariant_of-self-2 g c =
 
 pub returns : goal.returns
 returns g c =
-    let old : SharedState g.row.D.Denot = record {
-      desk = c.self.inside.desk;
-      history = commands_woven c.self.inside.marks.items c.self.inside.desk.commands;
-      pass = c.self.inside.pass;
-      saves = c.self.inside.saves;
-      store = c.self.inside.store.value;
-      rows = rows_of (seen c.self.inside.first.value);
-    } in
+    let old : SharedState g.row.D.Denot =
+    state_of c.self.inside.desk c.self.inside.marks.items c.self.inside.pass c.self.inside.saves
+    c.self.inside.store.value c.self.inside.first.value in
     let fresh : verdict old.desk c.args.request.now ≡ Fresh =
-    subst (λ (s : SharedState g.row.D.Denot). verdict s.desk c.args.request.now ≡ Fresh)
-    (sym c.self.view_is) c.requires.fresh in
+    rw (← c.self.view_is) at c.requires.fresh in
     let f = shows_fresh old.desk c.args.request.now fresh in
     let marked : c.note.new.marks.items
     ≡ c.self.inside.marks.items ++ marks_by c.args.by c.commit_in_turn-done.result = cc in
     let ok = c.commit_in_turn-done.ensures.ok f.0 f.1 in
     let err = c.commit_in_turn-done.ensures.err in
     let done = c.commit_in_turn-done.result in
-    let new : SharedState g.row.D.Denot = record {
-      desk = c.commit_in_turn-done.new.desk;
-      history = commands_woven c.note.new.marks.items c.commit_in_turn-done.new.desk.commands;
-      pass = c.commit_in_turn-done.new.pass;
-      saves = c.self.inside.saves;
-      store = c.self.inside.store.value;
-      rows = rows_of (seen c.self.inside.first.value);
-    } in
+    let new : SharedState g.row.D.Denot =
+    state_of c.commit_in_turn-done.new.desk c.note.new.marks.items c.commit_in_turn-done.new.pass
+    c.self.inside.saves c.self.inside.store.value c.self.inside.first.value in
     let history : new.history ≡ history_met old.history c.args.by (Some f.0) (met_by done) =
     ap (λ (l : List Mark). commands_woven l new.desk.commands) marked
     ∙ woven-by c.self.inside.marks.items done c.args.by old.desk new.desk f.0
     c.self.invariant.marked.counted ok err in
     let cell : new.pass.known.place.table_id ≡ old.pass.known.place.table_id =
-    c.commit_in_turn-done.ensures.kept
-    ∙ sym (ap (λ (s : SharedState g.row.D.Denot). s.pass.known.place.table_id) c.self.view_is
-    ∙ c.requires.cell) in
+    c.commit_in_turn-done.ensures.kept ∙ sym (rw (← c.self.view_is) at c.requires.cell) in
     rw (← c.self.view_is, c.unplaced.ensures)
     (record {
       ok = ok_unplaced done _ (takes done c.args.request.now c.args.by old new f.0 f.1 ok history);

@@ -1,21 +1,9 @@
 use Rattle.std.proofs.Common.{refl}
-use Rattle.turn_cell.specs.Passes.{seen}
-use Rattle.gate_journal.specs.Log.{rows_of}
-use Rattle.session_desk.specs.Marks.{commands_woven}
-use Rattle.session_desk.specs.Shared.{SharedState}
 use Rattle.session_desk.proofs.SoundLemmas.{whole-run}
 use Rattle.session_desk.proofs.shared.SharedDesk.run.Goals as goal
 
 pub invariant_of-self : goal.invariant_of-self
 invariant_of-self g c =
-    let old : SharedState g.row.D.Denot = record {
-      desk = c.self.inside.desk;
-      history = commands_woven c.self.inside.marks.items c.self.inside.desk.commands;
-      pass = c.self.inside.pass;
-      saves = c.self.inside.saves;
-      store = c.self.inside.store.value;
-      rows = rows_of (seen c.self.inside.first.value);
-    } in
     whole-run g.D.Disk.tells g.D.Disk.seen g.D.Disk.room g.D.Disk.label g.D.Disk.faults
-    g.D.Disk.reach c.self.inside.marks.items c.self.inside.place old
+    g.D.Disk.reach c.self.inside.marks.items c.self.inside.place _
     c.run.new.self c.run.result c.self.invariant refl c.run.ensures.ok c.run.ensures.err

@@ -1,45 +1,29 @@
-use Rattle.std.proofs.Common.{◌≡◌, true, false, refl, sym, subst}
-use Rattle.turn_cell.specs.Passes.{seen}
-use Rattle.gate_journal.specs.Log.{rows_of}
+use Rattle.std.proofs.Common.{◌≡◌, true, false, refl}
 use Rattle.session_core.specs.Checks.{is_other_story}
 use Rattle.session_desk.specs.Desk.{game, is_cold}
 use Rattle.session_desk.specs.Marks.{commands_woven}
 use Rattle.session_desk.specs.Shared.{SharedState}
-use Rattle.session_desk.proofs.DeskWarming.{cold_used, has_place, warm_cost, warm_own}
-use Rattle.session_desk.proofs.DeskWarming.{warms_held, whole_cold, whole_warmed}
+use Rattle.session_desk.proofs.DeskWarming.{cold_used, has_place, warm_cost, warm_own, warms_held}
+use Rattle.session_desk.proofs.DeskWarming.{whole_cold, whole_warmed}
+use Rattle.session_desk.proofs.SharedLemmas.{state_of}
 use Rattle.session_desk.proofs.StoryLemmas.{warms_some}
 use Rattle.session_desk.proofs.shared.SharedDesk.warm.Goals as goal
 
 pub unwrap-place-requires : goal.unwrap-place-requires
 unwrap-place-requires g c =
-    let old : SharedState g.row.D.Denot = record {
-      desk = c.self.inside.desk;
-      history = commands_woven c.self.inside.marks.items c.self.inside.desk.commands;
-      pass = c.self.inside.pass;
-      saves = c.self.inside.saves;
-      store = c.self.inside.store.value;
-      rows = rows_of (seen c.self.inside.first.value);
-    } in
-    let cold : is_cold old.desk ≡ true =
-    subst (λ (s : SharedState g.row.D.Denot). is_cold s.desk ≡ true)
-    (sym c.self.view_is) c.requires.cold in
+    let old : SharedState g.row.D.Denot =
+    state_of c.self.inside.desk c.self.inside.marks.items c.self.inside.pass c.self.inside.saves
+    c.self.inside.store.value c.self.inside.first.value in
+    let cold : is_cold old.desk ≡ true = rw (← c.self.view_is) at c.requires.cold in
     has_place g.D.Disk.tells g.D.Disk.seen g.D.Disk.room g.D.Disk.label g.D.Disk.faults
     g.D.Disk.reach c.self.inside.marks.items c.self.inside.place old c.self.invariant
     (cold_used old.desk cold)
 
 pub invariant_of-self : goal.invariant_of-self
 invariant_of-self g c =
-    let old : SharedState g.row.D.Denot = record {
-      desk = c.self.inside.desk;
-      history = commands_woven c.self.inside.marks.items c.self.inside.desk.commands;
-      pass = c.self.inside.pass;
-      saves = c.self.inside.saves;
-      store = c.self.inside.store.value;
-      rows = rows_of (seen c.self.inside.first.value);
-    } in
     whole_cold g.D.Disk.tells g.D.Disk.seen g.D.Disk.room g.D.Disk.label g.D.Disk.faults
     g.D.Disk.reach g.D.Disk.may_leave g.D.Disk.moment g.D.Disk.left_since c.self.inside.marks.items
-    c.self.inside.place old c.warm.new.self c.self.invariant
+    c.self.inside.place _ c.warm.new.self c.self.invariant
     c.warm.ensures.kept c.warm.ensures.counts c.warm.ensures.areas c.warm.ensures.slots
 
 pub returns-in_err-world-clause-own : goal.returns-in_err-world-clause-own
@@ -48,20 +32,12 @@ returns-in_err-world-clause-own g c =
 
 pub unwrap-requires : goal.unwrap-requires
 unwrap-requires g c =
-    let old : SharedState g.row.D.Denot = record {
-      desk = c.self.inside.desk;
-      history = commands_woven c.self.inside.marks.items c.self.inside.desk.commands;
-      pass = c.self.inside.pass;
-      saves = c.self.inside.saves;
-      store = c.self.inside.store.value;
-      rows = rows_of (seen c.self.inside.first.value);
-    } in
-    let cold : is_cold old.desk ≡ true =
-    subst (λ (s : SharedState g.row.D.Denot). is_cold s.desk ≡ true)
-    (sym c.self.view_is) c.requires.cold in
+    let old : SharedState g.row.D.Denot =
+    state_of c.self.inside.desk c.self.inside.marks.items c.self.inside.pass c.self.inside.saves
+    c.self.inside.store.value c.self.inside.first.value in
+    let cold : is_cold old.desk ≡ true = rw (← c.self.view_is) at c.requires.cold in
     let other : is_other_story old.desk.stories (game old.desk) ≡ false =
-    subst (λ (s : SharedState g.row.D.Denot). is_other_story s.desk.stories (game s.desk) ≡ false)
-    (sym c.self.view_is) c.requires.story in
+    rw (← c.self.view_is) at c.requires.story in
     warms_some (g.D.Disk.tells old.saves.store.disk) (g.D.Disk.seen old.saves.store.disk)
     c.unwrap-place.result (g.D.Disk.faults old.saves.store.disk)
     (g.D.Disk.faults c.warm.new.self.store.disk)
@@ -71,17 +47,11 @@ unwrap-requires g c =
 
 pub invariant_of-self-2 : goal.invariant_of-self-2
 invariant_of-self-2 g c =
-    let old : SharedState g.row.D.Denot = record {
-      desk = c.self.inside.desk;
-      history = commands_woven c.self.inside.marks.items c.self.inside.desk.commands;
-      pass = c.self.inside.pass;
-      saves = c.self.inside.saves;
-      store = c.self.inside.store.value;
-      rows = rows_of (seen c.self.inside.first.value);
-    } in
+    let old : SharedState g.row.D.Denot =
+    state_of c.self.inside.desk c.self.inside.marks.items c.self.inside.pass c.self.inside.saves
+    c.self.inside.store.value c.self.inside.first.value in
     let other : is_other_story old.desk.stories (game old.desk) ≡ false =
-    subst (λ (s : SharedState g.row.D.Denot). is_other_story s.desk.stories (game s.desk) ≡ false)
-    (sym c.self.view_is) c.requires.story in
+    rw (← c.self.view_is) at c.requires.story in
     whole_warmed g.D.Disk.tells g.D.Disk.seen g.D.Disk.room g.D.Disk.label g.D.Disk.faults
     g.D.Disk.reach g.D.Disk.may_leave g.D.Disk.moment g.D.Disk.left_since c.self.inside.marks.items
     c.self.inside.place old c.hold.new.self c.warm.new.self c.unwrap.result c.self.invariant
@@ -95,17 +65,11 @@ invariant_of-self-2 g c =
 
 pub returns : goal.returns
 returns g c =
-    let old : SharedState g.row.D.Denot = record {
-      desk = c.self.inside.desk;
-      history = commands_woven c.self.inside.marks.items c.self.inside.desk.commands;
-      pass = c.self.inside.pass;
-      saves = c.self.inside.saves;
-      store = c.self.inside.store.value;
-      rows = rows_of (seen c.self.inside.first.value);
-    } in
+    let old : SharedState g.row.D.Denot =
+    state_of c.self.inside.desk c.self.inside.marks.items c.self.inside.pass c.self.inside.saves
+    c.self.inside.store.value c.self.inside.first.value in
     let other : is_other_story old.desk.stories (game old.desk) ≡ false =
-    subst (λ (s : SharedState g.row.D.Denot). is_other_story s.desk.stories (game s.desk) ≡ false)
-    (sym c.self.view_is) c.requires.story in
+    rw (← c.self.view_is) at c.requires.story in
     rw (← c.self.view_is)
     (record {
       found =
