@@ -1,5 +1,5 @@
 -- Lists that go on, and entries at their places.
-use Rattle.std.proofs.Common.{◌≡◌, ◌∙◌, ◌⊎◌, ◌≢◌, ℕ, zero, suc, ◌+◌, ◌<◌, ◌≤◌, Option, Some, None}
+use Rattle.std.proofs.Common.{◌≡◌, ◌∙◌, ℕ, zero, suc, ◌+◌, ◌<◌, ◌≤◌, Some, None}
 use Rattle.std.proofs.Common.{List, [], ◌∷◌, ◌++◌, length, take, set, get_or, refl, ap, sym, subst}
 use Rattle.std.proofs.Common.{⊎_elim, arith, append_assoc}
 use Rattle.std.specs.Prelude.{slice_get}

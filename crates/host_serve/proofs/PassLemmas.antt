@@ -2,7 +2,6 @@
 use Rattle.std.proofs.Common.{◌≡◌, ℕ, zero, suc, ◌+◌, ◌<◌, ◌≤◌, List, [], ◌∷◌, ◌++◌, length, get_or}
 use Rattle.std.proofs.Common.{set, ap, sym, ◌∙◌, refl, subst, inl, arith, Option, Some, None}
 use Rattle.std.specs.Prelude.{slice_get}
-use Rattle.std.specs.List.{range_with_len}
 use Rattle.std.proofs.lemmas.List.{length-map, map-set, get_or-map}
 use Rattle.std.proofs.lemmas.Option.{slice_get_within}
 use Rattle.std.proofs.Math.Seq.{map-set_same}
@@ -20,7 +19,7 @@ use Rattle.session_desk.specs.Shared.{DeskTag}
 use Rattle.host_serve.specs.Holders.{Holder, nobody, holder_of, holder_at, seen_at, holders, seens}
 use Rattle.host_serve.specs.declared.host.Host.{Host}
 use Rattle.host_serve.specs.Hosts.{ArePasses, IsTagOf, cell_id, pass_id, rows_at_opening}
-use Rattle.host_serve.specs.Hosts.{sessions_below, opened_stores, tag_at, tags_from, tags_in}
+use Rattle.host_serve.specs.Hosts.{opened_stores, tag_at, tags_from, tags_in}
 use Rattle.host_serve.specs.Serves.{AnsweredLine}
 use Rattle.host_serve.specs.Chain.{TurnsIn, Answers}
 use Rattle.host_serve.proofs.ListLemmas.{each_at, each_set, same_some}

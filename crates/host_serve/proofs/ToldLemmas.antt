@@ -1,5 +1,5 @@
 -- From a conversation to the turns of its lines.
-use Rattle.std.proofs.Common.{◌≡◌, ℕ, ◌^◌, ◌≤◌, List, [], ◌∷◌, ◌++◌, length, map, Option, None}
+use Rattle.std.proofs.Common.{◌≡◌, ℕ, ◌^◌, ◌≤◌, List, [], ◌∷◌, ◌++◌, length, map, Option}
 use Rattle.std.proofs.Common.{Bool, true, false, refl, ap, sym, ◌∙◌, subst, inl, inr, append_assoc}
 use Rattle.std.proofs.Common.{arith}
 use Rattle.std.proofs.lemmas.List.{map-append}
@@ -22,7 +22,6 @@ use Rattle.host_serve.specs.declared.answer.Answer.{Answer}
 use Rattle.host_serve.specs.declared.host.Host.{Host}
 use Rattle.host_serve.specs.declared.mark.Mark.{Mark}
 use Rattle.host_serve.specs.declared.served.Served.{Served}
-use Rattle.host_serve.specs.declared.served.Served.TheVariants.{End, ReadFault, WriteFault}
 use Rattle.host_serve.specs.declared.served.Served.TheVariants.{NoMemory}
 use Rattle.host_serve.specs.Chain.{Answers, AnswersInOrder}
 use Rattle.host_serve.specs.Holders.{Holder}
