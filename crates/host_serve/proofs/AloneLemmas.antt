@@ -1,7 +1,7 @@
 -- Turns of a host's passes that were never split, as the histories of session_core have them.
 use Rattle.std.proofs.Common.{◌≡◌, ◌≢◌, ◌⊎◌, inl, inr, ℕ, ◌<◌, ◌≤◌, List, [], ◌∷◌, ◌++◌, length}
 use Rattle.std.proofs.Common.{map, set, refl, sym, ap, ◌∙◌, subst, arith, Option, Some, None}
-use Rattle.std.proofs.lemmas.Bool.{cases_lt}
+use Rattle.std.proofs.lemmas.Bool.{cases_eq, cases_lt}
 use Rattle.std.proofs.lemmas.List.{map-append, get_or_past, get_or-set_same, get_or-set_other}
 use Rattle.std.proofs.lemmas.List.{set-get_or, set_past}
 use Rattle.std.proofs.lemmas.List.FromFn.{get_or-map-range_with_len, length-map-range_with_len}
@@ -16,7 +16,6 @@ use Rattle.host_serve.specs.Opening.{histories_in_rows, lone, roots}
 use Rattle.host_serve.specs.Serves.{AnsweredLine, MayMeetIn}
 use Rattle.host_serve.specs.Serves.{decided_on_line, own_world, turned_again}
 use Rattle.host_serve.proofs.ChainLemmas.{answer_wide}
-use Rattle.host_serve.proofs.ListLemmas.{eq_or_ne}
 use Rattle.line_words.specs.declared.reply.Reply.{Reply}
 use Rattle.session_core.specs.declared.entry.Entry.{Entry}
 use Rattle.session_core.specs.declared.entry.Entry.TheVariants as entries
@@ -285,7 +284,7 @@ module _ (stories : List Story) (budget : ℕ) where
         → Answers stories budget sound roots old t new → AreOwn new
     own_one old t new own (inl o) =
         λ s. subst (λ (hs : Histories). map unnumbered (seen_at hs s) ≡ seen_at hs s) (sym o.seen)
-        (own_at old s t.mark.session o.after (eq_or_ne s t.mark.session) own
+        (own_at old s t.mark.session o.after (cases_eq s t.mark.session) own
         (own_in old t (holder_at roots t.mark.session) o.after
         (lone_there t.mark.session o.session.0) own o.turn))
     own_one old t new own (inr n) = subst AreOwn (sym n.seen) own

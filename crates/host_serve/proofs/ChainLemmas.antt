@@ -1,6 +1,7 @@
 -- One answered line keeps what was said, and lists of lines add up.
 use Rattle.std.proofs.Common.{◌≡◌, ◌⊎◌, ◌≢◌, ℕ, List, [], ◌∷◌, ◌++◌, length, refl, ap, sym, ◌∙◌}
 use Rattle.std.proofs.Common.{subst, inl, inr, append_assoc, arith}
+use Rattle.std.proofs.lemmas.Bool.{cases_eq}
 use Rattle.std.proofs.lemmas.List.{length-set, get_or-set_same, get_or-set_other}
 use Rattle.turn_cell.proofs.HistoryLemmas.{nil_right}
 use Rattle.story_run.specs.declared.story.Story.{Story}
@@ -10,7 +11,6 @@ use Rattle.session_core.proofs.TurningLemmas.{turn_in_adds}
 use Rattle.host_serve.specs.Holders.{Holder, holder_at, seen_at}
 use Rattle.host_serve.specs.Serves.{AnsweredLine, turned_again}
 use Rattle.host_serve.specs.Chain.{TurnsIn, TurnsOn, Answers, AnswersInOrder}
-use Rattle.host_serve.proofs.ListLemmas.{eq_or_ne}
 
 -- what was seen of each session goes on
 abbrev pub Grows : List (List Entry) → List (List Entry) → Type 0
@@ -117,7 +117,7 @@ module _ (stories : List Story) (budget : ℕ) (sound : Type 0) where
 
       of_answer : Answers stories budget sound holders old t new → Grows old new
       of_answer (inr n) = grows_same old new n.seen
-      of_answer (inl o) = λ s. of o s (eq_or_ne s t.mark.session)
+      of_answer (inl o) = λ s. of o s (cases_eq s t.mark.session)
 
   pub chain_wide : (holders : List Holder) (old : List (List Entry)) (ts : List AnsweredLine)
       (new : List (List Entry))

@@ -1,16 +1,17 @@
 -- The desks of a host that ends, and their entries of the journal.
-use Rattle.std.proofs.Common.{◌≡◌, ◌⊎◌, ℕ, zero, suc, ◌+◌, ◌<◌, ◌≤◌, Bool, List, [], ◌∷◌, ◌++◌}
-use Rattle.std.proofs.Common.{length, map, get_or, set, refl, ap, sym, ◌∙◌, subst, inl, inr, ⊎_elim}
+use Rattle.std.proofs.Common.{◌≡◌, ℕ, ◌+◌, ◌<◌, ◌≤◌, Bool, List, [], ◌∷◌, ◌++◌}
+use Rattle.std.proofs.Common.{length, map, get_or, set, refl, ap, sym, ◌∙◌, subst, inl, inr}
 use Rattle.std.proofs.Common.{arith, append_assoc, Option, Some, None}
 use Rattle.std.specs.Prelude.{slice_get}
 use Rattle.std.specs.List.{AllZip}
 use Rattle.std.proofs.lemmas.List.{get_or-map, get_or-set_other}
+use Rattle.std.proofs.lemmas.Option.{get_or_from_slice_get, slice_get-get_or, slice_get_within}
 use Rattle.turn_cell.specs.History.{Continues, IsAmong, IsForeign}
 use Rattle.turn_cell.specs.declared.pass.Pass.{Pass}
 use Rattle.turn_cell.specs.Passes.{pass_numbers, seen, tag_of}
 use Rattle.turn_cell.specs.Views.{tag_in}
-use Rattle.turn_cell.proofs.HistoryLemmas.{among_first, among_second, continues_all, each_append}
-use Rattle.turn_cell.proofs.HistoryLemmas.{each_map, nil_right}
+use Rattle.turn_cell.proofs.HistoryLemmas.{among_first, among_second, continues_all, continues_map}
+use Rattle.turn_cell.proofs.HistoryLemmas.{nil_right}
 use Rattle.gate_journal.specs.Log.{Log, entry_number, rows_of}
 use Rattle.disk_model.specs.Disk.{EachImage}
 use Rattle.gate_journal.specs.Rows.{IsJournal, commands_of}
@@ -36,9 +37,9 @@ use Rattle.host_serve.specs.Holders.{Holder, IsAloneHolder, holder_at, holder_of
 use Rattle.host_serve.specs.Holders.{seens}
 use Rattle.host_serve.specs.Hosts.{AreOf, IsHost, IsSound, cell_id, rows_at_opening, opened_stores}
 use Rattle.host_serve.specs.Hosts.{tag_at}
-use Rattle.host_serve.proofs.ListLemmas.{goes_by, goes_on, length_more, same_some}
+use Rattle.host_serve.proofs.ListLemmas.{goes_on, length_more, one_more, same_some}
 use Rattle.host_serve.proofs.PassLemmas.{holder_there, seen_of_pass, tag_of_store}
-use Rattle.host_serve.proofs.StoreLemmas.{get_first, get_last, get_within, get_below, zip_of}
+use Rattle.host_serve.proofs.StoreLemmas.{get_below, zip_of}
 
 -- an entry of none of these numbers is of none of some of them
 fewer : (e : JournalEntry) (n : ℕ) (numbers : List ℕ) → IsAmong n numbers
@@ -53,7 +54,7 @@ since_to : (s : ℕ) (numbers : List ℕ) (seen mid new : List JournalEntry)
     → Continues (IsForeign entry_number ((s + 1) ∷ [])) new seen
 since_to s numbers seen mid new first held since =
     goes_on (IsForeign entry_number ((s + 1) ∷ [])) seen mid new first
-    (goes_by (IsForeign entry_number numbers) (IsForeign entry_number ((s + 1) ∷ [])) mid new
+    (continues_map (IsForeign entry_number numbers) (IsForeign entry_number ((s + 1) ∷ [])) new mid
     (λ e foreign. fewer e (s + 1) numbers held foreign) since)
 
 heard_to : (s : ℕ) (final : List Entry) (numbers : List ℕ) (mid new : List JournalEntry)
@@ -82,19 +83,25 @@ module _ {D : Type 0} where
     kept = (refl, refl);
   }
 
+  -- what the root had seen goes on as what it has seen since does
+  root_on : (more : List ℕ) (old root : Pass (Log D) JournalEntry) (journal : List JournalEntry)
+      → KeepsRoot more old root
+      → Continues (IsForeign entry_number (pass_numbers root)) journal (seen root)
+      → Continues (IsForeign entry_number (pass_numbers old)) journal (seen old)
+  root_on more old root journal k since =
+      goes_on (IsForeign entry_number (pass_numbers old)) (seen old) (seen root) journal k.since
+      (continues_map (IsForeign entry_number (pass_numbers root))
+      (IsForeign entry_number (pass_numbers old)) journal (seen root)
+      (λ e foreign there. foreign (subst (λ (n : List ℕ). IsAmong (entry_number e) n)
+      (sym k.holds_both) (among_first (entry_number e) (pass_numbers old) more there))) since)
+
   -- and then one more
   keeps_more : (a b : List ℕ) (first mid new : Pass (Log D) JournalEntry)
       → KeepsRoot a first mid → KeepsRoot b mid new → KeepsRoot (a ++ b) first new
   keeps_more a b first mid new k l = record {
     holds_both = l.holds_both ∙ (ap (λ (n : List ℕ). n ++ b) k.holds_both
         ∙ append_assoc (pass_numbers first) a b);
-    since =
-        goes_on (IsForeign entry_number (pass_numbers first)) (seen first) (seen mid)
-        (seen new) k.since
-        (goes_by (IsForeign entry_number (pass_numbers mid))
-        (IsForeign entry_number (pass_numbers first)) (seen mid)
-        (seen new) (λ e foreign there. foreign (subst (λ (n : List ℕ). IsAmong (entry_number e) n)
-        (sym k.holds_both) (among_first (entry_number e) (pass_numbers first) a there))) l.since);
+    since = root_on a first mid (seen new) k l.since;
     kept = (l.kept.0 ∙ k.kept.0, l.kept.1 ∙ k.kept.1);
   }
 
@@ -187,27 +194,6 @@ module _ {D : Type 0} (tells : D → Bool) (may_leave : D → List ℕ → Type 
     agreed = r.agreed;
   }
 
-there_or : (finals : List (List Entry)) (final : List Entry) (s : ℕ) → s < length finals
-    → seen_at (finals ++ final ∷ []) s ≡ seen_at finals s
-there_or [] final s low = absurd (omega arith)
-there_or (x ∷ xs) final zero low = refl
-there_or (x ∷ xs) final (suc s) low = there_or xs final s (omega arith)
-
-there_last : (finals : List (List Entry)) (final : List Entry) (s : ℕ) → s ≡ length finals
-    → seen_at (finals ++ final ∷ []) s ≡ final
-there_last [] final zero e = refl
-there_last [] final (suc s) e = absurd (omega arith)
-there_last (x ∷ xs) final zero e = absurd (omega arith)
-there_last (x ∷ xs) final (suc s) e = there_last xs final s (omega arith)
-
-below_or_last : (s n : ℕ) → s < n + 1 → (s < n) ⊎ (s ≡ n)
-below_or_last zero zero low = inr refl
-below_or_last zero (suc n) low = inl (omega arith)
-below_or_last (suc s) zero low = absurd (omega arith)
-below_or_last (suc s) (suc n) low = ⊎_elim
-    (λ (t : s < n). inl (omega arith)) (λ (t : s ≡ n). inr (ap suc t))
-    (below_or_last s n (omega arith))
-
 module _ {D : Type 0} (tells : D → Bool) (may_leave : D → List ℕ → Type 0)
     (reads : D → List ℕ) (faults reach room label : D → ℕ) (holders : List Holder)
     (old : List (List Entry)) (tags : List (Option (DeskTag D)))
@@ -234,59 +220,38 @@ module _ {D : Type 0} (tells : D → Bool) (may_leave : D → List ℕ → Type 
       → KeepsRoot ((n + 1) ∷ []) mid new → backs' ≡ backs ++ back ∷ []
       → Gathers tells may_leave reads faults reach room label (n + 1) holders old tags first new
       backs'
-  gathers_more n mid new backs backs' back g b k pushed =
-      let finals = g.finals ++ b.final ∷ [] in
-      record {
-        finals = finals;
-        many = length_more g.finals b.final ∙ ap (λ (m : ℕ). m + 1) g.many;
-        ends = λ s low. ⊎_elim
-            (λ (below : s < n). subst (λ (l : List Entry). EndsAt (holder_at holders s)
-            (seen_at old s) l) (sym (there_or g.finals b.final s
-            (let many = g.many in omega arith))) (g.ends s below))
-            (λ (last : s ≡ n). subst (λ (x : ℕ × List Entry). EndsAt (holder_at holders x.0)
-            (seen_at old x.0) x.1) (λ i. (
-              sym last i,
-              sym (there_last g.finals b.final s
-                  (last ∙ sym g.many)) i,
-            )) b.ends)
-            (below_or_last s n low);
-        heard = λ s low. ⊎_elim
-            (λ (below : s < n). subst (λ (l : List Entry). Heard s (seen new) l)
-            (sym (there_or g.finals b.final s (let many = g.many in omega arith)))
-            (heard_on s (seen_at g.finals s) ((n + 1) ∷ []) mid new (g.heard s below)
-            (g.held s below) k))
-            (λ (last : s ≡ n). subst (λ (x : ℕ × List Entry). Heard x.0 (seen new) x.1)
-            (λ i. (sym last i, sym (there_last g.finals b.final s (last ∙ sym g.many)) i)) b.heard)
-            (below_or_last s n low);
-        held = λ s low. subst (λ (l : List ℕ). IsAmong (s + 1) l) (sym k.holds_both) (⊎_elim
-            (λ (below : s < n).
-            among_first (s + 1) (pass_numbers mid) ((n + 1) ∷ []) (g.held s below))
-            (λ (last : s ≡ n). among_second (s + 1) (pass_numbers mid) ((n + 1) ∷ [])
-            (inl (ap (λ (m : ℕ). m + 1) (sym last))))
-            (below_or_last s n low));
-        grows = (
-          g.grows.0 ++ (n + 1) ∷ [],
-          keeps_more g.grows.0 ((n + 1) ∷ []) first mid new g.grows.1 k,
-        );
-        disks = ap (λ (l : List D). length l) pushed
-            ∙ (length_more backs back ∙ ap (λ (m : ℕ). m + 1) g.disks);
-        returns = λ s tag there low tagged at. let at' = ap (λ (l : List D). slice_get l s)
-            (sym pushed) ∙ at in ⊎_elim
-            (λ (below : s < n). returns_on tells may_leave reads faults reach room label s tag
-            there (pass_numbers mid) (seen mid) (seen new) (g.returns s tag there below tagged
-            (sym (get_first backs back s (let many = g.disks in omega arith)) ∙ at'))
-            (g.held s below) k.since)
-            (λ (last : s ≡ n). let place = last ∙ sym g.disks in
-            subst (λ (x : ℕ × D). Returns tells may_leave reads faults reach room label x.0 tag x.1
-            (seen new))
-            (λ i. (
-              sym last i,
-              same_some back there (sym (get_last backs [] back)
-                  ∙ (ap (λ (m : ℕ). slice_get (backs ++ back ∷ []) m) (sym place) ∙ at')) i,
-            ))
-            (b.returns tag (ap (λ (m : ℕ). get_or tags m None) (sym last) ∙ tagged)))
-            (below_or_last s n low);
-      }
+  gathers_more n mid new backs backs' back g b k pushed = record {
+    finals = g.finals ++ b.final ∷ [];
+    many = length_more g.finals b.final ∙ ap (λ (m : ℕ). m + 1) g.many;
+    ends = one_more (λ (s : ℕ) (l : List Entry). EndsAt (holder_at holders s) (seen_at old s) l)
+        g.finals b.final [] n g.many g.ends b.ends;
+    heard = one_more (λ (s : ℕ) (l : List Entry). Heard s (seen new) l) g.finals b.final [] n
+        g.many (λ s below. heard_on s (seen_at g.finals s) ((n + 1) ∷ []) mid new
+        (g.heard s below) (g.held s below) k) b.heard;
+    held = one_more (λ (s : ℕ) (l : List Entry). IsAmong (s + 1) (pass_numbers new)) g.finals
+        b.final [] n g.many (λ s below. subst (λ (l : List ℕ). IsAmong (s + 1) l)
+        (sym k.holds_both)
+        (among_first (s + 1) (pass_numbers mid) ((n + 1) ∷ []) (g.held s below)))
+        (subst (λ (l : List ℕ). IsAmong (n + 1) l) (sym k.holds_both)
+        (among_second (n + 1) (pass_numbers mid) ((n + 1) ∷ []) (inl refl)));
+    grows = (
+      g.grows.0 ++ (n + 1) ∷ [],
+      keeps_more g.grows.0 ((n + 1) ∷ []) first mid new g.grows.1 k,
+    );
+    disks = ap (λ (l : List D). length l) pushed
+        ∙ (length_more backs back ∙ ap (λ (m : ℕ). m + 1) g.disks);
+    returns = λ s tag there low tagged at.
+        subst (λ (d : D). Returns tells may_leave reads faults reach room label s tag d (seen new))
+        (get_or_from_slice_get (backs ++ back ∷ []) s there there
+        (ap (λ (l : List D). slice_get l s) (sym pushed) ∙ at))
+        (one_more (λ (s : ℕ) (d : D). (tag : DeskTag D) → get_or tags s None ≡ Some tag
+        → Returns tells may_leave reads faults reach room label s tag d (seen new)) backs back
+        there n g.disks (λ s below tag tagged.
+        returns_on tells may_leave reads faults reach room label s tag (get_or backs s there)
+        (pass_numbers mid) (seen mid) (seen new) (g.returns s tag (get_or backs s there) below
+        tagged (slice_get-get_or backs s there (let many = g.disks in omega arith)))
+        (g.held s below) k.since) b.returns s low tag tagged);
+  }
 
 -- one of the passes in the place of another
 pub later_on : {A : Type 0} (now old : List A) (s : ℕ) (q : A)
@@ -348,13 +313,7 @@ module _ {D : Type 0} (tells : D → Bool) (may_leave : D → List ℕ → Type 
             ∙ tagged;
         grows = subst (λ (l : List ℕ). Continues (IsForeign entry_number l) log.entries
             (seen host.root)) whole.numbered.1
-            (goes_on (IsForeign entry_number (pass_numbers host.root)) (seen host.root) (seen root)
-            log.entries k.since
-            (goes_by (IsForeign entry_number (pass_numbers root))
-            (IsForeign entry_number (pass_numbers host.root))
-            (seen root) log.entries (λ e foreign there. foreign
-            (subst (λ (l : List ℕ). IsAmong (entry_number e) l) (sym k.holds_both)
-            (among_first (entry_number e) (pass_numbers host.root) g.grows.0 there))) since));
+            (root_on g.grows.0 host.root root log.entries k since);
       }
 
   -- the store of a session, and its disk
@@ -364,7 +323,7 @@ module _ {D : Type 0} (tells : D → Bool) (may_leave : D → List ℕ → Type 
       (tag_at host.stories.now host.budget (cell_id host.journal) (rows_at_opening host) s store)
       back (seen root)
   store_returns of g s store back there there' =
-      let low = get_within backs s back there' in
+      let low = slice_get_within backs s back there' in
       let many = g.disks in
       g.returns s _ back (omega arith)
       (ap (λ (l : List (Option (DeskTag D))). get_or l s None) of.each.tagged
@@ -384,7 +343,7 @@ module _ {D : Type 0} (tells : D → Bool) (may_leave : D → List ℕ → Type 
       → IsJournal (rows_of log.entries) → IsSound tells reads host
       → AreAgreedDisks tells may_leave host.stories.now (rows_of log.entries) backs
   agrees_back log of g since rows sound = λ s back there.
-      let low = get_within backs s back there in
+      let low = slice_get_within backs s back there in
       let many = g.disks in
       let whole = of.whole.stores in
       let low' : s < 64 = omega arith in

@@ -1,37 +1,17 @@
 -- The lines of a conversation, and how a call ends with it.
-use Rattle.std.proofs.Common.{◌≡◌, ℕ, ◌^◌, ◌≤◌, List, [], ◌∷◌, ◌++◌, length, map, Option, None}
-use Rattle.std.proofs.Common.{Bool, true, false, refl, ap, sym, ◌∙◌, subst, inl, inr, append_assoc}
+use Rattle.std.proofs.Common.{◌≡◌, ℕ, List, [], ◌∷◌, ◌++◌, length, map, None}
+use Rattle.std.proofs.Common.{refl, ap, sym, ◌∙◌, subst}
 use Rattle.std.proofs.Common.{arith}
-use Rattle.std.proofs.lemmas.List.{map-append}
-use Rattle.turn_cell.proofs.HistoryLemmas.{nil_right}
-use Rattle.line_words.specs.Reply.{print_reply}
 use Rattle.line_words.specs.declared.reply.Reply.{Reply}
-use Rattle.line_talk.specs.Conversation.{Answered, BreaksLast, Line}
-use Rattle.line_talk.specs.Conversation.{StopsBehind, Turns, texts_joined}
-use Rattle.line_talk.specs.Lines.{heard, talk}
-use Rattle.line_talk.specs.Streams.{SinkState, SourceState, Gave, Wrote}
-use Rattle.line_talk.specs.Talked.{AnswersOf, Talked}
+use Rattle.line_talk.specs.Conversation.{Line}
+use Rattle.line_talk.specs.Lines.{heard}
 use Rattle.line_talk.specs.declared.ended.Ended.{Ended}
 use Rattle.line_talk.specs.declared.ended.Ended.TheVariants as ended
-use Rattle.line_talk.specs.declared.sink.Stop.{Stop}
-use Rattle.line_talk.specs.declared.sink.Stop.TheVariants.{Output, Memory}
-use Rattle.line_talk.proofs.StreamsLemmas.{gave_none, wrote_none, wrote_then}
-use Rattle.story_run.specs.World.{WorldState}
-use Rattle.session_core.specs.declared.entry.Entry.{Entry}
-use Rattle.host_serve.specs.declared.answer.Answer.{Answer}
-use Rattle.host_serve.specs.declared.host.Host.{Host}
 use Rattle.host_serve.specs.declared.mark.Mark.{Mark}
 use Rattle.host_serve.specs.declared.served.Served.{Served}
 use Rattle.host_serve.specs.declared.served.Served.TheVariants.{End, ReadFault, WriteFault}
-use Rattle.host_serve.specs.declared.served.Served.TheVariants.{NoMemory}
-use Rattle.host_serve.specs.Chain.{Answers, AnswersInOrder}
-use Rattle.host_serve.specs.Holders.{Holder}
-use Rattle.host_serve.specs.Serves.{ServesLines, AnsweredLine}
-use Rattle.host_serve.specs.Speaking.{Speaking, Speaks, seen_and_marked, turn_with}
-use Rattle.host_serve.specs.Told.{AnsweredOf, IsCutText, TellsLink}
-use Rattle.host_serve.specs.Told.{WritesReplies, served_of, turn_from}
-use Rattle.host_serve.proofs.ChainLemmas.{chain_more}
-use Rattle.host_serve.proofs.ServesLemmas.{serves_of}
+use Rattle.host_serve.specs.Serves.{AnsweredLine}
+use Rattle.host_serve.specs.Told.{served_of}
 
 abbrev pub line_of : AnsweredLine → List ℕ
 line_of t = t.line

@@ -2,6 +2,7 @@
 use Rattle.std.proofs.Common.{◌≡◌, ◌⊎◌, ℕ, Option, Some, None, List, [], ◌∷◌, ◌++◌, length, refl}
 use Rattle.std.proofs.Common.{ap, sym, ◌∙◌, inl, inr, arith}
 use Rattle.std.specs.Prelude.{slice_get}
+use Rattle.std.proofs.lemmas.List.{same_from_push}
 use Rattle.gate_journal.specs.declared.command.Command.{Command}
 use Rattle.line_words.specs.declared.reply.No.TheVariants as no
 use Rattle.line_words.specs.declared.reply.Reply.{Reply}
@@ -16,7 +17,7 @@ use Rattle.session_core.specs.Turning.{MayMeet, turn_in, turn_met}
 use Rattle.host_serve.specs.Holders.{Holder, holder_at, seen_at}
 use Rattle.host_serve.specs.Serves.{AnsweredLine, AddsItsEntry, AddsNothing, IsExact}
 use Rattle.host_serve.specs.Serves.{MayMeetIn, decided_on_line, marked, turned}
-use Rattle.host_serve.proofs.ListLemmas.{length_more, same_last}
+use Rattle.host_serve.proofs.ListLemmas.{length_more}
 
 -- the reply that is decided, or want of memory, or a fault that is added
 abbrev Replies : Reply → List Entry → ℕ → Reply → List Entry → Type 0
@@ -59,7 +60,8 @@ module _ (stories : List Story) (budget : ℕ) (holders : List Holder) (new : Li
       let a = ap (λ (l : List Entry). length l) (sym nothing ∙ is) in
       let b = length_more (marked new t) e in absurd (omega arith)
   stands_there e (inr adds) is =
-      adds.2 ∙ ap Some (same_last (marked new t) adds.0 e (sym adds.1 ∙ is))
+      adds.2
+      ∙ ap Some (same_from_push (marked new t) (marked new t) adds.0 e (sym adds.1 ∙ is)).1
 
   pub exact : t.reply ≡ (turned stories budget holders new t).reply
       → AddsNothing stories budget holders new t ⊎ AddsItsEntry stories budget holders new t

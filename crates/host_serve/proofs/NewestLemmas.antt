@@ -1,7 +1,8 @@
 -- The passes that were split off last: one more, one less, and all.
 use Rattle.std.proofs.Common.{◌≡◌, ◌≢◌, ℕ, ◌+◌, ◌<◌, List, [], ◌∷◌, ◌++◌, length, map, take, get_or}
 use Rattle.std.proofs.Common.{set, ap, sym, ◌∙◌, refl, subst, arith, Option, None}
-use Rattle.std.proofs.lemmas.List.{length-map, map-set, get_or-map, take_all}
+use Rattle.std.proofs.lemmas.List.{length-map, length-set, map-set, get_or-map, get_or-set_same}
+use Rattle.std.proofs.lemmas.List.{take-set, take_all}
 use Rattle.turn_cell.specs.declared.cell.Cell.{Cell}
 use Rattle.turn_cell.specs.declared.pass.Pass.{Pass}
 use Rattle.turn_cell.specs.Passes.{IsOf, IsOutside, IsSplitFrom, pass_number, sample, seen, tag_of}
@@ -11,7 +12,7 @@ use Rattle.host_serve.specs.Holders.{holder_of, holders, nobody, seens}
 use Rattle.host_serve.specs.Hosts.{ArePasses, cell_id, pass_id}
 use Rattle.host_serve.specs.Splitting.{AreNewest, after_split, newest_of}
 use Rattle.host_serve.proofs.ListLemmas.{length_more}
-use Rattle.host_serve.proofs.MixLemmas.{each_parts, get_set, grown, set_long, shrunk, take_set}
+use Rattle.host_serve.proofs.MixLemmas.{each_parts, grown, shrunk}
 use Rattle.host_serve.proofs.PassLemmas.{as_many}
 
 -- passes with equal samples have equal tags
@@ -48,12 +49,12 @@ module _ {T E : Type 0} (cells : List (Cell T E)) where
     same = a.same;
     outside = a.outside;
     sampled = a.sampled ∙ sym (ap (take n) (map-set sample now n p')
-        ∙ take_set n (map sample now) (sample p'));
+        ∙ take-set (map sample now) n (sample p'));
     numbered = a.numbered;
     who = a.who ∙ sym (ap (take n) (ap (map newest_of) (map-set holder_of now n p')
         ∙ map-set newest_of (holders now) n (holder_of p'))
-        ∙ take_set n (map newest_of (holders now)) (newest_of (holder_of p')));
-    heard = a.heard ∙ sym (ap (take n) (map-set seen now n p') ∙ take_set n (seens now) (seen p'));
+        ∙ take-set (map newest_of (holders now)) n (newest_of (holder_of p')));
+    heard = a.heard ∙ sym (ap (take n) (map-set seen now n p') ∙ take-set (seens now) n (seen p'));
   }
 
   -- one root more has a newest pass
@@ -65,16 +66,16 @@ module _ {T E : Type 0} (cells : List (Cell T E)) where
   newest_more n now new c p p' q a long low at_c held heard like split =
       let still = newest_still n now new p' a in
       let now' = set now n p' in
-      let long' : length now' ≡ length now = set_long n now p' in
+      let long' : length now' ≡ length now = length-set now n p' in
       let there : holder_of p' ≡ get_or (holders now') n nobody =
       sym (get_or-map holder_of now' n p' nobody (omega arith)
-      ∙ ap holder_of (get_set n now p' p' (omega arith))) in
+      ∙ ap holder_of (get_or-set_same now n p' p' (omega arith))) in
       let there' : seen p' ≡ get_or (seens now') n [] =
       sym (get_or-map seen now' n p' [] (omega arith)
-      ∙ ap seen (get_set n now p' p' (omega arith))) in
+      ∙ ap seen (get_or-set_same now n p' p' (omega arith))) in
       let there'' : sample p' ≡ get_or (map sample now') n None =
       sym (get_or-map sample now' n p' None (omega arith)
-      ∙ ap sample (get_set n now p' p' (omega arith))) in
+      ∙ ap sample (get_or-set_same now n p' p' (omega arith))) in
       let own : holder_of q ≡ newest_of (holder_of p') =
       (λ i. record { number = split.2 i; made = split.3 i; holds = split.4 i })
       ∙ sym (ap newest_of held) in

@@ -2,6 +2,7 @@
 use Rattle.std.proofs.Common.{◌≡◌, ℕ, ◌+◌, ◌≤◌, List, [], ◌∷◌, ◌++◌, length, map, refl, ap, sym}
 use Rattle.std.proofs.Common.{◌∙◌, subst, arith, append_assoc, Some, vec_capacity}
 use Rattle.std.proofs.lemmas.List.{length-map, map-append}
+use Rattle.std.proofs.lemmas.List.FromFn.{map-range_with_len_more}
 use Rattle.atomic_table.specs.Seated.{TableId}
 use Rattle.turn_cell.specs.declared.cell.Cell.{Cell}
 use Rattle.turn_cell.specs.declared.pass.Pass.{Pass}
@@ -25,16 +26,15 @@ use Rattle.host_serve.specs.Hosts.{ArePasses, cell_id, pass_id, rows_at_opening,
 use Rattle.host_serve.specs.Hosts.{opened_stores, tag_at, tags_from}
 use Rattle.host_serve.specs.Opening.{AreOpenedDesks, IsOpenedHost, IsOpenedDesk, lone}
 use Rattle.host_serve.proofs.ListLemmas.{length_more}
-use Rattle.host_serve.proofs.PassLemmas.{sessions_more, tags_more}
+use Rattle.host_serve.proofs.PassLemmas.{tags_more}
 
 -- one value more for the next session
 map_more : {A : Type 0} (f : ℕ → A) (n : ℕ) (all : List A) (x : A)
     → all ≡ map f (sessions_below n) → x ≡ f n
     → all ++ x ∷ [] ≡ map f (sessions_below (n + 1))
-map_more f n all x is there = ap (λ l. l ++ x ∷ []) is
-    ∙ (ap (λ y. map f (sessions_below n) ++ y ∷ []) there
-    ∙ (sym (map-append f (sessions_below n) (n ∷ []))
-    ∙ ap (λ (l : List ℕ). map f l) (sym (sessions_more n))))
+unfolding sessions_below
+map_more f n all x is there =
+    (λ i. is i ++ there i ∷ []) ∙ sym (map-range_with_len_more f 0 n n (omega arith))
 
 from_none : (n : ℕ) → n ≡ 0 + n
 from_none n = omega arith

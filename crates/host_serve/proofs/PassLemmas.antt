@@ -2,8 +2,8 @@
 use Rattle.std.proofs.Common.{◌≡◌, ℕ, zero, suc, ◌+◌, ◌<◌, ◌≤◌, List, [], ◌∷◌, ◌++◌, length, get_or}
 use Rattle.std.proofs.Common.{set, ap, sym, ◌∙◌, refl, subst, inl, arith, Option, Some, None}
 use Rattle.std.specs.Prelude.{slice_get}
-use Rattle.std.specs.List.{range_with_len}
 use Rattle.std.proofs.lemmas.List.{length-map, map-set, get_or-map}
+use Rattle.std.proofs.lemmas.Option.{slice_get_within}
 use Rattle.std.proofs.Math.Seq.{map-set_same}
 use Rattle.atomic_table.specs.Seated.{TableId}
 use Rattle.turn_cell.specs.declared.pass.Pass.{Pass}
@@ -19,48 +19,13 @@ use Rattle.session_desk.specs.Shared.{DeskTag}
 use Rattle.host_serve.specs.Holders.{Holder, nobody, holder_of, holder_at, seen_at, holders, seens}
 use Rattle.host_serve.specs.declared.host.Host.{Host}
 use Rattle.host_serve.specs.Hosts.{ArePasses, IsTagOf, cell_id, pass_id, rows_at_opening}
-use Rattle.host_serve.specs.Hosts.{sessions_below, opened_stores, tag_at, tags_from, tags_in}
+use Rattle.host_serve.specs.Hosts.{opened_stores, tag_at, tags_from, tags_in}
 use Rattle.host_serve.specs.Serves.{AnsweredLine}
 use Rattle.host_serve.specs.Chain.{TurnsIn, Answers}
 use Rattle.host_serve.proofs.ListLemmas.{each_at, each_set, same_some}
-use Rattle.host_serve.proofs.StoreLemmas.{get_within}
-
--- the tag of each session
-range_at : (first many s : ℕ) → s < many → get_or (range_with_len first many) s 0 ≡ first + s
-range_at first zero s low = absurd (omega arith)
-range_at first (suc many) zero low = omega arith
-range_at first (suc many) (suc s) low = range_at (first + 1) many s (omega arith) ∙ omega arith
-
-range_long : (first many : ℕ) → length (range_with_len first many) ≡ many
-range_long first zero = refl
-range_long first (suc many) = ap suc (range_long (first + 1) many)
-
-pub sessions_long : (n : ℕ) → length (sessions_below n) ≡ n
-unfolding sessions_below
-sessions_long n = range_long 0 n
 
 plus_none : (n : ℕ) → n ≡ n + 0
 plus_none n = omega arith
-
-pub session_there : (n s : ℕ) → s < n → get_or (sessions_below n) s 0 ≡ s
-unfolding sessions_below
-session_there n s low = range_at 0 n s low ∙ omega arith
-
-range_more : (first many : ℕ)
-    → range_with_len first (suc many) ≡ range_with_len first many ++ (first + many) ∷ []
-range_more first zero =
-    let same : first ≡ first + 0 = omega arith in ap (λ (k : ℕ). k ∷ []) same
-range_more first (suc many) =
-    let same : (first + 1) + many ≡ first + suc many = omega arith in
-    ap (λ (l : List ℕ). first ∷ l) (range_more (first + 1) many
-    ∙ ap (λ (k : ℕ). range_with_len (first + 1) many ++ k ∷ []) same)
-
-pub sessions_more : (n : ℕ) → sessions_below (n + 1) ≡ sessions_below n ++ n ∷ []
-unfolding sessions_below
-sessions_more n = let next : n + 1 ≡ suc n = omega arith in
-    let same : 0 + n ≡ n = omega arith in
-    ap (λ (k : ℕ). range_with_len 0 k) next ∙ (range_more 0 n
-    ∙ ap (λ (k : ℕ). range_with_len 0 n ++ k ∷ []) same)
 
 module _ {D : Type 0} (stories : List Story) (budget : ℕ) (journal : TableId) (rows : List Row)
   where
@@ -89,7 +54,7 @@ module _ {D : Type 0} (stories : List Story) (budget : ℕ) (journal : TableId) 
         → get_or (tags_from stories budget journal rows 0 stores) s None
         ≡ Some (tag_at stories budget journal rows s store)
     tag_of_store stores s store is =
-        let there = tag_there 0 stores s None (get_within stores s store is) in
+        let there = tag_there 0 stores s None (slice_get_within stores s store is) in
         let same : 0 + s ≡ s = omega arith in
         there.2 ∙ (λ i. Some (tag_at stories budget journal rows (same i)
         (same_some there.0 store (sym there.1 ∙ is) i)))
@@ -218,11 +183,9 @@ pub answers_in : {T : Type 0} (stories : List Story) (budget : ℕ) (sound : Typ
 answers_in stories budget sound passes s p q t many at_p low marked named turn =
     let low' : s < length passes = omega arith in
     let h : holder_at (holders passes) t.mark.session ≡ holder_of p =
-    ap (λ (k : ℕ). holder_at (holders passes) k) marked
-    ∙ (get_or-map holder_of passes s p nobody low' ∙ ap holder_of (sym at_p)) in
+    ap (λ (k : ℕ). holder_at (holders passes) k) marked ∙ holder_there passes s p low' at_p in
     let l : seen_at (seens passes) t.mark.session ≡ seen p =
-    ap (λ (k : ℕ). seen_at (seens passes) k) marked
-    ∙ (get_or-map seen passes s p [] low' ∙ ap seen (sym at_p)) in
+    ap (λ (k : ℕ). seen_at (seens passes) k) marked ∙ seen_of_pass passes s p low' at_p in
     inl (record {
       session = (omega arith, marked ∙ sym named);
       after = seen q;

@@ -1,15 +1,14 @@
 -- Who holds the roots, of which the first ones have become others.
 use Rattle.std.proofs.Common.{◌≡◌, ℕ, zero, suc, ◌+◌, ◌<◌, ◌≤◌, List, [], ◌∷◌, ◌++◌, length, map}
 use Rattle.std.proofs.Common.{take, drop, get_or, set, ap, sym, ◌∙◌, refl, arith}
-use Rattle.std.proofs.lemmas.List.{length-map, map-set, get_or-map, take_all, drop_all}
+use Rattle.std.proofs.lemmas.List.{append-nil, length-map, map-set, get_or-map, take_all, drop_all}
 use Rattle.turn_cell.specs.declared.pass.Pass.{Pass}
 use Rattle.host_serve.specs.Holders.{Holder, holder_of, holders, nobody}
 use Rattle.host_serve.specs.Hosts.{sessions_below}
 use Rattle.host_serve.specs.Opening.{lone, roots}
 use Rattle.host_serve.specs.Splitting.{AreRoots, first_by}
 use Rattle.host_serve.proofs.ListLemmas.{each_at}
-use Rattle.host_serve.proofs.MixLemmas.{append_none, mix_down, mix_first, mix_long, mix_rest}
-use Rattle.host_serve.proofs.MixLemmas.{mix_up}
+use Rattle.host_serve.proofs.MixLemmas.{mix_down, mix_first, mix_long, mix_rest, mix_up}
 
 -- what holders become, one after the other
 pub first_long : (f : Holder → Holder) (n : ℕ) (hs : List Holder)
@@ -75,7 +74,7 @@ both_first f g (suc n) (h ∷ hs) = ap (λ (l : List Holder). g (f h) ∷ l) (bo
 pub all_first : (f : Holder → Holder) (n : ℕ) (hs : List Holder) → length hs ≤ n
     → first_by f n hs ≡ map f hs
 all_first f n hs long = let many = length-map hs f in
-    (λ i. take_all n (map f hs) (omega arith) i ++ drop_all n hs long i) ∙ append_none (map f hs)
+    (λ i. take_all n (map f hs) (omega arith) i ++ drop_all n hs long i) ∙ append-nil (map f hs)
 
 -- of roots from which at most so many passes were split some give one more
 roots_more : (most : ℕ) (hs : List Holder) → AreRoots most hs → AreRoots (most + 1) hs

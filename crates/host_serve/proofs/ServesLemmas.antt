@@ -2,7 +2,9 @@
 use Rattle.std.proofs.Common.{◌≡◌, ◌⊎◌, ◌≢◌, ℕ, zero, suc, ◌+◌, ◌<◌, ◌≤◌, Some, None, List, [], ◌∷◌}
 use Rattle.std.proofs.Common.{◌++◌, length, set, take, refl, ap, sym, ◌∙◌, subst, inl, inr, ⊎_elim}
 use Rattle.std.proofs.Common.{append_assoc, arith, slice_get}
-use Rattle.std.proofs.lemmas.Bool.{cases_lt}
+use Rattle.std.proofs.lemmas.Bool.{cases_eq, cases_lt}
+use Rattle.std.proofs.lemmas.List.{length-append, set_past}
+use Rattle.std.proofs.lemmas.Option.{slice_get_past}
 use Rattle.std.proofs.Math.Seq.{take-append_seam}
 use Rattle.std.proofs.Math.ListN.{get_or-eq_default}
 use Rattle.turn_cell.specs.History.{IsAmong, IsForeign}
@@ -17,9 +19,7 @@ use Rattle.host_serve.specs.Serves.{AddsNothing, AddedOnce, Folds, IsExact, Serv
 use Rattle.host_serve.specs.Chain.{TurnsIn, Answers, AnswersInOrder}
 use Rattle.host_serve.proofs.TurnLemmas.{none_adds}
 use Rattle.host_serve.proofs.ExactLemmas.{exact}
-use Rattle.host_serve.proofs.ListLemmas.{eq_or_ne, same_some, none_some, each_there, there_after}
-use Rattle.host_serve.proofs.ListLemmas.{nothing_past, set_past, length_more, length_both}
-use Rattle.host_serve.proofs.ListLemmas.{take_none}
+use Rattle.host_serve.proofs.ListLemmas.{same_some, none_some, each_there, get_last, length_more}
 use Rattle.host_serve.proofs.ChainLemmas.{Grows, seen_there, seen_elsewhere, answer_wide}
 use Rattle.host_serve.proofs.ChainLemmas.{answer_grows, chain_wide, chain_grows}
 
@@ -58,28 +58,9 @@ module _ (stories : List Story) (budget : ℕ) (sound : Type 0) where
   stands_in h old t mid final rest i goes =
       of (turn_in_adds stories budget i.before t.world h.number t.line t.outcome)
     where
-      marked_is : (tail : List Entry) → final ≡ i.before ++ tail
-          → take t.mark.length final ≡ i.before
-      marked_is tail e = subst (λ (x : ℕ × List Entry). take x.0 x.1 ≡ i.before)
-          (λ j. (sym i.length j, sym e j)) (take-append_seam i.before tail)
-
-      begins_in : length old ≤ t.mark.length
-      begins_in = let a = ap (λ (l : List Entry). length l) i.since.1 in
-          let b = length_both old i.since.0 in let c = i.length in omega arith
-
-      same_turn : (tail : List Entry) → final ≡ i.before ++ tail
-          → MarkedTurn h final t ≡ turned_again stories budget i.before h.number t
-      same_turn tail e =
-          ap (λ (l : List Entry). turned_again stories budget l h.number t) (marked_is tail e)
-
-      own_in : (tail : List Entry) → final ≡ i.before ++ tail → sound
-          → t.world ≡ own_world stories (take t.mark.length final)
-      own_in tail e s = i.own s ∙ ap (own_world stories) (sym (marked_is tail e))
-
-      met_in : (tail : List Entry) → final ≡ i.before ++ tail
-          → MayMeetIn stories budget (take t.mark.length final) t
-      met_in tail e =
-          subst (λ (l : List Entry). MayMeetIn stories budget l t) (sym (marked_is tail e)) i.met
+      taken : (tail : List Entry) → final ≡ i.before ++ tail → i.before ≡ take t.mark.length final
+      taken tail is = subst (λ (x : ℕ × List Entry). i.before ≡ take x.0 x.1)
+          (λ j. (sym i.length j, sym is j)) (sym (take-append_seam i.before tail))
 
       -- an entry that came since and was there as the turn began is another's
       others : (tail : List Entry) → final ≡ i.before ++ tail → (place : ℕ) (e : Entry)
@@ -91,67 +72,70 @@ module _ (stories : List Story) (budget : ℕ) (sound : Type 0) where
           (subst (λ (l : List Entry). slice_get l place ≡ Some e)
           (is ∙ ap (λ (l : List Entry). l ++ tail) i.since.1) there) held
 
+      -- whether the turn adds or not, this much stands in the end behind what it began with
+      begun : (tail : List Entry) → final ≡ i.before ++ tail → length i.before ≤ length mid
+          → (AddsIn h final t → length mid ≡ t.mark.length + 1)
+          → ((MarkedTurn h final t).history ≡ take t.mark.length final) ⊎ AddsIn h final t
+          → ((place : ℕ) → length i.before ≤ place → place < length mid
+          → (t.mark.length ≡ place) × AddsIn h final t)
+          → Stands h old t mid final
+      begun tail is least more adds made =
+          let same = taken tail is in let c = i.length in
+          let a = ap (λ (l : List Entry). length l) is in
+          let b = length-append i.before tail in
+          let d = ap (λ (l : List Entry). length l) i.since.1 in
+          let f = length-append old i.since.0 in
+          record {
+            prefix = omega arith;
+            begins = omega arith;
+            least = omega arith;
+            more = more;
+            reply = subst (λ (l : List Entry). t.reply
+                ≡ (turned_again stories budget l h.number t).reply) same i.reply;
+            own = λ s. subst (λ (l : List Entry). t.world ≡ own_world stories l) same (i.own s);
+            met = subst (λ (l : List Entry). MayMeetIn stories budget l t) same i.met;
+            adds = adds;
+            made = λ place e low high there held. ⊎_elim
+                (λ (within : place < length i.before).
+                absurd (others tail is place e low within there held))
+                (λ (past : length i.before ≤ place). made place past high)
+                (cases_lt place (length i.before));
+          }
+
       of : AddsTo i.before h.number (turned_again stories budget i.before h.number t).history
           → Stands h old t mid final
       of (inl same) = let ended : mid ≡ i.before = i.history ∙ same in
           let is : final ≡ i.before ++ rest = goes ∙ ap (λ (l : List Entry). l ++ rest) ended in
-          let a = ap (λ (l : List Entry). length l) is in let b = length_both i.before rest in
-          let c = i.length in let d = ap (λ (l : List Entry). length l) ended in
-          let nothing : (MarkedTurn h final t).history ≡ take t.mark.length final =
-          ap (λ (x : Turned). x.history) (same_turn rest is)
-          ∙ (same ∙ sym (marked_is rest is)) in
-          record {
-            prefix = omega arith;
-            begins = begins_in;
-            least = omega arith;
-            more = λ p. let f = ap (λ (l : List Entry). length l) (sym nothing ∙ p.1) in
-                let g = length_more (take t.mark.length final) p.0 in absurd (omega arith);
-            reply = i.reply ∙ sym (ap (λ (x : Turned). x.reply) (same_turn rest is));
-            own = own_in rest is;
-            met = met_in rest is;
-            adds = inl nothing;
-            made = λ place e low high there held. absurd (others rest is place e low
-                (subst (λ (l : List Entry). place < length l) ended high) there held);
-          }
-      of (inr more) = let ended : mid ≡ i.before ++ more.0 ∷ [] = i.history ∙ more.1 in
-          let whole : final ≡ (i.before ++ more.0 ∷ []) ++ rest =
-          goes ∙ ap (λ (l : List Entry). l ++ rest) ended in
-          let is : final ≡ i.before ++ (more.0 ∷ rest) =
-          whole ∙ append_assoc i.before (more.0 ∷ []) rest in
-          let a = ap (λ (l : List Entry). length l) is in
-          let b = length_both i.before (more.0 ∷ rest) in let c = i.length in
           let d = ap (λ (l : List Entry). length l) ended in
+          let nothing : (MarkedTurn h final t).history ≡ take t.mark.length final =
+          subst (λ (l : List Entry). (turned_again stories budget l h.number t).history ≡ l)
+          (taken rest is) same in
+          begun rest is (omega arith)
+          (λ p. let f = ap (λ (l : List Entry). length l) (sym nothing ∙ p.1) in
+          let g = length_more (take t.mark.length final) p.0 in absurd (omega arith))
+          (inl nothing) (λ place past high. absurd (omega arith))
+      of (inr more) = let ended : mid ≡ i.before ++ more.0 ∷ [] = i.history ∙ more.1 in
+          let is : final ≡ i.before ++ (more.0 ∷ rest) =
+          goes ∙ (ap (λ (l : List Entry). l ++ rest) ended
+          ∙ append_assoc i.before (more.0 ∷ []) rest) in
+          let c = i.length in let d = ap (λ (l : List Entry). length l) ended in
           let f = length_more i.before more.0 in
-          let taken = marked_is (more.0 ∷ rest) is in
           let added : AddsIn h final t = (
             more.0,
-            ap (λ (x : Turned). x.history) (same_turn (more.0 ∷ rest) is)
-                ∙ (more.1 ∙ ap (λ (l : List Entry). l ++ more.0 ∷ []) (sym taken)),
+            subst (λ (l : List Entry). (turned_again stories budget l h.number t).history
+                ≡ l ++ more.0 ∷ []) (taken (more.0 ∷ rest) is) more.1,
             subst (λ (x : ℕ × List Entry). slice_get x.1 x.0 ≡ Some more.0)
-                (λ j. (sym i.length j, sym whole j)) (there_after i.before rest more.0),
+                (λ j. (sym i.length j, sym is j)) (get_last i.before rest more.0),
             more.2,
           ) in
-          record {
-            prefix = omega arith;
-            begins = begins_in;
-            least = omega arith;
-            more = λ p. omega arith;
-            reply = i.reply ∙ sym (ap (λ (x : Turned). x.reply) (same_turn (more.0 ∷ rest) is));
-            own = own_in (more.0 ∷ rest) is;
-            met = met_in (more.0 ∷ rest) is;
-            adds = inr added;
-            made = λ place e low high there held. ⊎_elim
-                (λ (within : place < length i.before).
-                absurd (others (more.0 ∷ rest) is place e low within there held))
-                (λ (past : length i.before ≤ place). (omega arith, added))
-                (cases_lt place (length i.before));
-          }
+          begun (more.0 ∷ rest) is (omega arith) (λ p. omega arith) (inr added)
+          (λ place past high. (omega arith, added))
 
-  stands_none : (t : AnsweredLine)
-      → IsOfNoSession t → t.world ≡ None
+  stands_none : (t : AnsweredLine) → IsOfNoSession t → t.world ≡ None
       → MayMeetIn stories budget [] t
       → t.reply ≡ (turned_again stories budget [] 0 t).reply → Stands nobody [] t [] []
-  stands_none t none world met reply = let e = none.1 in let nil = take_none t.mark.length none.1 in
+  stands_none t none world met reply = let e = none.1 in
+      let nil = ap (λ (k : ℕ). take {A = Entry} k []) none.1 in
       let same = ap (λ (l : List Entry). turned_again stories budget l 0 t) nil in
       record {
         prefix = omega arith;
@@ -168,8 +152,7 @@ module _ (stories : List Story) (budget : ℕ) (sound : Type 0) where
 
   module _ (holders : List Holder) (many : length holders ≡ 64) where
     -- an answered line, against what is seen in the end
-    abbrev StandsAt : List (List Entry)
-        → AnsweredLine → List (List Entry) → List (List Entry)
+    abbrev StandsAt : List (List Entry) → AnsweredLine → List (List Entry) → List (List Entry)
         → Type 0
     StandsAt old t mid new = Stands (holder_at holders t.mark.session)
         (seen_at old t.mark.session) t (seen_at mid t.mark.session) (seen_at new t.mark.session)
@@ -219,10 +202,8 @@ module _ (stories : List Story) (budget : ℕ) (sound : Type 0) where
         × (sound → t.world ≡ own_world stories (marked new t))
 
     settled : (old : List (List Entry)) (ts : List AnsweredLine) (new : List (List Entry))
-        → length old ≡ 64
-        → AnswersInOrder stories budget sound holders old ts new
-        → (i : ℕ) (t : AnsweredLine)
-        → IsTurn ts i t → Settled new t
+        → length old ≡ 64 → AnswersInOrder stories budget sound holders old ts new
+        → (i : ℕ) (t : AnsweredLine) → IsTurn ts i t → Settled new t
     settled old [] new wide c i t is = absurd (none_some t is)
     settled old (x ∷ xs) new wide c zero t is =
         let s = first_stands old x xs new wide c in
@@ -232,10 +213,9 @@ module _ (stories : List Story) (budget : ℕ) (sound : Type 0) where
         settled c.0 xs new (answer_wide stories budget sound holders old x c.0 wide c.1) c.2 i t is
 
     begins_all : (old : List (List Entry)) (ts : List AnsweredLine) (new : List (List Entry))
-        → length old ≡ 64
-        → AnswersInOrder stories budget sound holders old ts new
-        → (i : ℕ) (t : AnsweredLine)
-        → IsTurn ts i t → length (seen_at old t.mark.session) ≤ t.mark.length
+        → length old ≡ 64 → AnswersInOrder stories budget sound holders old ts new
+        → (i : ℕ) (t : AnsweredLine) → IsTurn ts i t
+        → length (seen_at old t.mark.session) ≤ t.mark.length
     begins_all old [] new wide c i t is = absurd (none_some t is)
     begins_all old (x ∷ xs) new wide c zero t is =
         let s = first_stands old x xs new wide c in
@@ -246,18 +226,16 @@ module _ (stories : List Story) (budget : ℕ) (sound : Type 0) where
         (answer_wide stories budget sound holders old x c.0 wide c.1) c.2 i t is in
         let g = answer_grows stories budget sound holders old x c.0 wide c.1 t.mark.session in
         let a = ap (λ (l : List Entry). length l) g.1 in
-        let b = length_both (seen_at old t.mark.session) g.0 in omega arith
+        let b = length-append (seen_at old t.mark.session) g.0 in omega arith
 
     abbrev Rises : List (List Entry) → AnsweredLine → AnsweredLine → Type 0
     Rises new t u = (t.mark.length ≤ u.mark.length)
         × (AddsItsEntry stories budget holders new t → t.mark.length < u.mark.length)
 
     rises_all : (old : List (List Entry)) (ts : List AnsweredLine) (new : List (List Entry))
-        → length old ≡ 64
-        → AnswersInOrder stories budget sound holders old ts new
-        → (i j : ℕ) (t u : AnsweredLine)
-        → IsTurn ts i t → IsTurn ts j u → i < j → t.mark.session ≡ u.mark.session
-        → Rises new t u
+        → length old ≡ 64 → AnswersInOrder stories budget sound holders old ts new
+        → (i j : ℕ) (t u : AnsweredLine) → IsTurn ts i t → IsTurn ts j u → i < j
+        → t.mark.session ≡ u.mark.session → Rises new t u
     rises_all old [] new wide c i j t u is at low same = absurd (none_some t is)
     rises_all old (x ∷ xs) new wide c i zero t u is at low same = absurd (omega arith)
     rises_all old (x ∷ xs) new wide c zero (suc j) t u is at low same =
@@ -276,13 +254,13 @@ module _ (stories : List Story) (budget : ℕ) (sound : Type 0) where
 
     once_all : (old : List (List Entry)) (ts : List AnsweredLine) (new : List (List Entry))
         → length old ≡ 64 → AnswersInOrder stories budget sound holders old ts new
-        → (s place : ℕ) (e : Entry)
-        → length (seen_at old s) ≤ place → slice_get (seen_at new s) place ≡ Some e
+        → (s place : ℕ) (e : Entry) → length (seen_at old s) ≤ place
+        → slice_get (seen_at new s) place ≡ Some e
         → IsAmong (entry_by e) (holder_at holders s).holds
         → AddedOnce stories budget holders new ts s place
     once_all old [] new wide c s place e low is held =
-        absurd (nothing_past (seen_at new s) place e
-        (subst (λ (x : List (List Entry)). length (seen_at x s) ≤ place) (sym c) low) is)
+        absurd (none_some e (sym (slice_get_past (seen_at new s) place
+        (subst (λ (x : List (List Entry)). length (seen_at x s) ≤ place) (sym c) low)) ∙ is))
     once_all old (x ∷ xs) new wide c s place e low is held =
         of (λ past. once_all c.0 xs new
         (answer_wide stories budget sound holders old x c.0 wide c.1) c.2
@@ -307,8 +285,7 @@ module _ (stories : List Story) (budget : ℕ) (sound : Type 0) where
         }
           where
             only_later : (j : ℕ) (u : AnsweredLine) → IsTurn (x ∷ xs) j u → u.mark.session ≡ s
-                → u.mark.length ≡ place
-                → AddsItsEntry stories budget holders new u
+                → u.mark.length ≡ place → AddsItsEntry stories budget holders new u
                 → j ≡ suc r.which
             only_later (suc j) u at session long adds = ap suc (r.only j u at session long adds)
             only_later zero u at session long adds = let same = same_some x u at in
@@ -351,7 +328,7 @@ module _ (stories : List Story) (budget : ℕ) (sound : Type 0) where
             (λ (other : s ≢ x.mark.session). let a = ap (λ (l : List Entry). length l)
             (seen_elsewhere stories budget sound holders old x c.0 s other c.1) in
             absurd (omega arith))
-            (eq_or_ne s x.mark.session)
+            (cases_eq s x.mark.session)
 
     abbrev AllAlone : Type 0
     AllAlone = (s : ℕ) → IsAloneHolder (holder_at holders s)

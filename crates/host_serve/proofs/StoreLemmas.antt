@@ -3,6 +3,7 @@ use Rattle.std.proofs.Common.{◌≡◌, ℕ, zero, suc, ◌<◌, Bool, List, []
 use Rattle.std.proofs.Common.{sym, ◌∙◌, subst, arith, append_assoc, Some, IsTrue}
 use Rattle.std.specs.Prelude.{slice_get}
 use Rattle.std.specs.List.{AllZip}
+use Rattle.std.proofs.lemmas.List.{length-append}
 use Rattle.gate_journal.specs.declared.fault.JournalFault.{JournalFault}
 use Rattle.snap_store.specs.Store.{Snapshots}
 use Rattle.snap_store.specs.declared.fault.DiskFault.{DiskFault as StoreFault}
@@ -15,31 +16,15 @@ use Rattle.host_serve.specs.Hosts.{IsSound, rows_at_opening, opened_stores}
 use Rattle.host_serve.specs.declared.fault.OpenFault.{OpenFault}
 use Rattle.host_serve.specs.declared.fault.OpenFault.TheVariants as faults
 use Rattle.host_serve.specs.Opening.{AreAgreed, IsOfStores, IsStoreOf, OnJournal, OnStore}
-use Rattle.host_serve.proofs.ListLemmas.{length_both, none_some, same_some}
+use Rattle.host_serve.proofs.ListLemmas.{get_last, none_some, same_some}
 
 module _ {A : Type 0} where
-  pub get_first : (xs : List A) (x : A) (s : ℕ) → s < length xs
-      → slice_get (xs ++ x ∷ []) s ≡ slice_get xs s
-  get_first [] x s low = absurd (omega arith)
-  get_first (y ∷ xs) x zero low = refl
-  get_first (y ∷ xs) x (suc s) low = get_first xs x s (omega arith)
-
-  pub get_last : (xs rest : List A) (x : A) → slice_get (xs ++ x ∷ rest) (length xs) ≡ Some x
-  get_last [] rest x = refl
-  get_last (y ∷ xs) rest x = get_last xs rest x
-
-  -- what stands somewhere stands before the end
-  pub get_within : (xs : List A) (s : ℕ) (x : A) → slice_get xs s ≡ Some x → s < length xs
-  get_within [] s x is = absurd (none_some x is)
-  get_within (y ∷ xs) zero x is = omega arith
-  get_within (y ∷ xs) (suc s) x is = let low = get_within xs s x is in omega arith
-
   -- the first ones are fewer than all
   pub fewer_before : (all done rest : List A) (x : A) → all ≡ done ++ x ∷ rest
       → length done < length all
   fewer_before all done rest x is =
       let a = ap (λ (l : List A). length l) is in
-      let b = length_both done (x ∷ rest) in omega arith
+      let b = length-append done (x ∷ rest) in omega arith
 
   pub stands_behind : (all done rest : List A) (x : A) (s : ℕ) → all ≡ done ++ x ∷ rest
       → s ≡ length done → slice_get all s ≡ Some x
@@ -54,12 +39,6 @@ module _ {A : Type 0} where
   get_below (y ∷ xs) (suc s) low = get_below xs s (omega arith)
 
 module _ {A B : Type 0} (R : A → B → Type 0) where
-  pub zip_long : (xs : List A) (ys : List B) → AllZip R xs ys → length ys ≡ length xs
-  zip_long [] [] z = refl
-  zip_long [] (y ∷ ys) z = absurd z
-  zip_long (x ∷ xs) [] z = absurd z
-  zip_long (x ∷ xs) (y ∷ ys) z = ap suc (zip_long xs ys z.1)
-
   pub zip_more : (xs : List A) (ys : List B) (x : A) (y : B) → AllZip R xs ys → R x y
       → AllZip R (xs ++ x ∷ []) (ys ++ y ∷ [])
   zip_more [] [] x y z r = (r, tt)

@@ -1,5 +1,5 @@
 -- From a conversation to the turns of its lines.
-use Rattle.std.proofs.Common.{◌≡◌, ℕ, ◌^◌, ◌≤◌, List, [], ◌∷◌, ◌++◌, length, map, Option, None}
+use Rattle.std.proofs.Common.{◌≡◌, ℕ, ◌^◌, ◌≤◌, List, [], ◌∷◌, ◌++◌, length, map, Option}
 use Rattle.std.proofs.Common.{Bool, true, false, refl, ap, sym, ◌∙◌, subst, inl, inr, append_assoc}
 use Rattle.std.proofs.Common.{arith}
 use Rattle.std.proofs.lemmas.List.{map-append}
@@ -22,7 +22,6 @@ use Rattle.host_serve.specs.declared.answer.Answer.{Answer}
 use Rattle.host_serve.specs.declared.host.Host.{Host}
 use Rattle.host_serve.specs.declared.mark.Mark.{Mark}
 use Rattle.host_serve.specs.declared.served.Served.{Served}
-use Rattle.host_serve.specs.declared.served.Served.TheVariants.{End, ReadFault, WriteFault}
 use Rattle.host_serve.specs.declared.served.Served.TheVariants.{NoMemory}
 use Rattle.host_serve.specs.Chain.{Answers, AnswersInOrder}
 use Rattle.host_serve.specs.Holders.{Holder}
@@ -37,6 +36,15 @@ pub use Rattle.host_serve.proofs.EndedLemmas.{not_end, read_failed, write_failed
 
 -- `sound` says that a host is sound
 module _ {D : Type 0} (sound : Host D → Type 0) where
+  -- the turns of a host that speaks, in order, and what they serve
+  abbrev InOrder : Speaking D → List AnsweredLine → List (List Entry) → Type 0
+  InOrder old turns new = AnswersInOrder old.host.stories.now old.host.budget (sound old.host)
+      old.holders old.seen turns new
+
+  abbrev Serving : Speaking D → List AnsweredLine → List (List Entry) → Type 0
+  Serving old turns new = ServesLines old.host.stories.now old.host.budget (sound old.host)
+      old.holders old.seen turns new
+
   -- one answer, as a host speaks it
   pub speaks_of : (old : Speaking D) (line : Line) (holders : List Holder)
       (seen : List (List Entry))
@@ -63,14 +71,12 @@ module _ {D : Type 0} (sound : Host D → Type 0) where
   }
 
   -- the turns of lines that were answered
-  record SpokenTurns (old : Speaking D) (answered : List (List ℕ)) (texts : List (List ℕ))
-      (new : Speaking D) : Type 0 where
+  record SpokenTurns (old : Speaking D) (answered texts : List (List ℕ)) (new : Speaking D)
+      : Type 0 where
     pub turns : List AnsweredLine
     pub lines : map line_of turns ≡ answered
     pub replies : texts ≡ map print_reply (map reply_of turns)
-    pub chain : AnswersInOrder old.host.stories.now old.host.budget
-        (sound old.host) old.holders old.seen
-        turns new.seen
+    pub chain : InOrder old turns new.seen
     pub after : new ≡ seen_and_marked old new.seen (old.marks ++ map mark_of turns)
 
   abbrev never : Speaking D → Bool
@@ -115,12 +121,9 @@ module _ {D : Type 0} (sound : Host D → Type 0) where
 
   -- what was said of some lines that were answered
   record SaidAll (old : Speaking D) (answered : List (List ℕ)) (new : Speaking D)
-      (turns : List AnsweredLine)
-      : Type 0 where
+      (turns : List AnsweredLine) : Type 0 where
     pub lines : map line_of turns ≡ answered
-    pub chain : AnswersInOrder old.host.stories.now old.host.budget
-        (sound old.host) old.holders old.seen
-        turns new.seen
+    pub chain : InOrder old turns new.seen
     pub after : new ≡ seen_and_marked old new.seen (old.marks ++ map mark_of turns)
 
   -- all replies were written whole
@@ -192,12 +195,7 @@ module _ {D : Type 0} (sound : Host D → Type 0) where
     abbrev pub Told : Served → Type 0
     Told served = (turns : List AnsweredLine)
         × TellsLink turns input now output written old.marks new.marks served
-        × AnswersInOrder old.host.stories.now old.host.budget
-        (sound old.host) old.holders old.seen turns
-        new.seen
-        × ServesLines old.host.stories.now old.host.budget
-        (sound old.host) old.holders old.seen turns
-        new.seen
+        × InOrder old turns new.seen × Serving old turns new.seen
         × (new ≡ seen_and_marked old new.seen new.marks)
 
     tell : (served : Served) (read : List ℕ) (answered : List (List ℕ)) (turns : List AnsweredLine)
@@ -294,24 +292,15 @@ module _ {D : Type 0} (sound : Host D → Type 0) where
         (marks : List Mark) → served ≡ served_of ended → seen ≡ new.seen → marks ≡ new.marks
         → (turns : List AnsweredLine)
         × TellsLink turns input now output written old.marks marks served
-        × AnswersInOrder old.host.stories.now old.host.budget
-        (sound old.host) old.holders old.seen turns
-        seen
-        × ServesLines old.host.stories.now old.host.budget
-        (sound old.host) old.holders old.seen turns
-        seen
+        × InOrder old turns seen × Serving old turns seen
     told_at ended talks served seen marks is_served is_seen is_marks =
         let t = told_of ended talks in (
           t.0,
           subst
               (λ (x : Served × List Mark). TellsLink t.0 input now output written old.marks x.1 x.0)
               (λ i. (sym is_served i, sym is_marks i)) t.1,
-          subst (λ (x : List (List Entry)). AnswersInOrder old.host.stories.now old.host.budget
-              (sound old.host) old.holders old.seen t.0 x)
-              (sym is_seen) t.2,
-          subst (λ (x : List (List Entry)). ServesLines old.host.stories.now old.host.budget
-              (sound old.host) old.holders old.seen t.0 x)
-              (sym is_seen) t.3,
+          subst (InOrder old t.0) (sym is_seen) t.2,
+          subst (Serving old t.0) (sym is_seen) t.3,
         )
 
     pub told_holders : (ended : Ended) → Talks ended → new.holders ≡ old.holders
@@ -322,11 +311,7 @@ module _ {D : Type 0} (sound : Host D → Type 0) where
       → length old.holders ≡ 64 → length old.seen ≡ 64
       → (turns : List AnsweredLine)
       × TellsLink turns input input output output old.marks old.marks NoMemory
-      × AnswersInOrder old.host.stories.now old.host.budget
-      (sound old.host) old.holders old.seen turns
-      old.seen
-      × ServesLines old.host.stories.now old.host.budget (sound old.host) old.holders old.seen turns
-      old.seen
+      × InOrder old turns old.seen × Serving old turns old.seen
   told_nothing old input output many wide =
       let t =
       tell old old input input output output many wide NoMemory [] [] [] [] (gave_none input)

@@ -1,5 +1,6 @@
 use Rattle.std.proofs.Common.{◌++◌, ap, ◌∙◌, arith}
-use Rattle.host_serve.proofs.StoreLemmas.{fewer_before, stands_behind, stores_pushed, zip_long}
+use Rattle.std.proofs.lemmas.Slice.Zip.{AllZip-long}
+use Rattle.host_serve.proofs.StoreLemmas.{fewer_before, stands_behind, stores_pushed}
 use Rattle.host_serve.proofs.desks.open_stores.Goals as goal
 
 pub push_reserved-requires : goal.push_reserved-requires
@@ -7,7 +8,7 @@ push_reserved-requires g c =
     let o = c.loop-disk.invariant.opened in
     let low = fewer_before _ o.0 _ c.in-Some.disk
     (o.1 ∙ ap (λ l. o.0 ++ l) c.in-Some.ensures.steps.0) in
-    let long = zip_long _ o.0 c.loop-disk.stores.items o.2 in
+    let long = AllZip-long _ o.0 c.loop-disk.stores.items o.2 in
     let many = c.requires.many in
     let is = c.loop-disk.stores.ok.0 in
     let room = c.loop-disk.invariant.room in
@@ -42,7 +43,7 @@ returns-in-Err-clause-err g c =
       given = stands_behind _ o.0 _ c.in-Some.disk c.len-session.result
           (o.1 ∙ ap (λ l. o.0 ++ l) c.in-Some.ensures.steps.0)
           (c.len-session.ensures ∙ (c.loop-disk.stores.ok.0
-          ∙ zip_long _ o.0 c.loop-disk.stores.items o.2));
+          ∙ AllZip-long _ o.0 c.loop-disk.stores.items o.2));
       cause = c.in-Err.ensures.cause;
       kept = c.in-Err.ensures.kept;
     }

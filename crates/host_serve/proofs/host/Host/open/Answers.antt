@@ -1,13 +1,14 @@
 use Rattle.std.proofs.Common.{subst, sym, ◌∙◌}
+use Rattle.std.proofs.lemmas.Slice.Zip.{AllZip-long}
 use Rattle.gate_journal.specs.Log.{Opening, rows_of}
 use Rattle.host_serve.specs.Opening.{IsOpenedHost}
 use Rattle.host_serve.proofs.OpeningLemmas.{opening_on}
-use Rattle.host_serve.proofs.StoreLemmas.{AreStoresOf, sound_of, zip_long}
+use Rattle.host_serve.proofs.StoreLemmas.{AreStoresOf, sound_of}
 use Rattle.host_serve.proofs.host.Host.open.Goals as goal
 
 pub open_over-requires-clause-many : goal.open_over-requires-clause-many
 open_over-requires-clause-many g c =
-    zip_long _ c.args.snaps.items _ c.in-Ok-open_stores.ensures.ok ∙ c.requires.snaps
+    AllZip-long _ c.args.snaps.items _ c.in-Ok-open_stores.ensures.ok ∙ c.requires.snaps
 
 pub returns-in-Ok-open_over-clause-ok : goal.returns-in-Ok-open_over-clause-ok
 returns-in-Ok-open_over-clause-ok g c = (
