@@ -15,8 +15,9 @@ use Rattle.store_events.specs.declared.state.Step.{Step}
 use Rattle.store_events.specs.declared.state.Step.TheVariants.{Idle, Put, Opening}
 use Rattle.store_events.specs.declared.state.StoreState.{StoreState}
 use Rattle.store_events.specs.Disk.{fault_counted, disk_after, may_work}
-use Rattle.store_events.specs.Events.{begins_opening, has_room, keep_at, next_store_call, put_begins}
-use Rattle.store_events.specs.Events.{store_called, store_comes_up, store_onward, store_stopped}
+use Rattle.store_events.specs.Events.{begins_opening, has_room, keep_at, next_store_call}
+use Rattle.store_events.specs.Events.{put_begins, store_called, store_comes_up, store_onward}
+use Rattle.store_events.specs.Events.{store_stopped}
 use Rattle.store_events.specs.Steady.{HasStep, IsSettled}
 use Rattle.store_events.proofs.ImageLemmas.{look_leaves, stays_bad, sync_leaves}
 
@@ -62,7 +63,8 @@ module _ (P : StoreState → Type 0) (w : StoreState) (was : P w) where
       → P (store_called w false reads step (Some call))
   bad_call step call reads then_ =
       if_enabled (is_image (disk_after call false reads w.disk) reads)
-      (fails (disk_after call false reads w.disk)) (λ told. then_ (stays_bad call reads w.disk told))
+      (fails (disk_after call false reads w.disk))
+      (λ told. then_ (stays_bad call reads w.disk told))
 
   -- ---- a call of an opening
 

@@ -177,7 +177,8 @@ module _ (place least : ℕ) (w : StoreState) (steady : IsSteady w)
           (omega (arith, same.1, has.since))
       of (inr beside) =
           beside_has place least w.slots (taken_side w.slots) slot has.count
-          (subst (λ (s : Side). slot_of w.slots s ≡ Open place has.count) beside has.open_there) has.since
+          (subst (λ (s : Side). slot_of w.slots s ≡ Open place has.count) beside has.open_there)
+          has.since
 
   loose_shut : (p n : ℕ) → loosened (Open p n) ≡ Open p n → ⊥
   loose_shut p n is = cc
@@ -192,10 +193,12 @@ module _ (place least : ℕ) (w : StoreState) (steady : IsSteady w)
       of (inl own) =
           absurd (loose_shut place has.count
           (subst (λ (s : Slot). loosened s ≡ s)
-          (subst (λ (s : Side). slot_of w.slots s ≡ Open place has.count) own has.open_there) putting.loose))
+          (subst (λ (s : Side). slot_of w.slots s ≡ Open place has.count) own has.open_there)
+          putting.loose))
       of (inr beside) =
           beside_has place least w.slots side slot has.count
-          (subst (λ (s : Side). slot_of w.slots s ≡ Open place has.count) beside has.open_there) has.since
+          (subst (λ (s : Side). slot_of w.slots s ≡ Open place has.count) beside has.open_there)
+          has.since
 
   put_has : (side : Side) (area : Stored) → IsPutting w side area → HasSince place least w.slots
       → (stage : Stage) (call : DiskCall) (reads : List ℕ)
@@ -214,7 +217,8 @@ module _ (place least : ℕ) (w : StoreState) (steady : IsSteady w)
 
   up_has : HasSince place least w.slots → HasSince place least (store_comes_up w).slots
   up_has has =
-      let there = (shown w steady w.disk.seen steady.reads).synced has.side place has.count has.open_there in
+      let there = (shown w steady w.disk.seen steady.reads).synced has.side place has.count
+      has.open_there in
       let slot = slot_shown has.side w.disk.seen there.0 there.2 in record {
         side = has.side;
         count = has.count;
