@@ -1,6 +1,6 @@
 -- One item of a list set.
-use Rattle.std.proofs.Common.{List, None, Some, [], ap, false, map, refl, set, suc, sym, true, zero, ℕ}
-use Rattle.std.proofs.Common.{◌∷◌, ◌≡◌, ◌≢◌}
+use Rattle.std.proofs.Common.{List, None, Some, [], ap, false, map, refl, set, suc, sym, true}
+use Rattle.std.proofs.Common.{zero, ℕ, ◌∷◌, ◌≡◌, ◌≢◌}
 use Rattle.std.specs.List.{slice_get}
 
 pub some_same : {A : Type 0} (x y : A) → Some x ≡ Some y → x ≡ y

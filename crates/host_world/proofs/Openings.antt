@@ -43,7 +43,8 @@ use Rattle.host_world.specs.declared.state.Step.TheVariants.{ReadAll, RepairSync
 use Rattle.host_world.specs.declared.state.Step.TheVariants.{RowSync, RowWrite}
 use Rattle.host_world.specs.declared.turn.Session.{Session}
 use Rattle.host_world.specs.declared.turn.Turn.{Turn}
-use Rattle.host_world.proofs.AppendCalls.{broken_well, goes_on, open_syncs_good, opens_good, seen_is}
+use Rattle.host_world.proofs.AppendCalls.{broken_well, goes_on, open_syncs_good, opens_good}
+use Rattle.host_world.proofs.AppendCalls.{seen_is}
 use Rattle.host_world.proofs.AppendCalls.{shut_syncs_good, shuts_good, write_syncs_good}
 use Rattle.host_world.proofs.AppendCalls.{writes_good}
 use Rattle.host_world.proofs.Appends.{SameHost, begun_well}
@@ -123,8 +124,8 @@ module _ (stories : List Story) (budget : ℕ) (premise : AreGiven stories budge
           → Knows stories budget (first s) (past s ++ news s w risen) risen s x
       each s x at =
           let f = found_at rows s x at in
-          subst (λ (q : Session). Knows stories budget (first s) (past s ++ news s w risen) risen s q)
-          f.1
+          subst (λ (q : Session). Knows stories budget (first s) (past s ++ news s w risen) risen s
+          q) f.1
           (subst (λ (l : List Happening). Knows stories budget (first s) (past s ++ l) risen s
           (found_session rows s)) (sym (told s)) (known s f.0))
 
@@ -234,7 +235,8 @@ module _ (stories : List Story) (budget : ℕ) (premise : AreGiven stories budge
 
     module _ (reads : List ℕ) where
       -- a good call with which the host stays as up as it was
-      makes : (made : DiskCall) (step : Step) → (onward (with_disk v made true reads) step).up ≡ v.up
+      makes : (made : DiskCall) (step : Step)
+          → (onward (with_disk v made true reads) step).up ≡ v.up
           → (may_work made ≡ true
           → Sound stories budget first past (onward (with_disk v made true reads) step))
           → Well (if may_work made then onward (with_disk v made true reads) step else w)

@@ -66,7 +66,8 @@ module _ (stories : List Story) (budget : ℕ) where
           → RowsFact stories budget m v.rows v.uncertain z v.up
           → RowsFact stories budget m rows u z v.up
 
-    pub rephased : Sound stories budget first past v → Rephasing → Sound stories budget first past new
+    pub rephased : Sound stories budget first past v → Rephasing
+        → Sound stories budget first past new
     rephased sound m = record {
       stays = m.stays;
       images = m.images;
@@ -95,7 +96,8 @@ module _ (stories : List Story) (budget : ℕ) where
               subst (λ (q : Session). Knows stories budget (first k) (past k) new k q) is
               (subst (λ (i : ℕ). Knows stories budget (first i) (past i) new i asker) (sym same) it)
           | inr other ↦
-              let known = sound.each k z (sym (get_else v.sessions s k asker other) ∙ at) in record {
+              let known =
+              sound.each k z (sym (get_else v.sessions s k asker other) ∙ at) in record {
                 turn = known.turn;
                 replies = known.replies;
                 rows = m.elsewhere k z other known.rows;

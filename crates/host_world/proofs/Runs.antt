@@ -124,7 +124,8 @@ module _ (stories : List Story) (budget : ℕ) (premise : AreGiven stories budge
       give_kept stories budget first past w sound s (slice_get w.sessions s) refl
   event_well first past w (Stop images) sound = stop_well stories budget first past w sound images
   event_well first past w Recover sound =
-      untold stories budget first past (after stories budget w Recover) (recover_well first past w sound w.up refl)
+      untold stories budget first past (after stories budget w Recover)
+      (recover_well first past w sound w.up refl)
 
   pub run_well : (events : List Event) (first : ℕ → List Entry) (past : ℕ → List Happening)
       (w : HostState) → Sound stories budget first past w

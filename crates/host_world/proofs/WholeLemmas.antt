@@ -143,9 +143,10 @@ module _ (stories : List Story) where
         → EachInAgreement stories budget (whole_after stories budget w event)
     each_agrees event own all s y at =
         let found = files_of stories w event own s y at in
-        grown stories s y w.host.rows (run stories budget w.host (to_host w event)).rows sound.journal
-        (rows_grow event)
-        (step_agrees stories (session_in_rows w.host.rows s found.0) y found.2 (all s found.0 found.1))
+        grown stories s y w.host.rows (run stories budget w.host (to_host w event)).rows
+        sound.journal (rows_grow event)
+        (step_agrees stories (session_in_rows w.host.rows s found.0) y found.2
+        (all s found.0 found.1))
 
     session_dates : (event : WholeEvent) → IsOwnPut stories w event → (s : ℕ)
         → EachInAgreement stories budget w
