@@ -1,6 +1,6 @@
 -- The entry of a turn, as its history takes it.
-use Rattle.std.proofs.Common.{List, None, Option, Some, [], ap, arith, length, length-append, subst}
-use Rattle.std.proofs.Common.{sym, ℕ, ◌++◌, ◌<◌, ◌∙◌, ◌∷◌, ◌≡◌, ◌≤◌}
+use Rattle.std.proofs.Common.{List, None, Option, Some, [], ap, arith, length, length-append, refl}
+use Rattle.std.proofs.Common.{subst, sym, ℕ, ◌++◌, ◌<◌, ◌∙◌, ◌∷◌, ◌≡◌, ◌≤◌}
 use Rattle.std.specs.List.{slice_get}
 use Rattle.std.specs.Prelude.{IfSome}
 use Rattle.gate_journal.specs.declared.command.Command.{Command}
@@ -13,10 +13,9 @@ use Rattle.session_core.specs.declared.entry.Entry.TheVariants.{Accepted}
 use Rattle.session_core.specs.declared.entry.Outcome.{Outcome}
 use Rattle.session_core.specs.declared.entry.Outcome.TheVariants.{Answered, DiskFailed, Forgotten}
 use Rattle.session_core.specs.declared.entry.Outcome.TheVariants.{OutOfMemory}
-use Rattle.host_world.specs.Events.{accept, accept_at, accept_turn, with_session}
-use Rattle.host_world.specs.Sessions.{taken_in, taking, with_entry, with_taken}
+use Rattle.host_world.specs.Events.{accept_at}
+use Rattle.host_world.specs.Sessions.{taken_in, with_entry}
 use Rattle.host_world.specs.declared.state.HostState.{HostState}
-use Rattle.host_world.specs.declared.turn.Phase.{Phase}
 use Rattle.host_world.specs.declared.turn.Phase.TheVariants.{Ready, Taken}
 use Rattle.host_world.specs.declared.turn.Session.{Session}
 use Rattle.host_world.specs.declared.turn.Turn.{Turn}
@@ -77,11 +76,4 @@ pub accept_is : (stories : List Story) (budget : ℕ) (w : HostState) (s : ℕ) 
       sessions = taken_in w.sessions s entry (Taken outcome reply) (slice_get w.sessions s);
     } ≡ accept_at stories budget w s (slice_get w.sessions s)
 accept_is stories budget w s x t outcome reply entry at turn phase turned =
-    ap (λ (o : Option Session). record w {
-      sessions = taken_in w.sessions s entry (Taken outcome reply) o;
-    }) at
-    ∙ ap (λ (o : Option Turn). with_session w s (with_taken x entry (Taken outcome reply) o)) turn
-    ∙ sym (ap (λ (o : Option Session). accept_at stories budget w s o) at
-    ∙ ap (λ (o : Option Turn). accept_turn stories budget w s x o) turn
-    ∙ ap (λ (p : Phase). accept stories budget w s x t p) phase
-    ∙ ap (λ (z : _). with_session w s (taking t outcome z)) turned)
+    rw (at, turn, phase, turned) refl

@@ -11,7 +11,6 @@ use Rattle.gate_journal.specs.Command.{HasDigest, IsBudget, IsCommand}
 use Rattle.gate_journal.specs.Log.{next_row}
 use Rattle.gate_journal.specs.declared.command.Command.{Command}
 use Rattle.gate_journal.specs.declared.row.Row.{Row}
-use Rattle.line_words.specs.Spelling.{number_field}
 use Rattle.story_run.specs.declared.story.Story.{Story}
 use Rattle.host_world.specs.Headline.{AreGiven}
 use Rattle.gate_journal.specs.Rows.{commands_of, is_free, is_close, may_follow, EachNext, IsJournal}

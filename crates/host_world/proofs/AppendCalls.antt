@@ -22,7 +22,7 @@ use Rattle.disk_model.specs.Plain.{is_image}
 use Rattle.store_events.specs.Disk.{fault_counted, disk_after, may_work}
 use Rattle.host_world.specs.Happenings.{Happening, history_left}
 use Rattle.host_world.specs.Headline.{AreGiven}
-use Rattle.host_world.specs.Journal.{broken, next_call, onward, past_gate}
+use Rattle.host_world.specs.Journal.{broken, next_call, onward, past_gate, with_fault}
 use Rattle.host_world.specs.Pending.{command_listed, pending, pending_at, pending_of}
 use Rattle.host_world.specs.Sessions.{in_phase, phase_set, turn_set}
 use Rattle.store_events.specs.declared.disk.DiskCall.{DiskCall}
@@ -129,38 +129,39 @@ module _ (stories : List Story) (budget : ℕ) (premise : AreGiven stories budge
     only P here c image = subst P (sym (only_settled v.disk.seen c image)) here
 
     abbrev after_call : DiskCall → HostState
-    after_call call = record v { disk = disk_after call true reads v.disk }
+    after_call call = record v { disk = reading_after call }
+
+    -- a good call that changes no more than the disk and the step
+    pub goes_on : (call : DiskCall) (step next : Step) → StepFact stories budget v step
+        → next_call v.rows step ≡ Some call
+        → StepFact stories budget (record v { disk = reading_after call; step = next }) next
+        → Sound stories budget first past (record v { disk = reading_after call; step = next })
+    goes_on call step next fact is now =
+        stepped stories budget first past v (reading_after call) v.faults v.uncertain next sound
+        (stays_after call reads v.disk sound.stays)
+        (images_after stories budget v step fact sound.stays sound.images true reads call is)
+        sound.next now (λ k z at f. f)
 
     pub shuts_good : (r : Row) (n : ℕ)
         → may_work (Write (length (journal_bytes v.rows)) (0 ∷ [])) ≡ true
         → StepFact stories budget v (RepairWrite r n)
         → Sound stories budget first past
-        (onward (record v {
-          disk =
-              disk_after (Write (length (journal_bytes v.rows)) (0 ∷ [])) true reads v.disk;
-        })
-        (RepairWrite r n))
+        (onward (after_call (Write (length (journal_bytes v.rows)) (0 ∷ []))) (RepairWrite r n))
     shuts_good r n fits fact =
         let call = Write (length (journal_bytes v.rows)) (0 ∷ []) in
         let old : IsUnsure (journal_bytes v.rows) (past_gate fact.1.0) v.disk.seen =
         subst (λ (o : Option Row). StandsInImage v.rows o v.disk.seen) fact.1.1
         (sound.images v.disk.seen sound.stays) in
-        stepped stories budget first past v (reading_after call) v.faults v.uncertain
-        (RepairSync r n) sound (stays_after call reads v.disk sound.stays)
-        (images_after stories budget v
-        (RepairWrite r n) fact sound.stays sound.images true reads call refl) sound.next (
+        goes_on call (RepairWrite r n) (RepairSync r n) fact refl (
           busy_on r (reading_after call) v.faults v.uncertain (RepairSync r n) fact.0,
-          subst
-              (λ (l : List ℕ). IsShut (journal_bytes v.rows) l)
+          subst (λ (l : List ℕ). IsShut (journal_bytes v.rows) l)
               (sym (seen_is (length (journal_bytes v.rows)) (0 ∷ []) fits))
               (unsure_written (journal_bytes v.rows) (past_gate fact.1.0)
               (length (journal_bytes v.rows)) refl v.disk.seen old),
         )
-        (λ k z at f. f)
 
     pub shut_syncs_good : (r : Row) (n : ℕ) → StepFact stories budget v (RepairSync r n)
-        → Sound stories budget first past
-        (onward (record v { disk = disk_after Sync true reads v.disk }) (RepairSync r n))
+        → Sound stories budget first past (onward (after_call Sync) (RepairSync r n))
     shut_syncs_good r n fact =
         stepped stories budget first past v (reading_after Sync) v.faults None (RowWrite r n) sound
         (stays_after Sync reads v.disk sound.stays)
@@ -168,38 +169,28 @@ module _ (stories : List Story) (budget : ℕ) (premise : AreGiven stories budge
         (busy_on r (reading_after Sync) v.faults None (RowWrite r n) fact.0, refl)
         (λ k z at f. no_gate k z r fact.0 f)
 
-    pub writes_good : (r : Row) (n : ℕ) → may_work
-        (Write (length (journal_bytes v.rows) + 1) (past_gate r)) ≡ true
+    pub writes_good : (r : Row) (n : ℕ)
+        → may_work (Write (length (journal_bytes v.rows) + 1) (past_gate r)) ≡ true
         → StepFact stories budget v (RowWrite r n)
         → Sound stories budget first past
-        (onward (record v {
-          disk =
-              disk_after (Write (length (journal_bytes v.rows) + 1) (past_gate r))
-              true reads v.disk;
-        })
+        (onward (after_call (Write (length (journal_bytes v.rows) + 1) (past_gate r)))
         (RowWrite r n))
     writes_good r n fits fact =
         let call = Write (length (journal_bytes v.rows) + 1) (past_gate r) in
         let old : IsShut (journal_bytes v.rows) v.disk.seen =
         subst (λ (o : Option Row). StandsInImage v.rows o v.disk.seen) fact.1
         (sound.images v.disk.seen sound.stays) in
-        stepped stories budget first past v (reading_after call) v.faults v.uncertain
-        (RowSync r n) sound (stays_after call reads v.disk sound.stays)
-        (images_after stories budget v
-        (RowWrite r n) fact sound.stays sound.images true reads call refl) sound.next (
+        goes_on call (RowWrite r n) (RowSync r n) fact refl (
           busy_on r (reading_after call) v.faults v.uncertain (RowSync r n) fact.0,
           fact.1,
-          subst
-              (λ (l : List ℕ). IsUnsure (journal_bytes v.rows) (past_gate r) l)
+          subst (λ (l : List ℕ). IsUnsure (journal_bytes v.rows) (past_gate r) l)
               (sym (seen_is (length (journal_bytes v.rows) + 1) (past_gate r) fits))
               (shut_written (journal_bytes v.rows) (past_gate r)
               (length (journal_bytes v.rows) + 1) refl v.disk.seen old),
         )
-        (λ k z at f. f)
 
     pub write_syncs_good : (r : Row) (n : ℕ) → StepFact stories budget v (RowSync r n)
-        → Sound stories budget first past
-        (onward (record v { disk = disk_after Sync true reads v.disk }) (RowSync r n))
+        → Sound stories budget first past (onward (after_call Sync) (RowSync r n))
     write_syncs_good r n fact =
         stepped stories budget first past v (reading_after Sync) v.faults (Some r)
         (GateWrite r n) sound (stays_after Sync reads v.disk sound.stays)
@@ -211,19 +202,13 @@ module _ (stories : List Story) (budget : ℕ) (premise : AreGiven stories budge
         → may_work (Write (length (journal_bytes v.rows)) (1 ∷ [])) ≡ true
         → StepFact stories budget v (GateWrite r n)
         → Sound stories budget first past
-        (onward (record v {
-          disk =
-              disk_after (Write (length (journal_bytes v.rows)) (1 ∷ [])) true reads v.disk;
-        }) (GateWrite r n))
+        (onward (after_call (Write (length (journal_bytes v.rows)) (1 ∷ []))) (GateWrite r n))
     opens_good r n fits fact =
         let call = Write (length (journal_bytes v.rows)) (1 ∷ []) in
         let old : IsUnsure (journal_bytes v.rows) (past_gate r) v.disk.seen =
         subst (λ (o : Option Row). StandsInImage v.rows o v.disk.seen) fact.1
         (sound.images v.disk.seen sound.stays) in
-        stepped stories budget first past v (reading_after call) v.faults v.uncertain
-        (GateSync r n) sound (stays_after call reads v.disk sound.stays)
-        (images_after stories budget v
-        (GateWrite r n) fact sound.stays sound.images true reads call refl) sound.next (
+        goes_on call (GateWrite r n) (GateSync r n) fact refl (
           busy_on r (reading_after call) v.faults v.uncertain (GateSync r n) fact.0,
           fact.1,
           opened_shut v.rows r (past_gate r) (disk_after call true reads v.disk).seen refl
@@ -232,11 +217,10 @@ module _ (stories : List Story) (budget : ℕ) (premise : AreGiven stories budge
               (unsure_opened (journal_bytes v.rows) (past_gate r)
               (length (journal_bytes v.rows)) refl v.disk.seen old)),
         )
-        (λ k z at f. f)
 
     pub open_syncs_good : (r : Row) (n : ℕ) → StepFact stories budget v (GateSync r n)
         → Sound stories budget first past
-        (onward (record v { disk = disk_after Sync true reads v.disk }) (GateSync r n))
+        (onward (after_call Sync) (GateSync r n))
     open_syncs_good r n fact =
         let b = fact.0 in
         let x = b.asker in
@@ -278,27 +262,17 @@ module _ (stories : List Story) (budget : ℕ) (premise : AreGiven stories budge
         → next_call v.rows step ≡ Some call
         → is_image (disk_after call false reads v.disk) reads ≡ true → (r : Row) (n : ℕ)
         → Busy stories budget v r
-        → Sound stories budget first past
-        (broken (record v {
-          disk = disk_after call false reads v.disk;
-          faults =
-              fault_counted v.faults;
-        }) r n)
+        → Sound stories budget first past (broken (with_fault v call reads) r n)
     broken_well call step fact is allowed r n b =
         let x = b.asker in
         let t = b.turn in
-        let phase = Broken n (fault_counted v.faults) in
+        let fault = fault_counted v.faults in
+        let q = disk_after call false reads v.disk in
         subst (λ (l : List Session). Sound stories budget first past
-        (record v {
-          sessions = l;
-          disk = disk_after call false reads v.disk;
-          faults =
-              fault_counted v.faults;
-          step = Idle;
-        })) (sym (set_phase_is r b (Broken n (fault_counted v.faults))))
-        (rephased stories budget first past v r.session x t (Broken n (fault_counted v.faults))
-        (disk_after call false reads v.disk)
-        (fault_counted v.faults) v.rows v.uncertain Idle sound record {
+        (record v { sessions = l; disk = q; faults = fault; step = Idle }))
+        (sym (set_phase_is r b (Broken n fault)))
+        (rephased stories budget first past v r.session x t (Broken n fault) q fault v.rows
+        v.uncertain Idle sound record {
           at = b.at;
           stays = stays_bad call reads v.disk allowed;
           images = images_after stories budget v step fact sound.stays sound.images false reads call
@@ -308,9 +282,9 @@ module _ (stories : List Story) (budget : ℕ) (premise : AreGiven stories budge
           now = tt;
           fact = busy_fact r b;
           here = rows_with stories budget premise r.session v.rows v.uncertain
-              (in_phase x t (Broken n (fault_counted v.faults))) v.up b.up
+              (in_phase x t (Broken n fault)) v.up b.up
               (busy_rows r b ∙ sym (append-nil (commands_in x.history)))
               (nothing_pending stories budget premise v.uncertain r.session
-              (in_phase x t (Broken n (fault_counted v.faults))) refl);
+              (in_phase x t (Broken n fault)) refl);
           elsewhere = λ m z other f. f;
         })

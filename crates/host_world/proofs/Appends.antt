@@ -31,7 +31,8 @@ use Rattle.host_world.specs.declared.turn.Session.{Session}
 use Rattle.host_world.specs.declared.turn.Turn.{Turn}
 use Rattle.host_world.proofs.Accepting.{row_follows}
 use Rattle.host_world.proofs.Lists.{false_true, get_here}
-use Rattle.host_world.proofs.Rephasing.{rephased, up_of}
+use Rattle.host_world.proofs.Phases.{turn_up}
+use Rattle.host_world.proofs.Rephasing.{rephased}
 use Rattle.host_world.proofs.Sound.{Busy, PhaseFact, RowsFact, Sound, StepFact, TurnFact}
 
 module _ (stories : List Story) (budget : ℕ) (premise : AreGiven stories budget) where
@@ -78,7 +79,7 @@ module _ (stories : List Story) (budget : ℕ) (premise : AreGiven stories budge
         })
     begins s x t at turn held phase c accepted =
         let known = sound.each s x at in
-        let up = up_of stories budget s w.rows w.uncertain x t w.up known.rows turn in
+        let up = turn_up stories budget s w.rows w.uncertain x t w.up known.rows turn in
         let none : pending stories budget x ≡ [] =
         ap (λ (o : Option Turn). pending_of stories budget x.history o) turn
         ∙ ap (λ (p : Phase). pending_at stories budget

@@ -95,23 +95,12 @@ ended_alike w false ReadAll call is = refl
 ended_alike w false (CloseWrite rows) call is = refl
 ended_alike w false (CloseSync rows) call is = refl
 
-abbrev on_disk : HostState → DiskCall → Bool → List ℕ → HostState
-on_disk v call good reads = with_disk v call good reads
-
-if_true : (b : Bool) (x y : HostState) → b ≡ true → (if b then x else y) ≡ x
-if_true true x y is = refl
-if_true false x y is = absurd cc
-
-if_false : (b : Bool) (x y : HostState) → b ≡ false → (if b then x else y) ≡ y
-if_false false x y is = refl
-if_false true x y is = absurd cc
-
 may_happens : (w v : HostState) (good : Bool) (reads : List ℕ) (step : Step) (call : DiskCall)
     → may_happen call good reads v.disk ≡ true
     → host_called w v good reads step (Some call)
     ≡ call_ended (with_disk v call good reads) good step
-may_happens w v true reads step call is = if_true _ _ _ is
-may_happens w v false reads step call is = if_true _ _ _ is
+may_happens w v true reads step call is = rw is refl
+may_happens w v false reads step call is = rw is refl
 
 -- a call that is made, of a step that was taken out
 pub call_made : (w v u : HostState) (good : Bool) (reads : List ℕ) (call : DiskCall)
@@ -129,15 +118,5 @@ call_made w v u good reads call next is alike =
 pub call_not_made : (w v : HostState) (good : Bool) (reads : List ℕ) (call : DiskCall)
     → next_call v.rows v.step ≡ Some call → may_happen call good reads v.disk ≡ false
     → w ≡ host_called w v good reads v.step (next_call v.rows v.step)
-call_not_made w v true reads call next is =
-    sym (ap (λ (o : Option DiskCall). host_called w v true reads v.step o) next ∙ if_false _ _ _ is)
-call_not_made w v false reads call next is =
-    sym
-    (ap (λ (o : Option DiskCall). host_called w v false reads v.step o) next ∙ if_false _ _ _ is)
-
--- where there is no next call
-pub call_none : (w v : HostState) (good : Bool) (reads : List ℕ)
-    → next_call v.rows v.step ≡ None
-    → w ≡ host_called w v good reads v.step (next_call v.rows v.step)
-call_none w v good reads next =
-    sym (ap (λ (o : Option DiskCall). host_called w v good reads v.step o) next)
+call_not_made w v true reads call next is = rw (next, is) refl
+call_not_made w v false reads call next is = rw (next, is) refl

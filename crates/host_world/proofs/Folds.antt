@@ -46,20 +46,8 @@ pub replies_to-one : (s : ℕ) (given : List Given) (reply : Reply)
     ≡ given_replies s given ++ reply ∷ []
 replies_to-one s [] reply = ap (λ (b : Bool). if b then reply ∷ [] else []) (eq_self s)
 replies_to-one s (g ∷ given) reply = elim (cases_Bool (g.session == s)) [
-  | inl it_is ↦ ap (λ (b : Bool). if b then g.reply ∷ given_replies s
-      (given ++ record { session = s; reply = reply } ∷ []) else given_replies s
-      (given ++ record { session = s; reply = reply } ∷ [])) it_is
-      ∙ ap (λ (l : List Reply). g.reply ∷ l) (replies_to-one s given reply)
-      ∙ ap (λ (b : Bool).
-      (if b then g.reply ∷ given_replies s given else given_replies s given) ++ reply ∷ [])
-      (sym it_is)
-  | inr not_so ↦ ap (λ (b : Bool). if b then g.reply ∷ given_replies s
-      (given ++ record { session = s; reply = reply } ∷ []) else given_replies s
-      (given ++ record { session = s; reply = reply } ∷ [])) not_so
-      ∙ replies_to-one s given reply
-      ∙ ap (λ (b : Bool).
-      (if b then g.reply ∷ given_replies s given else given_replies s given) ++ reply ∷ [])
-      (sym not_so)
+  | inl it_is ↦ rw it_is (ap (λ (l : List Reply). g.reply ∷ l) (replies_to-one s given reply))
+  | inr not_so ↦ rw not_so (replies_to-one s given reply)
 ]
 
 pub replies_to-other : (s n : ℕ) (reply : Reply) → n ≢ s

@@ -1,7 +1,7 @@
 -- A list of events, one by one, and what holds over it.
-use Rattle.std.proofs.Common.{List, [], ap, arith, drop, get_or, length, refl, subst}
-use Rattle.std.proofs.Common.{suc, sym, zero, ℕ, ◌++◌, ◌+◌, ◌<◌, ◌∙◌, ◌∷◌, ◌≡◌, ◌≤◌}
-use Rattle.std.proofs.lemmas.List.{drop_more}
+use Rattle.std.proofs.Common.{List, [], ap, drop, get_or, length, refl, subst}
+use Rattle.std.proofs.Common.{sym, ℕ, ◌++◌, ◌+◌, ◌<◌, ◌∙◌, ◌∷◌, ◌≡◌, ◌≤◌}
+use Rattle.std.proofs.lemmas.List.{at_drop_all, drop_more}
 use Rattle.std.specs.List.{slice_get}
 use Rattle.story_run.specs.declared.story.Story.{Story}
 use Rattle.host_world.specs.Events.{after, run}
@@ -15,17 +15,11 @@ module _ (stories : List Story) (budget : ℕ) where
   pub run_next : (events : List Event) (i : ℕ) (event : Event) (w v : HostState) → i < length events
       → event ≡ get_or events i event → v ≡ after stories budget w event
       → run stories budget v (drop (i + 1) events) ≡ run stories budget w (drop i events)
-  run_next events i event w v lt here is =
-      ap (λ (u : HostState). run stories budget u (drop (i + 1) events)) is
-      ∙ ap (λ (e : Event). run stories budget (after stories budget w e) (drop (i + 1) events)) here
-      ∙ sym (ap (λ (l : List Event). run stories budget w l) (drop_more events i event lt))
+  run_next events i event w v lt here is = rw (is, drop_more events i event lt, sym here) refl
 
   pub run_end : (events : List Event) (i : ℕ) (w : HostState) → length events ≤ i
       → run stories budget w (drop i events) ≡ w
-  run_end [] zero w le = refl
-  run_end [] (suc i) w le = refl
-  run_end (e ∷ events) zero w le = absurd (omega (arith, le))
-  run_end (e ∷ events) (suc i) w le = run_end events i w (omega (arith, le))
+  run_end events i w le = at_drop_all (λ (l : List Event). run stories budget w l) events i le
 
   pub run-append : (earlier later : List Event) (w : HostState)
       → run stories budget w (earlier ++ later)

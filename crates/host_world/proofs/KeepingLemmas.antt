@@ -19,6 +19,7 @@ use Rattle.session_saves.proofs.GameLemmas.{world_at-all}
 use Rattle.store_events.specs.declared.state.StoreState.{StoreState}
 use Rattle.host_world.specs.Keeping.{HasWorldOf, IsOwnSnapshot, snapshot_of}
 use Rattle.host_world.specs.declared.keeping.Snapshot.{Snapshot}
+use Rattle.host_world.proofs.Lists.{some_none, some_same}
 
 -- ---- rows behind others
 
@@ -81,12 +82,6 @@ if_both (Ok x) f p q = f x p q
 if_both (Err e) f p q = tt
 
 module _ (stories : List Story) where
-  some_same : (x y : Snapshot) → Some x ≡ Some y → x ≡ y
-  some_same x y is = cc
-
-  none_made : (x : Snapshot) → Some x ≡ None → ⊥
-  none_made x is = cc
-
   numbers_of : (game : List Command) (place : ℕ) (snapshot : Snapshot)
       → Some snapshot ≡ snapshot_of stories game place
       → (snapshot.place ≡ place) × (snapshot.count ≡ length (inputs_of game))
@@ -99,7 +94,7 @@ module _ (stories : List Story) where
             bytes = print_fields (fields_of world);
           }) o
           → (snapshot.place ≡ place) × (snapshot.count ≡ length (inputs_of game))
-      of None is = absurd (none_made snapshot is)
+      of None is = absurd (some_none snapshot is)
       of (Some world) is =
           let same = some_same snapshot (record {
             place = place;

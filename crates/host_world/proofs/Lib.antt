@@ -26,5 +26,6 @@ pub mod Stops
 pub mod Turning
 pub mod KeepingLemmas
 pub mod WholeRows
+pub mod WholeFiles
 pub mod WholeLemmas
 pub mod WholeCode

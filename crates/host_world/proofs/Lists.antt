@@ -1,6 +1,6 @@
 -- One item of a list set.
-use Rattle.std.proofs.Common.{List, None, Some, [], ap, false, refl, set, suc, sym, true, zero, ℕ}
-use Rattle.std.proofs.Common.{◌∷◌, ◌≡◌, ◌≢◌}
+use Rattle.std.proofs.Common.{List, None, Some, [], ap, false, map, refl, set, suc, sym, true}
+use Rattle.std.proofs.Common.{zero, ℕ, ◌∷◌, ◌≡◌, ◌≢◌}
 use Rattle.std.specs.List.{slice_get}
 
 pub some_same : {A : Type 0} (x y : A) → Some x ≡ Some y → x ≡ y
@@ -30,3 +30,11 @@ pub set_same : {A : Type 0} (l : List A) (i : ℕ) (x : A) → slice_get l i ≡
 set_same [] i x is = refl
 set_same (a ∷ l) zero x is = ap (λ (y : _). y ∷ l) (sym (some_same a x is))
 set_same (a ∷ l) (suc i) x is = ap (λ (k : List _). a ∷ k) (set_same l i x is)
+
+-- an item of a mapped list comes of one
+pub map_at : {A B : Type 0} (f : A → B) (items : List A) (i : ℕ) (y : B)
+    → slice_get (map f items) i ≡ Some y
+    → (x : A) × (slice_get items i ≡ Some x) × (y ≡ f x)
+map_at f [] i y is = absurd cc
+map_at f (x ∷ items) zero y is = (x, refl, sym (some_same (f x) y is))
+map_at f (x ∷ items) (suc i) y is = map_at f items i y is

@@ -29,7 +29,7 @@ use Rattle.host_world.specs.Events.{after, begun, call_next}
 use Rattle.host_world.specs.Happenings.{Happening, Opened, further, history_left, news, replies_of}
 use Rattle.host_world.specs.Headline.{AreGiven}
 use Rattle.host_world.specs.Journal.{broken, host_called, comes_up}
-use Rattle.host_world.specs.Journal.{looked, next_call, onward, past_gate}
+use Rattle.host_world.specs.Journal.{looked, next_call, onward, past_gate, with_disk, with_fault}
 use Rattle.host_world.specs.Reading.{rows_in}
 use Rattle.host_world.specs.Sessions.{history_found, found_session, found_sessions}
 use Rattle.store_events.specs.declared.disk.DiskCall.{DiskCall}
@@ -43,7 +43,8 @@ use Rattle.host_world.specs.declared.state.Step.TheVariants.{ReadAll, RepairSync
 use Rattle.host_world.specs.declared.state.Step.TheVariants.{RowSync, RowWrite}
 use Rattle.host_world.specs.declared.turn.Session.{Session}
 use Rattle.host_world.specs.declared.turn.Turn.{Turn}
-use Rattle.host_world.proofs.AppendCalls.{broken_well, open_syncs_good, opens_good, seen_is}
+use Rattle.host_world.proofs.AppendCalls.{broken_well, goes_on, open_syncs_good, opens_good}
+use Rattle.host_world.proofs.AppendCalls.{seen_is}
 use Rattle.host_world.proofs.AppendCalls.{shut_syncs_good, shuts_good, write_syncs_good}
 use Rattle.host_world.proofs.AppendCalls.{writes_good}
 use Rattle.host_world.proofs.Appends.{SameHost, begun_well}
@@ -62,91 +63,99 @@ module _ (stories : List Story) (budget : ℕ) (premise : AreGiven stories budge
   module _ (first : ℕ → List Entry) (past : ℕ → List Happening) (w v : HostState)
       (was : Sound stories budget first past w) (same : SameHost stories budget premise w v)
       (sound : Sound stories budget first past v) where
-    opens_well : (p : DiskState) (rows : List Row) → v.up ≡ false → IsDiskImage p p.seen
-        → ((c : List ℕ) → IsDiskImage p c → IsShut (journal_bytes rows) c) → IsJournal rows
-        → (rows ≡ w.rows) ⊎ ((u : Row) × (w.uncertain ≡ Some u) × (rows ≡ w.rows ++ u ∷ []))
-        → CallsWell stories budget first past w (comes_up (record v { disk = p }) rows)
-    opens_well p rows down stays images journal which = record {
-      sound = record {
-        stays = stays;
-        images = images;
-        journal = journal;
-        next = tt;
-        sessions = length-map-range_with_len (found_session rows) 0 64;
-        step = tt;
-        each = each;
-      };
-      reopens = λ were risen. record { rows = which; sessions = refl };
-    }
-      where
-        down_w : w.up ≡ false
-        down_w = sym same.up ∙ down
-
-        told_ : (s : ℕ) → news s w (comes_up (record v { disk = p }) rows)
-            ≡ Opened (further (slice_get w.sessions s) (commands_of rows s)) ∷ []
-        told_ s =
-            ap (λ (b : Bool). if not b && true then Opened
-            (further (slice_get w.sessions s) (commands_of rows s)) ∷ [] else []) down_w
-
-        known : (s : ℕ) → s < 64 → Knows stories budget (first s)
-            (past s ++ Opened (further (slice_get w.sessions s) (commands_of rows s)) ∷ [])
-            (comes_up (record v { disk = p }) rows) s (found_session rows s)
-        known s lt =
-            let old =
-            sound.each s (get_or v.sessions s nobody)
-            (slice_get-get_or v.sessions s nobody (omega (arith, lt, sound.sessions))) in
-            let x = get_or w.sessions s nobody in
-            let at = slice_get-get_or w.sessions s nobody (omega (arith, lt, was.sessions)) in
-            let before = was.each s x at in
-            let fact = of_down stories budget s w.rows w.uncertain x w.up down_w before.rows in
-            let history : x.history ≡ history_left stories budget (first s) (past s) =
-            subst (λ (o : Option Turn). TurnFact stories budget
-            (history_left stories budget (first s) (past s)) x.history o) fact.0 before.turn in
-            let one = one_more_of stories budget w rows s x fact which in
-            let more = further (slice_get w.sessions s) (commands_of rows s) in
-            let is_more : further (slice_get w.sessions s) (commands_of rows s) ≡ one.0 =
-            ap (λ (o : Option Session). further o (commands_of rows s)) at
-            ∙ ap (λ (l : List Command). drop (length (commands_in x.history)) l) one.2
-            ∙ drop_at (commands_in x.history) one.0 (length (commands_in x.history)) refl in
-            let all : commands_of rows s ≡ commands_in
-            (history_left stories budget (first s) (past s)) ++ further (slice_get w.sessions s)
-            (commands_of rows s) =
-            one.2 ∙ ap (λ (l : List Command). commands_in x.history ++ l) (sym is_more)
-            ∙ ap (λ (h : List Entry). commands_in h ++ further (slice_get w.sessions s)
-            (commands_of rows s)) history in
-            record {
-              turn = ap (λ (l : List Command). history_found l) all
-                  ∙ sym (history-push stories budget (first s) (past s) (Opened more ∷ []));
-              replies = old.replies
-                  ∙ sym (append-nil (replies_of stories budget (first s) (past s)))
-                  ∙ sym (replies-push stories budget (first s) (past s) (Opened more ∷ []));
-              rows = (
-                sym (commands-found (commands_of rows s))
-                    ∙ sym (append-nil (commands_in (history_found (commands_of rows s)))),
-                tt,
-              );
-            }
-
-        each : (s : ℕ) (x : Session) → slice_get (found_sessions rows) s ≡ Some x
-            → Knows stories budget (first s)
-            (past s ++ news s w (comes_up (record v { disk = p }) rows))
-            (comes_up (record v { disk = p }) rows) s x
-        each s x at =
-            let f = found_at rows s x at in
-            subst (λ (q : Session). Knows stories budget (first s)
-            (past s ++ news s w (comes_up (record v { disk = p }) rows))
-            (comes_up (record v { disk = p }) rows) s q) f.1
-            (subst (λ (l : List Happening). Knows stories budget (first s) (past s ++ l)
-            (comes_up (record v { disk = p }) rows) s (found_session rows s)) (sym (told_ s))
-            (known s f.0))
-
     abbrev Well : HostState → Type 0
     Well new = CallsWell stories budget first past w new
 
+    -- the rows that an opening may find
+    abbrev Found : List Row → Type 0
+    Found rows =
+        (rows ≡ w.rows) ⊎ ((u : Row) × (w.uncertain ≡ Some u) × (rows ≡ w.rows ++ u ∷ []))
+
+    module _ (p : DiskState) (rows : List Row) (down : v.up ≡ false) (which : Found rows) where
+      abbrev risen : HostState
+      risen = comes_up (record v { disk = p }) rows
+
+      -- what the opening found of a session that it hadn't
+      abbrev more : ℕ → List Command
+      more s = further (slice_get w.sessions s) (commands_of rows s)
+
+      down_w : w.up ≡ false
+      down_w = sym same.up ∙ down
+
+      told : (s : ℕ) → news s w risen ≡ Opened (more s) ∷ []
+      told s = ap (λ (b : Bool). if not b && true then Opened (more s) ∷ [] else []) down_w
+
+      known : (s : ℕ) → s < 64 → Knows stories budget (first s) (past s ++ Opened (more s) ∷ [])
+          risen s (found_session rows s)
+      known s lt =
+          let old =
+          sound.each s (get_or v.sessions s nobody)
+          (slice_get-get_or v.sessions s nobody (omega (arith, lt, sound.sessions))) in
+          let x = get_or w.sessions s nobody in
+          let at = slice_get-get_or w.sessions s nobody (omega (arith, lt, was.sessions)) in
+          let before = was.each s x at in
+          let fact = of_down stories budget s w.rows w.uncertain x w.up down_w before.rows in
+          let history : x.history ≡ history_left stories budget (first s) (past s) =
+          subst (λ (o : Option Turn). TurnFact stories budget
+          (history_left stories budget (first s) (past s)) x.history o) fact.0 before.turn in
+          let one = one_more_of stories budget w rows s x fact which in
+          let is_more : more s ≡ one.0 =
+          ap (λ (o : Option Session). further o (commands_of rows s)) at
+          ∙ ap (λ (l : List Command). drop (length (commands_in x.history)) l) one.2
+          ∙ drop_at (commands_in x.history) one.0 (length (commands_in x.history)) refl in
+          let all : commands_of rows s
+          ≡ commands_in (history_left stories budget (first s) (past s)) ++ more s =
+          one.2 ∙ ap (λ (l : List Command). commands_in x.history ++ l) (sym is_more)
+          ∙ ap (λ (h : List Entry). commands_in h ++ more s) history in
+          record {
+            turn = ap (λ (l : List Command). history_found l) all
+                ∙ sym (history-push stories budget (first s) (past s) (Opened (more s) ∷ []));
+            replies = old.replies
+                ∙ sym (append-nil (replies_of stories budget (first s) (past s)))
+                ∙ sym (replies-push stories budget (first s) (past s) (Opened (more s) ∷ []));
+            rows = (
+              sym (commands-found (commands_of rows s))
+                  ∙ sym (append-nil (commands_in (history_found (commands_of rows s)))),
+              tt,
+            );
+          }
+
+      each : (s : ℕ) (x : Session) → slice_get (found_sessions rows) s ≡ Some x
+          → Knows stories budget (first s) (past s ++ news s w risen) risen s x
+      each s x at =
+          let f = found_at rows s x at in
+          subst (λ (q : Session). Knows stories budget (first s) (past s ++ news s w risen) risen s
+          q) f.1
+          (subst (λ (l : List Happening). Knows stories budget (first s) (past s ++ l) risen s
+          (found_session rows s)) (sym (told s)) (known s f.0))
+
+      opens_well : IsDiskImage p p.seen
+          → ((c : List ℕ) → IsDiskImage p c → IsShut (journal_bytes rows) c) → IsJournal rows
+          → Well risen
+      opens_well stays images journal = record {
+        sound = record {
+          stays = stays;
+          images = images;
+          journal = journal;
+          next = tt;
+          sessions = length-map-range_with_len (found_session rows) 0 64;
+          step = tt;
+          each = each;
+        };
+        reopens = λ were up. record { rows = which; sessions = refl };
+      }
+
     -- the host stays as up as it was
-    well : (new : HostState) → new.up ≡ v.up → Sound stories budget first past new
-        → CallsWell stories budget first past w new
+    well : (new : HostState) → new.up ≡ v.up → Sound stories budget first past new → Well new
     well new up s = same_up stories budget first past w new (up ∙ same.up) s
+
+    unmoved : Well w
+    unmoved = same_up stories budget first past w w refl was
+
+    if_well : (test : Bool) (new : HostState) → new.up ≡ v.up
+        → (test ≡ true → Sound stories budget first past new) → Well (if test then new else w)
+    if_well test new up then_ =
+        if_kept stories budget Well new w test unmoved (λ is. well new up (then_ is))
 
     unsure_zero : (front past_ c : List ℕ) → IsUnsure front past_ c → get_or c (length front) 0 ≡ 0
         → IsShut front c
@@ -162,27 +171,26 @@ module _ (stories : List Story) (budget : ℕ) (premise : AreGiven stories budge
             (ap (λ (k : ℕ). get_or c k 0) (omega arith) ∙ is)
 
     looks_shut : (rows : List Row) → IsJournal rows → IsShut (journal_bytes rows) v.disk.seen
-        → v.up ≡ false → ((c : List ℕ) → IsDiskImage v.disk c → c ≡ v.disk.seen)
-        → (rows ≡ w.rows) ⊎ ((u : Row) × (w.uncertain ≡ Some u) × (rows ≡ w.rows ++ u ∷ []))
-        → CallsWell stories budget first past w (looked v (rows_in v.disk.seen))
+        → v.up ≡ false → ((c : List ℕ) → IsDiskImage v.disk c → c ≡ v.disk.seen) → Found rows
+        → Well (looked v (rows_in v.disk.seen))
     looks_shut rows all shut down only which =
-        subst (λ (o : Option (List Row)). CallsWell stories budget first past w (looked v o))
+        subst (λ (o : Option (List Row)). Well (looked v o))
         (sym (reads_rows v.disk.seen rows (spells_shut rows v.disk.seen all shut)))
-        (subst (λ (b : Bool). CallsWell stories budget first past w
+        (subst (λ (b : Bool). Well
         (if b then comes_up v rows else record v { step = CloseWrite rows })) (sym is_zero)
-        (opens_well v.disk rows down sound.stays
+        (opens_well v.disk rows down which sound.stays
         (λ c image. subst (λ (l : List ℕ). IsShut (journal_bytes rows) l)
-        (sym (only c image)) shut) all which))
+        (sym (only c image)) shut) all))
       where
         is_zero : (slice_index v.disk.seen (length (journal_bytes rows)) == 0) ≡ true
         is_zero = ap (λ (n : ℕ). n == 0) (gate_zero rows v.disk.seen shut)
 
     looks_well : v.up ≡ false → ((c : List ℕ) → IsDiskImage v.disk c → c ≡ v.disk.seen)
-        → CallsWell stories budget first past w (looked v (rows_in v.disk.seen))
+        → Well (looked v (rows_in v.disk.seen))
     looks_well down only = of v.uncertain refl
       where
         of : (u : Option Row) → v.uncertain ≡ u
-            → CallsWell stories budget first past w (looked v (rows_in v.disk.seen))
+            → Well (looked v (rows_in v.disk.seen))
         of None is =
             looks_shut v.rows sound.journal
             (subst (λ (o : Option Row). StandsInImage v.rows o v.disk.seen) is
@@ -213,9 +221,9 @@ module _ (stories : List Story) (budget : ℕ) (premise : AreGiven stories budge
                         let test : (slice_index v.disk.seen (length (journal_bytes v.rows)) == 0)
                         ≡ false =
                         grind (arith, nat_tests) in
-                        subst (λ (o : Option (List Row)). CallsWell stories budget first past w
+                        subst (λ (o : Option (List Row)). Well
                         (looked v o)) (sym spells)
-                        (subst (λ (b : Bool). CallsWell stories budget first past w
+                        (subst (λ (b : Bool). Well
                         (if b then comes_up v v.rows else record v { step = CloseWrite v.rows }))
                         (sym test)
                         (well (record v { step = CloseWrite v.rows }) refl
@@ -225,99 +233,54 @@ module _ (stories : List Story) (budget : ℕ) (premise : AreGiven stories budge
                   ]
             ]
 
-    when_fits : (made : DiskCall) (new : HostState)
-        → (may_work made ≡ true → CallsWell stories budget first past w new)
-        → CallsWell stories budget first past w (if may_work made then new else w)
-    when_fits made new then_ =
-        if_kept stories budget Well new w (may_work made)
-        (same_up stories budget first past w w refl was) then_
-
     module _ (reads : List ℕ) where
+      -- a good call with which the host stays as up as it was
+      makes : (made : DiskCall) (step : Step)
+          → (onward (with_disk v made true reads) step).up ≡ v.up
+          → (may_work made ≡ true
+          → Sound stories budget first past (onward (with_disk v made true reads) step))
+          → Well (if may_work made then onward (with_disk v made true reads) step else w)
+      makes made step up then_ =
+          if_well (may_work made) (onward (with_disk v made true reads) step) up then_
+
       good_well : (step : Step) → StepFact stories budget v step
-          → CallsWell stories budget first past w
-          (host_called w v true reads step (next_call v.rows step))
-      good_well Idle fact = same_up stories budget first past w w refl was
+          → Well (host_called w v true reads step (next_call v.rows step))
+      good_well Idle fact = unmoved
       good_well (RepairWrite r n) fact =
-          when_fits (Write (length (journal_bytes v.rows)) (0 ∷ []))
-          (onward (record v {
-            disk =
-                disk_after (Write (length (journal_bytes v.rows)) (0 ∷ [])) true reads v.disk;
-          })
-          (RepairWrite r n)) (λ fits. well
-          (onward (record v {
-            disk =
-                disk_after (Write (length (journal_bytes v.rows)) (0 ∷ [])) true reads v.disk;
-          })
-          (RepairWrite r n)) refl
-          (shuts_good stories budget premise first past v sound reads r n fits fact))
+          makes (Write (length (journal_bytes v.rows)) (0 ∷ [])) (RepairWrite r n) refl
+          (λ fits. shuts_good stories budget premise first past v sound reads r n fits fact)
       good_well (RepairSync r n) fact =
-          well (onward (record v { disk = disk_after Sync true reads v.disk })
-          (RepairSync r n)) refl
-          (shut_syncs_good stories budget premise first past v sound reads r n fact)
+          makes Sync (RepairSync r n) refl
+          (λ _. shut_syncs_good stories budget premise first past v sound reads r n fact)
       good_well (RowWrite r n) fact =
-          when_fits (Write (length (journal_bytes v.rows) + 1) (past_gate r))
-          (onward (record v {
-            disk =
-                disk_after (Write (length (journal_bytes v.rows) + 1) (past_gate r))
-                true reads v.disk;
-          })
-          (RowWrite r n)) (λ fits. well (onward
-          (record v {
-            disk =
-                disk_after (Write (length (journal_bytes v.rows) + 1) (past_gate r))
-                true reads v.disk;
-          })
-          (RowWrite r n)) refl
-          (writes_good stories budget premise first past v sound reads r n fits fact))
+          makes (Write (length (journal_bytes v.rows) + 1) (past_gate r)) (RowWrite r n) refl
+          (λ fits. writes_good stories budget premise first past v sound reads r n fits fact)
       good_well (RowSync r n) fact =
-          well (onward (record v { disk = disk_after Sync true reads v.disk }) (RowSync r n)) refl
-          (write_syncs_good stories budget premise first past v sound reads r n fact)
+          makes Sync (RowSync r n) refl
+          (λ _. write_syncs_good stories budget premise first past v sound reads r n fact)
       good_well (GateWrite r n) fact =
-          when_fits (Write (length (journal_bytes v.rows)) (1 ∷ []))
-          (onward (record v {
-            disk =
-                disk_after (Write (length (journal_bytes v.rows)) (1 ∷ [])) true reads v.disk;
-          })
-          (GateWrite r n)) (λ fits. well (onward
-          (record v {
-            disk =
-                disk_after (Write (length (journal_bytes v.rows)) (1 ∷ [])) true reads v.disk;
-          })
-          (GateWrite r n)) refl
-          (opens_good stories budget premise first past v sound reads r n fits fact))
+          makes (Write (length (journal_bytes v.rows)) (1 ∷ [])) (GateWrite r n) refl
+          (λ fits. opens_good stories budget premise first past v sound reads r n fits fact)
       good_well (GateSync r n) fact =
-          well (onward (record v { disk = disk_after Sync true reads v.disk }) (GateSync r n)) refl
-          (open_syncs_good stories budget premise first past v sound reads r n fact)
+          makes Sync (GateSync r n) refl
+          (λ _. open_syncs_good stories budget premise first past v sound reads r n fact)
       good_well FirstSync fact =
-          well (onward (record v { disk = disk_after Sync true reads v.disk }) FirstSync) refl
-          (stepped stories budget first past v
-          (disk_after Sync true reads v.disk) v.faults v.uncertain AskSize sound
-          (stays_after Sync reads v.disk sound.stays)
-          (images_after stories budget v FirstSync fact sound.stays sound.images true reads Sync
-          refl) sound.next (fact, λ c image. only_settled v.disk.seen c image) (λ k z at f. f))
+          makes Sync FirstSync refl
+          (λ _. goes_on stories budget premise first past v sound reads Sync FirstSync AskSize fact
+          refl (fact, λ c image. only_settled v.disk.seen c image))
       good_well AskSize fact =
-          well (onward (record v { disk = disk_after Look true reads v.disk }) AskSize) refl
-          (stepped stories budget first past v v.disk v.faults v.uncertain ReadAll sound sound.stays
-          sound.images sound.next fact (λ k z at f. f))
+          makes Look AskSize refl
+          (λ _. goes_on stories budget premise first past v sound reads Look AskSize ReadAll fact
+          refl fact)
       good_well ReadAll fact = looks_well fact.0 fact.1
       good_well (CloseWrite those) fact =
           let made = Write (length (journal_bytes those)) (0 ∷ []) in
           let old : IsUnsure (journal_bytes v.rows) (past_gate fact.2.0) v.disk.seen =
           subst (λ (o : Option Row). StandsInImage v.rows o v.disk.seen) fact.2.1
           (sound.images v.disk.seen sound.stays) in
-          when_fits made (onward (record v
-          { disk = disk_after (Write (length (journal_bytes those)) (0 ∷ [])) true reads v.disk })
-          (CloseWrite those)) (λ fits.
-          well (onward (record v {
-            disk =
-                disk_after (Write (length (journal_bytes those)) (0 ∷ [])) true reads v.disk;
-          })
-          (CloseWrite those)) refl
-          (stepped stories budget first past v
-          (disk_after made true reads v.disk) v.faults v.uncertain (CloseSync those) sound
-          (stays_after made reads v.disk sound.stays)
-          (images_after stories budget v
-          (CloseWrite those) fact sound.stays sound.images true reads made refl) sound.next (
+          makes made (CloseWrite those) refl (λ fits.
+          goes_on stories budget premise first past v sound reads made (CloseWrite those)
+          (CloseSync those) fact refl (
             fact.0,
             fact.1,
             subst (λ (l : List ℕ). IsShut (journal_bytes v.rows) l)
@@ -326,83 +289,42 @@ module _ (stories : List Story) (budget : ℕ) (premise : AreGiven stories budge
                 (unsure_written (journal_bytes v.rows) (past_gate fact.2.0)
                 (length (journal_bytes those))
                 (ap (λ (l : List Row). length (journal_bytes l)) (sym fact.1)) v.disk.seen old),
-          )
-          (λ k z at f. f)))
+          ))
       good_well (CloseSync those) fact =
-          opens_well (disk_after Sync true reads v.disk) those fact.0
+          opens_well (disk_after Sync true reads v.disk) those fact.0 (inl (fact.1 ∙ same.rows))
           (stays_after Sync reads v.disk sound.stays)
           (λ c image. subst (λ (l : List ℕ). IsShut (journal_bytes those) l)
           (sym (only_settled v.disk.seen c image))
           (subst (λ (l : List Row). IsShut (journal_bytes l) v.disk.seen) (sym fact.1) fact.2))
           (subst (λ (l : List Row). IsJournal l) (sym fact.1) sound.journal)
-          (inl (fact.1 ∙ same.rows))
 
-      abbrev bad_disk : DiskCall → DiskState
-      bad_disk made = disk_after made false reads v.disk
-
-      refused : (made : DiskCall) (new : HostState)
-          → (is_image (disk_after made false reads v.disk) reads ≡ true
-          → CallsWell stories budget first past w new)
-          → CallsWell stories budget first past w
-          (if is_image (disk_after made false reads v.disk) reads then new else w)
-      refused made new then_ =
-          if_kept stories budget Well new w (is_image (disk_after made false reads v.disk) reads)
-          (same_up stories budget first past w w refl was) then_
-
+      -- a call that fails, of an append
       append_fails : (made : DiskCall) (step : Step) → StepFact stories budget v step
           → next_call v.rows step ≡ Some made → (r : Row) (n : ℕ) → Busy stories budget v r
-          → CallsWell stories budget first past w
-          (if is_image (disk_after made false reads v.disk) reads then broken
-          (record v {
-            disk = disk_after made false reads v.disk;
-            faults =
-                fault_counted v.faults;
-          }) r n else w)
+          → Well (if is_image (disk_after made false reads v.disk) reads
+          then broken (with_fault v made reads) r n else w)
       append_fails made step fact is r n busy =
-          refused made (broken (record v {
-            disk = disk_after made false reads v.disk;
-            faults =
-                fault_counted v.faults;
-          }) r n) (λ allowed.
-          well (broken (record v {
-            disk = disk_after made false reads v.disk;
-            faults =
-                fault_counted v.faults;
-          }) r n) refl
-          (broken_well stories budget premise first past v sound reads made step fact is allowed r n
-          busy))
+          if_well (is_image (disk_after made false reads v.disk) reads)
+          (broken (with_fault v made reads) r n) refl (λ allowed.
+          broken_well stories budget premise first past v sound reads made step fact is allowed r n
+          busy)
 
+      -- and of an opening
       opening_fails : (made : DiskCall) (step : Step) → StepFact stories budget v step
           → next_call v.rows step ≡ Some made
-          → CallsWell stories budget first past w
-          (if is_image (disk_after made false reads v.disk) reads then record v {
-            disk = disk_after made false reads v.disk;
-            faults = fault_counted v.faults;
-            step =
-                Idle;
-          } else w)
+          → Well (if is_image (disk_after made false reads v.disk) reads
+          then record (with_fault v made reads) { step = Idle } else w)
       opening_fails made step fact is =
-          refused made (record v {
-            disk = disk_after made false reads v.disk;
-            faults =
-                fault_counted v.faults;
-            step = Idle;
-          }) (λ allowed.
-          well (record v {
-            disk = disk_after made false reads v.disk;
-            faults =
-                fault_counted v.faults;
-            step = Idle;
-          }) refl
-          (stepped stories budget first past v (disk_after made false reads v.disk)
+          if_well (is_image (disk_after made false reads v.disk) reads)
+          (record (with_fault v made reads) { step = Idle }) refl (λ allowed.
+          stepped stories budget first past v (disk_after made false reads v.disk)
           (fault_counted v.faults) v.uncertain Idle sound (stays_bad made reads v.disk allowed)
           (images_after stories budget v step fact sound.stays sound.images false reads made is)
-          sound.next tt (λ k z at f. f)))
+          sound.next tt (λ k z at f. f))
 
       bad_well : (step : Step) → StepFact stories budget v step
-          → CallsWell stories budget first past w
-          (host_called w v false reads step (next_call v.rows step))
-      bad_well Idle fact = same_up stories budget first past w w refl was
+          → Well (host_called w v false reads step (next_call v.rows step))
+      bad_well Idle fact = unmoved
       bad_well (RepairWrite r n) fact =
           append_fails (Write (length (journal_bytes v.rows)) (0 ∷ []))
           (RepairWrite r n) fact refl r n fact.0
@@ -428,12 +350,12 @@ module _ (stories : List Story) (budget : ℕ) (premise : AreGiven stories budge
       (call_next w (begun stories budget w) good reads)
   made_well first past w true reads sound =
       let b = begun_well stories budget premise first past w sound in
-      good_well first past w (begun stories budget w) sound b.1 b.0 reads
-      (begun stories budget w).step b.0.step
+      let v = begun stories budget w in
+      good_well first past w v sound b.1 b.0 reads v.step b.0.step
   made_well first past w false reads sound =
       let b = begun_well stories budget premise first past w sound in
-      bad_well first past w (begun stories budget w) sound b.1 b.0 reads
-      (begun stories budget w).step b.0.step
+      let v = begun stories budget w in
+      bad_well first past w v sound b.1 b.0 reads v.step b.0.step
 
   pub call_well : (first : ℕ → List Entry) (past : ℕ → List Happening) (w : HostState) (disk : ℕ)
       (good : Bool) (reads : List ℕ) → Sound stories budget first past w

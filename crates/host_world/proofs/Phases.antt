@@ -89,6 +89,12 @@ module _ (stories : List Story) (budget : ℕ) where
         (sound.each s x at);
   }
 
+  -- nothing happened
+  pub untold : (first : ℕ → List Entry) (past : ℕ → List Happening) (w : HostState)
+      → Sound stories budget first past w → Sound stories budget first (λ s. past s ++ []) w
+  untold first past w sound =
+      same_past first past (λ s. past s ++ []) w (λ s. sym (append-nil (past s))) sound
+
   pub turn_up : (s : ℕ) (rows : List Row) (u : Option Row) (x : Session) (t : Turn) (up : Bool)
       → RowsFact stories budget s rows u x up → x.turn ≡ Some t → up ≡ true
   turn_up s rows u x t true fact is = refl

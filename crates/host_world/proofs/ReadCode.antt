@@ -47,15 +47,13 @@ corrupt_none bytes place refuses =
 -- what an opening does with what it read
 pub looks_none : (w : HostState) → rows_in w.disk.seen ≡ None
     → record w { step = Idle } ≡ looked w (rows_in w.disk.seen)
-looks_none w is = sym (ap (λ (o : Option (List Row)). looked w o) is)
+looks_none w is = rw is refl
 
 looks : (w : HostState) (rows : List Row) → rows_in w.disk.seen ≡ Some rows → (b : Bool)
     → (slice_index w.disk.seen (length (journal_bytes rows)) == 0) ≡ b
     → (if b then comes_up w rows else record w { step = CloseWrite rows })
     ≡ looked w (rows_in w.disk.seen)
-looks w rows is b gate =
-    sym (ap (λ (o : Option (List Row)). looked w o) is
-    ∙ ap (λ (c : Bool). if c then comes_up w rows else record w { step = CloseWrite rows }) gate)
+looks w rows is b gate = rw (is, gate) refl
 
 pub looks_shut : (w : HostState) (rows : List Row) → rows_in w.disk.seen ≡ Some rows
     → slice_index w.disk.seen (length (journal_bytes rows)) ≡ 0

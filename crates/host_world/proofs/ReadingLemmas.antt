@@ -6,6 +6,7 @@ use Rattle.std.proofs.lemmas.Bool.{and_from, and_parts}
 use Rattle.std.proofs.lemmas.Bool.Decides.{nat_tests}
 use Rattle.std.proofs.lemmas.List.{append-nil, drop_at, get_or-drop, length-drop, take-append-drop}
 use Rattle.std.proofs.lemmas.List.{take_at}
+use Rattle.std.proofs.lemmas.Option.{none-some}
 use Rattle.std.specs.Prelude.{if◌then◌else◌, nat_le, nat_lt, ◌&&◌, ◌||◌}
 use Rattle.std.specs.Str.{all_scalars}
 use Rattle.gate_journal.proofs.PayloadLemmas.{only_char, only_file, only_line, only_open}
@@ -62,36 +63,20 @@ le_test m n le = grind (arith, nat_tests)
 
 pub command_told : (c : Command) → is_command c ≡ true → IsCommand c
 command_told (Open key story digest seed cols rows budget) is =
-    let i = and_parts
-    (is_key key && nat_le story 65535 && length digest == 32 && nat_le seed 18446744073709551615
-    && nat_le 1 cols && nat_le cols 255 && nat_le 1 rows && nat_le rows 255 && nat_le 1 budget)
-    (nat_le budget 1000000000000) is in
-    let h = and_parts
-    (is_key key && nat_le story 65535 && length digest == 32 && nat_le seed 18446744073709551615
-    && nat_le 1 cols && nat_le cols 255 && nat_le 1 rows && nat_le rows 255)
-    (nat_le 1 budget) i.0 in
-    let g = and_parts
-    (is_key key && nat_le story 65535 && length digest == 32 && nat_le seed 18446744073709551615
-    && nat_le 1 cols && nat_le cols 255 && nat_le 1 rows) (nat_le rows 255) h.0 in
-    let f = and_parts
-    (is_key key && nat_le story 65535 && length digest == 32 && nat_le seed 18446744073709551615
-    && nat_le 1 cols && nat_le cols 255) (nat_le 1 rows) g.0 in
-    let e = and_parts
-    (is_key key && nat_le story 65535 && length digest == 32 && nat_le seed 18446744073709551615
-    && nat_le 1 cols) (nat_le cols 255) f.0 in
-    let d = and_parts
-    (is_key key && nat_le story 65535 && length digest == 32 && nat_le seed 18446744073709551615)
-    (nat_le 1 cols) e.0 in
-    let c = and_parts (is_key key && nat_le story 65535 && length digest == 32)
-    (nat_le seed 18446744073709551615) d.0 in
-    let b = and_parts (is_key key && nat_le story 65535) (length digest == 32) c.0 in
+    let i = and_parts _ (nat_le budget 1000000000000) is in
+    let h = and_parts _ (nat_le 1 budget) i.0 in
+    let g = and_parts _ (nat_le rows 255) h.0 in
+    let f = and_parts _ (nat_le 1 rows) g.0 in
+    let e = and_parts _ (nat_le cols 255) f.0 in
+    let d = and_parts _ (nat_le 1 cols) e.0 in
+    let c = and_parts _ (nat_le seed 18446744073709551615) d.0 in
+    let b = and_parts _ (length digest == 32) c.0 in
     let a = and_parts (is_key key) (nat_le story 65535) b.0 in (
       a.0,
       le_of story 65535 a.1,
       thirty_two b.1,
       le_of seed 18446744073709551615 c.1,
-      le_of 1 cols
-          d.1,
+      le_of 1 cols d.1,
       le_of cols 255 e.1,
       le_of 1 rows f.1,
       le_of rows 255 g.1,
@@ -113,31 +98,16 @@ command_told Close is = tt
 
 pub command_test : (c : Command) → IsCommand c → is_command c ≡ true
 command_test (Open key story digest seed cols rows budget) is =
-    and_from (is_key key && nat_le story 65535 && length digest == 32
-    && nat_le seed 18446744073709551615 && nat_le 1 cols && nat_le cols 255 && nat_le 1 rows
-    && nat_le rows 255 && nat_le 1 budget) (nat_le budget 1000000000000)
-    (and_from
-    (is_key key && nat_le story 65535 && length digest == 32 && nat_le seed 18446744073709551615
-    && nat_le 1 cols && nat_le cols 255 && nat_le 1 rows && nat_le rows 255) (nat_le 1 budget)
-    (and_from
-    (is_key key && nat_le story 65535 && length digest == 32 && nat_le seed 18446744073709551615
-    && nat_le 1 cols && nat_le cols 255 && nat_le 1 rows) (nat_le rows 255)
-    (and_from
-    (is_key key && nat_le story 65535 && length digest == 32 && nat_le seed 18446744073709551615
-    && nat_le 1 cols && nat_le cols 255) (nat_le 1 rows)
-    (and_from
-    (is_key key && nat_le story 65535 && length digest == 32 && nat_le seed 18446744073709551615
-    && nat_le 1 cols) (nat_le cols 255)
-    (and_from
-    (is_key key && nat_le story 65535 && length digest == 32 && nat_le seed 18446744073709551615)
-    (nat_le 1 cols)
-    (and_from (is_key key && nat_le story 65535 && length digest == 32)
-    (nat_le seed 18446744073709551615)
-    (and_from (is_key key && nat_le story 65535) (length digest == 32)
-    (and_from (is_key key) (nat_le story 65535) is.0 (le_test story 65535 is.1)) (thirty_two is.2))
-    (le_test seed 18446744073709551615 is.3)) (le_test 1 cols is.4)) (le_test cols 255 is.5))
-    (le_test 1 rows is.6)) (le_test rows 255 is.7)) (le_test 1 budget is.8.0))
-    (le_test budget 1000000000000 is.8.1)
+    let a = and_from (is_key key) (nat_le story 65535) is.0 (le_test story 65535 is.1) in
+    let b = and_from _ (length digest == 32) a (thirty_two is.2) in
+    let c = and_from _ (nat_le seed 18446744073709551615) b (le_test seed 18446744073709551615 is.3)
+    in
+    let d = and_from _ (nat_le 1 cols) c (le_test 1 cols is.4) in
+    let e = and_from _ (nat_le cols 255) d (le_test cols 255 is.5) in
+    let f = and_from _ (nat_le 1 rows) e (le_test 1 rows is.6) in
+    let g = and_from _ (nat_le rows 255) f (le_test rows 255 is.7) in
+    let h = and_from _ (nat_le 1 budget) g (le_test 1 budget is.8.0) in
+    and_from _ (nat_le budget 1000000000000) h (le_test budget 1000000000000 is.8.1)
   where
     thirty_two : length digest ≡ 32 → (length digest == 32) ≡ true
     thirty_two same = grind (arith, nat_tests)
@@ -296,9 +266,6 @@ reads_rows c rows spells =
     (omega (arith, length-drop n c, spells.within))
     (λ is. spells.closed (sym (first_behind c n) ∙ is))
 
-none_some : {A : Type 0} (x : A) → None ≡ Some x → ⊥
-none_some x is = cc
-
 -- and nothing else
 not_open : (c : List ℕ) (rows those : List Row) (gate : ℕ) (past : List ℕ) → IsJournal rows
     → c ≡ journal_bytes rows ++ gate ∷ past → (gate == 1) ≡ false → Some rows ≡ Some those
@@ -323,7 +290,7 @@ one_more :
     → (if b then rows_from n (rows ++ r ∷ []) (drop (length (row_body r)) past) else None)
     ≡ Some those → SpellsRows c those
 one_more c those n rows gate past r is later journal split is_open false test said =
-    absurd (none_some those said)
+    absurd (none-some those said)
 one_more c those n rows gate past r is later journal split is_open true test said =
     let both =
     and_parts (may_stand rows r.session r.command) (begins_with past (row_body r)) test in
@@ -363,12 +330,12 @@ at_gate c those n rows gate past later journal split false test said =
 at_last : (c : List ℕ) (those rows : List Row) (gate : ℕ) (past : List ℕ) → IsJournal rows
     → c ≡ journal_bytes rows ++ gate ∷ past → (b : Bool) → (gate == 1) ≡ b
     → (if b then None else Some rows) ≡ Some those → SpellsRows c those
-at_last c those rows gate past journal split true test said = absurd (none_some those said)
+at_last c those rows gate past journal split true test said = absurd (none-some those said)
 at_last c those rows gate past journal split false test said =
     not_open c rows those gate past journal split test said
 
 found_spell : (c : List ℕ) (those : List Row) (n : ℕ) → Spelt c those n
-found_spell c those n rows [] is journal split = absurd (none_some those is)
+found_spell c those n rows [] is journal split = absurd (none-some those is)
 found_spell c those zero rows (gate ∷ past) is journal split =
     at_last c those rows gate past journal split (gate == 1) refl is
 found_spell c those (suc n) rows (gate ∷ past) is journal split =
@@ -378,7 +345,7 @@ with_header : (c : List ℕ) (rows : List Row) (b : Bool) → begins_with c jour
     → (if b then rows_from (length c) [] (drop 16 c) else None) ≡ Some rows → SpellsRows c rows
 with_header c rows true test said =
     found_spell c rows (length c) [] (drop 16 c) said tt (front_told journal_header c test)
-with_header c rows false test said = absurd (none_some rows said)
+with_header c rows false test said = absurd (none-some rows said)
 
 pub found_rows : (c : List ℕ) (rows : List Row) → rows_in c ≡ Some rows → SpellsRows c rows
 unfolding rows_in

@@ -1,6 +1,6 @@
 -- The phase of one turn changes, and the journal.
-use Rattle.std.proofs.Common.{Bool, List, Option, Some, ap, false, inl, inr, length-set, refl, set}
-use Rattle.std.proofs.Common.{subst, sym, true, ℕ, ◌∙◌, ◌≡◌, ◌≢◌}
+use Rattle.std.proofs.Common.{List, Option, Some, ap, inl, inr, length-set, set}
+use Rattle.std.proofs.Common.{subst, sym, ℕ, ◌∙◌, ◌≡◌, ◌≢◌}
 use Rattle.std.proofs.lemmas.Bool.{cases_eq}
 use Rattle.std.specs.List.{slice_get}
 use Rattle.std.specs.Prelude.{IfSome}
@@ -19,15 +19,10 @@ use Rattle.host_world.specs.declared.turn.Phase.TheVariants.{Asked, Begun, Broke
 use Rattle.host_world.specs.declared.turn.Phase.TheVariants.{Plain, Ready, Taken}
 use Rattle.host_world.specs.declared.turn.Session.{Session}
 use Rattle.host_world.specs.declared.turn.Turn.{Turn}
-use Rattle.host_world.proofs.Lists.{get_else, get_here, some_none, some_same}
+use Rattle.host_world.proofs.Lists.{get_else, get_here, some_same}
 use Rattle.host_world.proofs.Sound.{Knows, PhaseFact, RowsFact, Sound, StepFact}
 
 module _ (stories : List Story) (budget : ℕ) where
-  pub up_of : (s : ℕ) (rows : List Row) (u : Option Row) (x : Session) (t : Turn) (up : Bool)
-      → RowsFact stories budget s rows u x up → x.turn ≡ Some t → up ≡ true
-  up_of s rows u x t true fact is = refl
-  up_of s rows u x t false fact is = absurd (some_none t (sym is ∙ fact.0))
-
   pub reached : (before h : List Entry) (t : Turn) (next p : Phase)
       → PhaseFact stories budget before h t p
       → PhaseFact stories budget before h (record t { phase = next }) p
@@ -41,131 +36,73 @@ module _ (stories : List Story) (budget : ℕ) where
   reached before h t next (Plain outcome reply) f = f
 
   -- the phase of one turn changes, and the journal
-  pub record Rephasing (first : ℕ → List Entry) (past : ℕ → List Happening) (v : HostState) (s : ℕ)
+  module _ (first : ℕ → List Entry) (past : ℕ → List Happening) (v : HostState) (s : ℕ)
       (x : Session) (t : Turn) (next : Phase) (p : DiskState) (n : ℕ) (rows : List Row)
-      (u : Option Row) (step : Step) : Type 0 where
-    pub at : slice_get v.sessions s ≡ Some x
-    pub stays : IsDiskImage p p.seen
-    pub images : (c : List ℕ) → IsDiskImage p c → StandsInImage rows u c
-    pub journal : IsJournal rows
-    pub follows : IfSome u (IsNext rows)
-    pub now : StepFact stories budget (record v {
-      sessions = set v.sessions s (in_phase x t next);
+      (u : Option Row) (step : Step) where
+    abbrev asker : Session
+    asker = in_phase x t next
+
+    abbrev new : HostState
+    new = record v {
+      sessions = set v.sessions s asker;
       disk = p;
       faults = n;
-      rows =
-          rows;
+      rows = rows;
       uncertain = u;
       step = step;
-    }) step
-    pub fact : PhaseFact stories budget (history_left stories budget (first s)
-        (past s)) x.history t next
-    pub here : RowsFact stories budget s rows u (in_phase x t next) v.up
-    pub elsewhere : (m : ℕ) (z : Session) → m ≢ s
-        → RowsFact stories budget m v.rows v.uncertain z v.up
-        → RowsFact stories budget m rows u z v.up
+    }
 
-  pub rephased : (first : ℕ → List Entry) (past : ℕ → List Happening) (v : HostState) (s : ℕ)
-      (x : Session) (t : Turn) (next : Phase) (p : DiskState) (n : ℕ) (rows : List Row)
-      (u : Option Row) (step : Step) → Sound stories budget first past v
-      → Rephasing first past v s x t next p n rows u step
-      → Sound stories budget first past
-      (record v {
-        sessions = set v.sessions s (in_phase x t next);
-        disk = p;
-        faults = n;
-        rows =
-            rows;
-        uncertain = u;
-        step = step;
-      })
-  rephased first past v s x t next p n rows u step sound m = record {
-    stays = m.stays;
-    images = m.images;
-    journal = m.journal;
-    next = m.follows;
-    sessions = length-set v.sessions s (in_phase x t next) ∙ sound.sessions;
-    step = m.now;
-    each = each;
-  }
-    where
-      new : HostState
-      new = record v {
-        sessions = set v.sessions s (in_phase x t next);
-        disk = p;
-        faults = n;
-        rows =
-            rows;
-        uncertain = u;
-        step = step;
-      }
+    pub record Rephasing : Type 0 where
+      pub at : slice_get v.sessions s ≡ Some x
+      pub stays : IsDiskImage p p.seen
+      pub images : (c : List ℕ) → IsDiskImage p c → StandsInImage rows u c
+      pub journal : IsJournal rows
+      pub follows : IfSome u (IsNext rows)
+      pub now : StepFact stories budget new step
+      pub fact : PhaseFact stories budget (history_left stories budget (first s)
+          (past s)) x.history t next
+      pub here : RowsFact stories budget s rows u asker v.up
+      pub elsewhere : (m : ℕ) (z : Session) → m ≢ s
+          → RowsFact stories budget m v.rows v.uncertain z v.up
+          → RowsFact stories budget m rows u z v.up
 
-      each : (k : ℕ) (z : Session) → slice_get (set v.sessions s (in_phase x t next)) k ≡ Some z
-          → Knows stories budget (first k) (past k)
-          (record v {
-            sessions = set v.sessions s (in_phase x t next);
-            disk = p;
-            faults = n;
-            rows =
-                rows;
-            uncertain = u;
-            step = step;
-          }) k z
-      each k z at = elim (cases_eq k s) [
-        | inl same ↦
-            let is : in_phase x t next ≡ z =
-            some_same (in_phase x t next) z
-            (sym (get_here v.sessions s x (in_phase x t next) m.at)
-            ∙ ap (λ (i : ℕ). slice_get (set v.sessions s (in_phase x t next)) i) (sym same)
-            ∙ at) in
-            let it : Knows stories budget (first s) (past s)
-            (record v {
-              sessions = set v.sessions s (in_phase x t next);
-              disk = p;
-              faults =
-                  n;
-              rows = rows;
-              uncertain = u;
-              step = step;
-            }) s (in_phase x t next) =
-            record {
-              turn =
-                  reached (history_left stories budget (first s)
-                  (past s)) x.history t next next m.fact;
-              replies =
-                  (sound.each s x m.at).replies;
-              rows = m.here;
-            } in
-            subst (λ (q : Session). Knows stories budget (first k) (past k)
-            (record v {
-              sessions = set v.sessions s (in_phase x t next);
-              disk = p;
-              faults =
-                  n;
-              rows = rows;
-              uncertain = u;
-              step = step;
-            }) k q) is
-            (subst (λ (i : ℕ). Knows stories budget (first i) (past i)
-            (record v {
-              sessions = set v.sessions s (in_phase x t next);
-              disk = p;
-              faults =
-                  n;
-              rows = rows;
-              uncertain = u;
-              step = step;
-            }) i (in_phase x t next)) (sym same) it)
-        | inr other ↦
-            let known =
-            sound.each k z (sym (get_else v.sessions s k (in_phase x t next) other) ∙ at) in
-            record {
-              turn = known.turn;
-              replies = known.replies;
-              rows =
-                  m.elsewhere k z other known.rows;
-            }
-      ]
+    pub rephased : Sound stories budget first past v → Rephasing
+        → Sound stories budget first past new
+    rephased sound m = record {
+      stays = m.stays;
+      images = m.images;
+      journal = m.journal;
+      next = m.follows;
+      sessions = length-set v.sessions s asker ∙ sound.sessions;
+      step = m.now;
+      each = each;
+    }
+      where
+        it : Knows stories budget (first s) (past s) new s asker
+        it = record {
+          turn = reached (history_left stories budget (first s) (past s)) x.history t next next
+              m.fact;
+          replies = (sound.each s x m.at).replies;
+          rows = m.here;
+        }
+
+        each : (k : ℕ) (z : Session) → slice_get (set v.sessions s asker) k ≡ Some z
+            → Knows stories budget (first k) (past k) new k z
+        each k z at = elim (cases_eq k s) [
+          | inl same ↦
+              let is : asker ≡ z =
+              some_same asker z (sym (get_here v.sessions s x asker m.at)
+              ∙ ap (λ (i : ℕ). slice_get (set v.sessions s asker) i) (sym same) ∙ at) in
+              subst (λ (q : Session). Knows stories budget (first k) (past k) new k q) is
+              (subst (λ (i : ℕ). Knows stories budget (first i) (past i) new i asker) (sym same) it)
+          | inr other ↦
+              let known =
+              sound.each k z (sym (get_else v.sessions s k asker other) ∙ at) in record {
+                turn = known.turn;
+                replies = known.replies;
+                rows = m.elsewhere k z other known.rows;
+              }
+        ]
 
   -- no turn changes, but the journal
   pub stepped : (first : ℕ → List Entry) (past : ℕ → List Happening) (v : HostState) (p : DiskState)

@@ -42,7 +42,7 @@ use Rattle.host_world.proofs.Giving.{accept_after, free_after, give_kept, hold_a
 use Rattle.host_world.proofs.Giving.{take_after, want_after}
 use Rattle.host_world.proofs.Lists.{false_true}
 use Rattle.host_world.proofs.Openings.{call_well}
-use Rattle.host_world.proofs.Phases.{same_past}
+use Rattle.host_world.proofs.Phases.{same_past, untold}
 use Rattle.host_world.proofs.Reopening.{CallsWell, found_at, nobody, of_down, one_more_of}
 use Rattle.host_world.proofs.RowsOf.{commands-found, rows-here, rows-other}
 use Rattle.host_world.proofs.Sound.{RowsFact, Sound, StepFact, TurnFact}
@@ -76,12 +76,6 @@ starts_over bytes rows all (inr one) =
     (Some one.0, down_well bytes rows (Some one.0) all one.1 one.2)
 
 module _ (stories : List Story) (budget : ℕ) (premise : AreGiven stories budget) where
-  untold : (first : ℕ → List Entry) (past : ℕ → List Happening) (w : HostState)
-      → Sound stories budget first past w → Sound stories budget first (λ s. past s ++ []) w
-  untold first past w sound =
-      same_past stories budget first past (λ s. past s ++ []) w
-      (λ s. sym (append-nil (past s))) sound
-
   recover_well : (first : ℕ → List Entry) (past : ℕ → List Happening) (w : HostState)
       → Sound stories budget first past w → (up : Bool) → w.up ≡ up
       → Sound stories budget first past (if up then w else record w { step = FirstSync })
@@ -107,36 +101,37 @@ module _ (stories : List Story) (budget : ℕ) (premise : AreGiven stories budge
       → Sound stories budget first (λ s. past s ++ told stories budget s w e)
       (after stories budget w e)
   event_well first past w (Take s pass line) sound =
-      untold first past (after stories budget w (Take s pass line))
+      untold stories budget first past (after stories budget w (Take s pass line))
       (take_after stories budget first past w sound s pass line)
   event_well first past w (Want s) sound =
-      untold first past (after stories budget w (Want s))
+      untold stories budget first past (after stories budget w (Want s))
       (want_after stories budget first past w sound s)
   event_well first past w (Hold s) sound =
-      untold first past (after stories budget w (Hold s))
+      untold stories budget first past (after stories budget w (Hold s))
       (hold_after stories budget first past w sound s)
   event_well first past w (Call disk good reads) sound =
       (call_well stories budget premise first past w disk good reads sound).sound
   event_well first past w (Free s) sound =
-      untold first past (after stories budget w (Free s))
+      untold stories budget first past (after stories budget w (Free s))
       (free_after stories budget first past w sound s)
   event_well first past w (Run s good) sound =
-      untold first past (after stories budget w (Run s good))
+      untold stories budget first past (after stories budget w (Run s good))
       (run_after stories budget first past w sound s good)
   event_well first past w (Accept s) sound =
-      untold first past (after stories budget w (Accept s))
+      untold stories budget first past (after stories budget w (Accept s))
       (accept_after stories budget first past w sound s)
   event_well first past w (Give s) sound =
       give_kept stories budget first past w sound s (slice_get w.sessions s) refl
   event_well first past w (Stop images) sound = stop_well stories budget first past w sound images
   event_well first past w Recover sound =
-      untold first past (after stories budget w Recover) (recover_well first past w sound w.up refl)
+      untold stories budget first past (after stories budget w Recover)
+      (recover_well first past w sound w.up refl)
 
   pub run_well : (events : List Event) (first : ℕ → List Entry) (past : ℕ → List Happening)
       (w : HostState) → Sound stories budget first past w
       → Sound stories budget first (λ s. past s ++ all_told stories budget s w events)
       (run stories budget w events)
-  run_well [] first past w sound = untold first past w sound
+  run_well [] first past w sound = untold stories budget first past w sound
   run_well (e ∷ events) first past w sound =
       same_past stories budget first (λ s.
       (past s ++ told stories budget s w e) ++ all_told stories budget s

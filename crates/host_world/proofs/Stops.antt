@@ -1,11 +1,9 @@
 -- What a stop leaves.
 use Rattle.std.proofs.Common.{Bool, List, None, Option, Some, [], ap, arith, false, inl, inr}
-use Rattle.std.proofs.Common.{length, map, refl, subst, sym, true, ℕ, ◌++◌, ◌∙◌, ◌∷◌, ◌≡◌, ◌≤◌, ◌⊎◌}
+use Rattle.std.proofs.Common.{length, refl, subst, sym, true, ℕ, ◌++◌, ◌∙◌, ◌∷◌, ◌≡◌, ◌≤◌, ◌⊎◌}
 use Rattle.std.proofs.lemmas.Bool.{cases_eq}
 use Rattle.std.proofs.lemmas.List.{append-nil, length-map}
-use Rattle.std.proofs.lemmas.Option.{slice_get-map}
 use Rattle.std.specs.List.{slice_get}
-use Rattle.std.specs.Option.{option_map}
 use Rattle.std.specs.Prelude.{IfSome, if◌then◌else◌}
 use Rattle.disk_model.proofs.StateLaws.{only_settled, settled_image}
 use Rattle.disk_model.specs.DiskState.{IsDiskImage}
@@ -36,12 +34,17 @@ use Rattle.host_world.specs.declared.turn.Session.{Session}
 use Rattle.host_world.specs.declared.turn.Turn.{Turn}
 use Rattle.host_world.proofs.Folds.{history-push, replies-push}
 use Rattle.disk_model.proofs.PlainLaws.{image_is}
-use Rattle.host_world.proofs.Lists.{false_true, some_none, some_same}
-use Rattle.host_world.proofs.Phases.{same_past}
+use Rattle.host_world.proofs.Lists.{false_true, map_at}
+use Rattle.host_world.proofs.Phases.{untold}
 use Rattle.host_world.proofs.RowsOf.{rows-here, rows-other}
 use Rattle.host_world.proofs.Sound.{Knows, PhaseFact, RowsFact, Sound, TurnFact}
 
 module _ (stories : List Story) (budget : ℕ) where
+  uncut : (h : List Entry) (past : List Happening) (x : List Entry)
+      → x ≡ history_left stories budget h past → x ≡ history_left stories budget h (past ++ [])
+  uncut h past x is =
+      is ∙ ap (λ (l : List Happening). history_left stories budget h l) (sym (append-nil past))
+
   -- the history is the fold of the turns given and the one whose entry is taken
   cut_phase : (h : List Entry) (past : List Happening) (x : List Entry) (t : Turn) (phase : Phase)
       → PhaseFact stories budget (history_left stories budget h past) x t phase
@@ -49,26 +52,18 @@ module _ (stories : List Story) (budget : ℕ) where
   cut_phase h past x t (Taken outcome reply) fact =
       sym (history-push stories budget h past (Cut t.pass t.line outcome ∷ [])
       ∙ ap (λ (p : Turned). p.history) fact)
-  cut_phase h past x t Asked fact = fact.0
-      ∙ ap (λ (l : List Happening). history_left stories budget h l) (sym (append-nil past))
-  cut_phase h past x t Begun fact = fact.0
-      ∙ ap (λ (l : List Happening). history_left stories budget h l) (sym (append-nil past))
-  cut_phase h past x t Kept fact = fact.0
-      ∙ ap (λ (l : List Happening). history_left stories budget h l) (sym (append-nil past))
-  cut_phase h past x t (Broken from to) fact = fact.0
-      ∙ ap (λ (l : List Happening). history_left stories budget h l) (sym (append-nil past))
-  cut_phase h past x t Freed fact = fact.0
-      ∙ ap (λ (l : List Happening). history_left stories budget h l) (sym (append-nil past))
-  cut_phase h past x t (Ready outcome) fact = fact.0
-      ∙ ap (λ (l : List Happening). history_left stories budget h l) (sym (append-nil past))
-  cut_phase h past x t (Plain outcome reply) fact = fact.0
-      ∙ ap (λ (l : List Happening). history_left stories budget h l) (sym (append-nil past))
+  cut_phase h past x t Asked fact = uncut h past x fact.0
+  cut_phase h past x t Begun fact = uncut h past x fact.0
+  cut_phase h past x t Kept fact = uncut h past x fact.0
+  cut_phase h past x t (Broken from to) fact = uncut h past x fact.0
+  cut_phase h past x t Freed fact = uncut h past x fact.0
+  cut_phase h past x t (Ready outcome) fact = uncut h past x fact.0
+  cut_phase h past x t (Plain outcome reply) fact = uncut h past x fact.0
 
   pub cut_fact : (h : List Entry) (past : List Happening) (x : List Entry) (o : Option Turn)
       → TurnFact stories budget (history_left stories budget h past) x o
       → x ≡ history_left stories budget h (past ++ cut_at o)
-  cut_fact h past x None fact = fact
-      ∙ ap (λ (l : List Happening). history_left stories budget h l) (sym (append-nil past))
+  cut_fact h past x None fact = uncut h past x fact
   cut_fact h past x (Some t) fact = cut_phase h past x t t.phase fact
 
   silent_phase : (h : List Entry) (t : Turn) (phase : Phase)
@@ -152,16 +147,6 @@ module _ (stories : List Story) (budget : ℕ) where
     abbrev down_now : HostState
     down_now = stopped w image
 
-    there : (s : ℕ) (y : Session) → slice_get (map without_turn w.sessions) s ≡ Some y
-        → (x : Session) × (slice_get w.sessions s ≡ Some x) × (without_turn x ≡ y)
-    there s y at =
-        of (slice_get w.sessions s) refl (sym (slice_get-map without_turn w.sessions s) ∙ at)
-      where
-        of : (o : Option Session) → slice_get w.sessions s ≡ o → option_map without_turn o ≡ Some y
-            → (x : Session) × (slice_get w.sessions s ≡ Some x) × (without_turn x ≡ y)
-        of None is mapped = absurd (some_none y (sym mapped))
-        of (Some x) is mapped = (x, is, some_same (without_turn x) y mapped)
-
     stops : IsDiskImage w.disk image → Sound stories budget first
         (λ s. past s ++ cut_in (slice_get w.sessions s)) down_now
     stops is = record {
@@ -173,10 +158,10 @@ module _ (stories : List Story) (budget : ℕ) where
       sessions = length-map w.sessions without_turn ∙ sound.sessions;
       step = tt;
       each = λ s y at.
-          let x = there s y at in
+          let x = map_at without_turn w.sessions s y at in
           let known = sound.each s x.0 x.1 in
           subst (λ (q : Session). Knows stories budget (first s)
-          (past s ++ cut_in (slice_get w.sessions s)) down_now s q) x.2
+          (past s ++ cut_in (slice_get w.sessions s)) down_now s q) (sym x.2)
           (subst (λ (o : Option Session). Knows stories budget (first s)
           (past s ++ cut_in o) down_now s (without_turn x.0)) (sym x.1) record {
             turn = cut_fact (first s) (past s) x.0.history x.0.turn known.turn;
@@ -194,8 +179,7 @@ module _ (stories : List Story) (budget : ℕ) where
         (if b then cut_in (slice_get w.sessions s) else [])) (if b then down_now else w)
     stop_if true is = stops (image_is w.disk image is)
     stop_if false is =
-        same_past stories budget first past (λ s. past s ++ []) w
-        (λ s. sym (append-nil (past s))) sound
+        untold stories budget first past w sound
 
     pub one_stop : Sound stories budget first (λ s. past s ++ lost s w (image ∷ []))
         (stop w (image ∷ []))
@@ -267,9 +251,7 @@ module _ (stories : List Story) (budget : ℕ) where
       → Sound stories budget first past w → (images : List (List ℕ))
       → Sound stories budget first (λ s. past s ++ lost s w images) (stop w images)
   stop_well first past w sound [] =
-      same_past stories budget first past (λ s. past s ++ []) w
-      (λ s. sym (append-nil (past s))) sound
+      untold stories budget first past w sound
   stop_well first past w sound (image ∷ []) = one_stop first past w sound image
   stop_well first past w sound (image ∷ other ∷ more) =
-      same_past stories budget first past (λ s. past s ++ []) w
-      (λ s. sym (append-nil (past s))) sound
+      untold stories budget first past w sound

@@ -29,6 +29,7 @@ use Rattle.host_world.proofs.Folds.{entry_rows, turn_is}
 use Rattle.host_world.proofs.Lists.{false_true, some_none, some_same}
 use Rattle.host_world.proofs.Moves.{moves}
 use Rattle.host_world.proofs.Phases.{Quiet, goes_is, held_as, held_is, not_begun, turn_up, with_is}
+use Rattle.host_world.proofs.Rephasing.{reached}
 use Rattle.host_world.proofs.Sound.{Knows, PhaseFact, Sound, TurnFact}
 
 module _ (stories : List Story) (budget : ℕ) where
@@ -74,7 +75,7 @@ module _ (stories : List Story) (budget : ℕ) where
           → pending_at stories budget (commands_in x.history) t.line next
           ≡ pending_at stories budget (commands_in x.history) t.line phase
           → Sound stories budget first past (goes_to w s next holder)
-      advance phase next holder is quiet keeps reached same =
+      advance phase next holder is quiet keeps fact same =
           subst (λ (v : HostState). Sound stories budget first past v)
           (goes_is stories budget w s x t next holder at turn)
           (moves stories budget first past past w s x (in_phase x t next) holder [] (record {
@@ -83,26 +84,13 @@ module _ (stories : List Story) (budget : ℕ) where
             quiet = quiet_is phase is quiet;
             keeps = keeps;
             others = λ n other. (refl, refl);
-            turn = reached_as next reached;
+            turn = reached stories budget before x.history t next next fact;
             replies = ap (λ (l : List Given). given_replies s l) (append-nil w.given)
                 ∙ knows_of.replies;
             rows = ap (λ (l : List Command). commands_in x.history ++ l)
                 (same ∙ sym (pending_is phase is));
             none = λ none. same ∙ sym (pending_is phase is) ∙ none;
           }) sound)
-        where
-          reached_as : (p : Phase) → PhaseFact stories budget
-              (history_left stories budget (first s) (past s)) x.history t p
-              → PhaseFact stories budget (history_left stories budget (first s) (past s)) x.history
-              (record t { phase = next }) p
-          reached_as Asked f = f
-          reached_as Begun f = f
-          reached_as Kept f = f
-          reached_as (Broken from to) f = f
-          reached_as Freed f = f
-          reached_as (Ready outcome) f = f
-          reached_as (Taken outcome reply) f = f
-          reached_as (Plain outcome reply) f = f
 
       no_room : (h : List Entry) → h ≡ before
           → turn_of stories budget (history_left stories budget (first s)

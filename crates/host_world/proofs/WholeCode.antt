@@ -22,6 +22,7 @@ use Rattle.host_world.specs.declared.state.HostState.{HostState}
 use Rattle.host_world.specs.declared.whole.WholeEvent.TheVariants.{Call, Give, Recover, Stop}
 use Rattle.host_world.specs.declared.whole.WholeState.{WholeState}
 use Rattle.host_world.proofs.FollowLemmas.{run-append}
+use Rattle.host_world.proofs.Lists.{some_same}
 
 pub on_ok : {T E P Q : Type 0} (r : Result T E) → (P → Q) → OnOk r P → OnOk r Q
 on_ok (Ok x) f p = f p
@@ -37,12 +38,6 @@ on_host r w new old is = on_ok r (λ same. ap (λ (h : HostState). with_host w h
 abbrev pub so_far : ℕ → List StoreState → List (List ℕ) → List StoreState
 so_far i stores images = stopped_files (take i stores) (take i images) ++ drop i stores
 
-same_file : (x y : StoreState) → Some x ≡ Some y → x ≡ y
-same_file x y is = cc
-
-same_image : (x y : List ℕ) → Some x ≡ Some y → x ≡ y
-same_image x y is = cc
-
 stop_more : (stores : List StoreState) (images : List (List ℕ)) (i : ℕ) (x : StoreState)
     (image : List ℕ) → slice_get stores i ≡ Some x → slice_get images i ≡ Some image
     → set (so_far i stores images) i (file_after x (files.Stop image))
@@ -50,8 +45,8 @@ stop_more : (stores : List StoreState) (images : List (List ℕ)) (i : ℕ) (x :
 stop_more [] images i x image at named = absurd cc
 stop_more (u ∷ stores) [] i x image at named = absurd cc
 stop_more (u ∷ stores) (one ∷ images) zero x image at named =
-    ap (λ (v : StoreState). file_after v (files.Stop image) ∷ stores) (sym (same_file u x at))
-    ∙ ap (λ (l : List ℕ). file_after u (files.Stop l) ∷ stores) (sym (same_image one image named))
+    ap (λ (v : StoreState). file_after v (files.Stop image) ∷ stores) (sym (some_same u x at))
+    ∙ ap (λ (l : List ℕ). file_after u (files.Stop l) ∷ stores) (sym (some_same one image named))
 stop_more (u ∷ stores) (one ∷ images) (suc i) x image at named =
     ap (λ (l : List StoreState). file_after u (files.Stop one) ∷ l)
     (stop_more stores images i x image at named)
@@ -134,10 +129,7 @@ module _ (stories : List Story) (budget : ℕ) (w : WholeState) where
   pub gives_is : (s : ℕ) (host : HostState) → no_put (slice_get w.stores s) ≡ true
       → host ≡ after stories budget w.host (journal.Give s)
       → with_host w host ≡ whole_after stories budget w (Give s)
-  gives_is s host free is =
-      ap (λ (h : HostState). with_host w h) is
-      ∙ ap (λ (b : Bool). with_host w
-      (run stories budget w.host (if b then journal.Give s ∷ [] else []))) (sym free)
+  gives_is s host free is = rw (is, free) refl
 
   pub called_is : (disk : ℕ) (good : Bool) (reads : List ℕ) (mid new : WholeState)
       → (disk == 0) ≡ false → w.host.up ≡ true
@@ -146,9 +138,7 @@ module _ (stories : List Story) (budget : ℕ) (w : WholeState) where
       → new ≡ with_host mid (run stories budget mid.host (closes_host mid.host))
       → new ≡ whole_after stories budget w (Call disk good reads)
   called_is disk good reads mid new other up fails mid_is is =
-      is
-      ∙ ap (λ (m : WholeState). with_host m (run stories budget m.host (closes_host m.host))) mid_is
-      ∙ rw (other, up, fails) refl
+      rw (is, mid_is, other, up, fails) refl
 
   pub stops_is : (image : List ℕ) (images : List (List ℕ)) (mid new : WholeState)
       → is_image w.host.disk image ≡ true → are_images w.stores images ≡ true
@@ -175,15 +165,10 @@ module _ (stories : List Story) (budget : ℕ) (w : WholeState) where
       → new ≡ with_files begun (map begins_opening begun.stores)
       → new ≡ whole_after stories budget w Recover
   recovers_is closed begun new down closed_is begun_is is =
-      is
-      ∙ ap (λ (m : WholeState). with_files m (map begins_opening m.stores)) begun_is
-      ∙ ap (λ (m : WholeState). record {
-        host = after stories budget m.host journal.Recover;
-        stores = map begins_opening m.stores;
-      }) closed_is
-      ∙ ap (λ (h : HostState). record { host = h; stores = map begins_opening w.stores })
-      (sym (run-append stories budget closed_up (journal.Recover ∷ []) w.host))
-      ∙ ap (λ (b : Bool). record {
-        host = run stories budget w.host (if b then [] else closed_up ++ journal.Recover ∷ []);
-        stores = if b then w.stores else map begins_opening w.stores;
-      }) (sym down)
+      rw (
+        is,
+        begun_is,
+        closed_is,
+        down,
+        run-append stories budget closed_up (journal.Recover ∷ []) w.host,
+      ) refl

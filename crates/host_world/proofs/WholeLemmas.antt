@@ -1,42 +1,34 @@
 -- The files of a host's sessions stay in agreement, whatever happens.
-use Rattle.std.proofs.Common.{◌≡◌, ◌⊎◌, inl, inr, ◌∙◌, ℕ, zero, suc, ◌+◌, ◌-◌}
+use Rattle.std.proofs.Common.{◌≡◌, ◌⊎◌, inl, inr, ◌∙◌, ℕ, ◌+◌, ◌-◌}
 use Rattle.std.proofs.Common.{◌<◌, ◌≤◌, ◌==◌, Bool, true, false, drop, get_or}
-use Rattle.std.proofs.lemmas.List.{drop_more}
-use Rattle.std.proofs.Common.{List, [], ◌∷◌, ◌++◌, length, Option}
-use Rattle.std.proofs.Common.{Some, None, refl, sym, ap, subst, arith}
-use Rattle.std.specs.Prelude.{◌&&◌, map, not, set, if◌then◌else◌}
+use Rattle.std.proofs.lemmas.List.{at_drop_all, drop_all, drop_more}
+use Rattle.std.proofs.Common.{List, [], ◌∷◌, ◌++◌, length}
+use Rattle.std.proofs.Common.{Some, refl, sym, ap, subst}
+use Rattle.std.specs.Prelude.{◌&&◌, if◌then◌else◌}
 use Rattle.std.specs.List.{slice_get}
 use Rattle.disk_model.specs.Plain.{is_image}
-use Rattle.gate_journal.specs.Rows.{IsJournal, IsNext}
+use Rattle.gate_journal.specs.Rows.{IsNext}
 use Rattle.gate_journal.specs.declared.row.Row.{Row}
 use Rattle.story_run.specs.declared.story.Story.{Story}
 use Rattle.session_core.specs.declared.entry.Entry.{Entry}
-use Rattle.session_saves.specs.Agreement.{Agrees}
-use Rattle.store_events.specs.declared.event.Event.{Event as FileEvent}
 use Rattle.store_events.specs.declared.event.Event.TheVariants as files
 use Rattle.store_events.specs.declared.state.StoreState.{StoreState}
-use Rattle.store_events.specs.Events.{begins_opening}
-use Rattle.store_events.specs.Events.{file_after}
-use Rattle.store_events.specs.Rows.{session_in_rows, told_of}
-use Rattle.store_events.specs.Session.{Does, EachMissesNone, IsInAgreement, IsUpToDate}
-use Rattle.store_events.specs.Session.{MayCome, SessionState}
-use Rattle.store_events.proofs.AreaLemmas.{opens_areas}
-use Rattle.store_events.proofs.RowLemmas.{begins_by_rows, rows_are_told}
+use Rattle.store_events.specs.Rows.{session_in_rows}
+use Rattle.store_events.specs.Session.{IsUpToDate}
+use Rattle.store_events.proofs.RowLemmas.{begins_by_rows}
 use Rattle.store_events.proofs.SessionLemmas.{stays_in_agreement, warms_in_sixteen}
-use Rattle.store_events.proofs.SteadyLemmas.{opens_steady}
-use Rattle.host_world.specs.Events.{after, holds_journal, run}
+use Rattle.host_world.specs.Events.{after, run}
 use Rattle.host_world.specs.Happenings.{Happening, all_told}
 use Rattle.host_world.specs.Headline.{AreGiven}
-use Rattle.host_world.specs.Keeping.{IsOwnSnapshot, file_set, put_begun, with_event}
+use Rattle.host_world.specs.Keeping.{with_event}
 use Rattle.host_world.specs.Puts.{AreOwnPuts, IsOwnPut}
 use Rattle.host_world.specs.Whole.{all_to_host, are_images, closes_host, fails_at, is_up, no_put}
-use Rattle.host_world.specs.Whole.{put_of, stopped_files, to_files, to_host, whole_after, whole_run}
+use Rattle.host_world.specs.Whole.{to_files, to_host, whole_after, whole_run}
 use Rattle.host_world.specs.WholeHeadline.{EachInAgreement, FilesAgree, LivesAsHost}
 use Rattle.host_world.specs.WholeHeadline.{NoneAreMissed, NoneIsMissed}
 use Rattle.host_world.specs.WholeHeadline.{SessionWarmsInSixteen}
 use Rattle.host_world.specs.declared.event.Event.{Event}
 use Rattle.host_world.specs.declared.event.Event.TheVariants as journal
-use Rattle.host_world.specs.declared.keeping.Snapshot.{Snapshot}
 use Rattle.host_world.specs.declared.whole.WholeEvent.{WholeEvent}
 use Rattle.host_world.specs.declared.whole.WholeEvent.TheVariants.{Take, Want, Hold, Call}
 use Rattle.host_world.specs.declared.whole.WholeEvent.TheVariants.{Free, Run, Keep, Accept}
@@ -52,203 +44,11 @@ use Rattle.host_world.proofs.ReadCode.{down_starts}
 use Rattle.host_world.proofs.ReadingLemmas.{reads_rows}
 use Rattle.host_world.proofs.Runs.{first_of, run_well, start_well}
 use Rattle.host_world.proofs.Sound.{Sound}
+use Rattle.host_world.proofs.Lists.{map_at, some_same}
+use Rattle.host_world.proofs.WholeFiles.{dated, files_of, grown, step_agrees, step_dates}
 use Rattle.host_world.proofs.WholeRows.{Grows, after_rows, recover_rows, stop_rows}
 
--- ---- a list, by its places
-
-some_same : (x y : StoreState) → Some x ≡ Some y → x ≡ y
-some_same x y is = cc
-
--- a file of those afterwards is the one of before, or what became of one of before
-abbrev IsOf : List StoreState → ℕ → (StoreState → StoreState → Type 0) → StoreState → Type 0
-IsOf stores s Step y = (x : StoreState) × (slice_get stores s ≡ Some x) × Step x y
-
-set_at : (stores : List StoreState) (t : ℕ) (x z : StoreState) → slice_get stores t ≡ Some x
-    → (s : ℕ) (y : StoreState) → slice_get (set stores t z) s ≡ Some y
-    → IsOf stores s (λ u v. (v ≡ u) ⊎ ((u ≡ x) × (s ≡ t) × (v ≡ z))) y
-set_at [] t x z at s y is = absurd cc
-set_at (u ∷ stores) zero x z at zero y is =
-    (u, refl, inr (some_same u x at, refl, sym (some_same z y is)))
-set_at (u ∷ stores) zero x z at (suc s) y is = (y, is, inl refl)
-set_at (u ∷ stores) (suc t) x z at zero y is = (u, refl, inl (sym (some_same u y is)))
-set_at (u ∷ stores) (suc t) x z at (suc s) y is =
-    let found = set_at stores t x z at s y is in (
-      found.0,
-      found.1,
-      elim found.2 [
-        | inl same ↦ inl same
-        | inr here ↦ inr (here.0, ap (λ (n : ℕ). suc n) here.1, here.2)
-      ],
-    )
-
-map_at : (f : StoreState → StoreState) (stores : List StoreState) (s : ℕ) (y : StoreState)
-    → slice_get (map f stores) s ≡ Some y → IsOf stores s (λ u v. v ≡ f u) y
-map_at f [] s y is = absurd cc
-map_at f (u ∷ stores) zero y is = (u, refl, sym (some_same (f u) y is))
-map_at f (u ∷ stores) (suc s) y is = map_at f stores s y is
-
-stopped_at : (stores : List StoreState) (images : List (List ℕ)) (s : ℕ) (y : StoreState)
-    → slice_get (stopped_files stores images) s ≡ Some y
-    → IsOf stores s (λ u v. (v ≡ u)
-    ⊎ ((image : List ℕ) × (v ≡ file_after u (files.Stop image)))) y
-stopped_at [] images s y is = absurd cc
-stopped_at (u ∷ stores) [] s y is = (y, is, inl refl)
-stopped_at (u ∷ stores) (image ∷ images) zero y is =
-    (u, refl, inr (image, sym (some_same (file_after u (files.Stop image)) y is)))
-stopped_at (u ∷ stores) (image ∷ images) (suc s) y is = stopped_at stores images s y is
-
--- ---- an opening begins again
-
-opens_agrees : (stories : List Story) (x : SessionState) → IsInAgreement stories x
-    → IsInAgreement stories (record x { store = begins_opening x.store })
-opens_agrees stories x kept = record {
-  steady = opens_steady x.store kept.steady;
-  areas = opens_areas (Agrees stories x.rows x.game) x.store kept.areas;
-  last = kept.last;
-}
-
 module _ (stories : List Story) where
-  -- ---- a row more
-
-  grown : (s : ℕ) (store : StoreState) (rows new : List Row) → IsJournal rows → Grows rows new
-      → IsInAgreement stories (session_in_rows rows s store)
-      → IsInAgreement stories (session_in_rows new s store)
-  grown s store rows new all (inl same) agrees =
-      subst (λ (l : List Row). IsInAgreement stories (session_in_rows l s store)) (sym same) agrees
-  grown s store rows new all (inr (r, next, is)) agrees =
-      let told = rows_are_told stories rows r s store all next in
-      subst (λ (l : List Row). IsInAgreement stories (session_in_rows l s store)) (sym is)
-      (subst (λ (y : SessionState). IsInAgreement stories y) (sym told.0)
-      ((stays_in_agreement stories).goes_on (session_in_rows rows s store)
-      (told_of r s) agrees told.1))
-
-  dated : (s : ℕ) (store : StoreState) (rows : List Row) (r : Row) → IsJournal rows → IsNext rows r
-      → IsInAgreement stories (session_in_rows rows s store)
-      → EachMissesNone (session_in_rows rows s store) (told_of r s)
-      → IsUpToDate (session_in_rows rows s store)
-      → IsUpToDate (session_in_rows (rows ++ r ∷ []) s store)
-  dated s store rows r all next agrees misses date =
-      let told = rows_are_told stories rows r s store all next in
-      subst (λ (y : SessionState). IsUpToDate y) (sym told.0)
-      ((warms_in_sixteen stories).goes_on (session_in_rows rows s store) (told_of r s) agrees told.1
-      date misses)
-
-  -- ---- an event, to a file
-
-  -- it is one of the file's own events, or nothing, or an opening begins
-  abbrev FileStep : SessionState → StoreState → Type 0
-  FileStep x y =
-      (y ≡ x.store)
-      ⊎ ((event : FileEvent) × MayCome stories x (Does event) × (y ≡ file_after x.store event))
-      ⊎ (y ≡ begins_opening x.store)
-
-  step_agrees : (x : SessionState) (y : StoreState) → FileStep x y → IsInAgreement stories x
-      → IsInAgreement stories (record x { store = y })
-  step_agrees x y (inl same) agrees =
-      subst (λ (z : StoreState). IsInAgreement stories (record x { store = z })) (sym same) agrees
-  step_agrees x y (inr (inl (event, may, is))) agrees =
-      subst (λ (z : StoreState). IsInAgreement stories (record x { store = z })) (sym is)
-      ((stays_in_agreement stories).goes_on x (Does event ∷ []) agrees (may, tt))
-  step_agrees x y (inr (inr is)) agrees =
-      subst (λ (z : StoreState). IsInAgreement stories (record x { store = z })) (sym is)
-      (opens_agrees stories x agrees)
-
-  step_dates : (x : SessionState) (y : StoreState) → FileStep x y → IsInAgreement stories x
-      → IsUpToDate x → IsUpToDate (record x { store = y })
-  step_dates x y (inl same) agrees date =
-      subst (λ (z : StoreState). IsUpToDate (record x { store = z })) (sym same) date
-  step_dates x y (inr (inl (event, may, is))) agrees date =
-      subst (λ (z : StoreState). IsUpToDate (record x { store = z })) (sym is)
-      ((warms_in_sixteen stories).goes_on x (Does event ∷ []) agrees (may, tt) date (tt, tt))
-  step_dates x y (inr (inr is)) agrees date =
-      subst (λ (z : StoreState). IsUpToDate (record x { store = z })) (sym is) date
-
-  module _ (budget : ℕ) (w : WholeState) where
-    abbrev x_of : ℕ → StoreState → SessionState
-    x_of s x = session_in_rows w.host.rows s x
-
-    -- it is what became of the session's file
-    abbrev FileOf : ℕ → StoreState → Type 0
-    FileOf s y = (x : StoreState) × (slice_get w.stores s ≡ Some x) × FileStep (x_of s x) y
-
-    as_it_is : (s : ℕ) (y : StoreState) → slice_get w.stores s ≡ Some y → FileOf s y
-    as_it_is s y at = (y, at, inl refl)
-
-    if_of : (b : Bool) (stores : List StoreState) (s : ℕ) (y : StoreState)
-        → (slice_get stores s ≡ Some y → FileOf s y)
-        → slice_get (if b then stores else w.stores) s ≡ Some y → FileOf s y
-    if_of true stores s y step at = step at
-    if_of false stores s y step at = as_it_is s y at
-
-    event_of : (t : ℕ) (event : FileEvent)
-        → ((x : StoreState) → slice_get w.stores t ≡ Some x
-        → MayCome stories (x_of t x) (Does event))
-        → (o : Option StoreState) → slice_get w.stores t ≡ o → (s : ℕ) (y : StoreState)
-        → slice_get (file_set w.stores t event o) s ≡ Some y → FileOf s y
-    event_of t event may None none s y at = as_it_is s y at
-    event_of t event may (Some x) there s y at =
-        let found = set_at w.stores t x (file_after x event) there s y at in
-        (found.0, found.1, of found.0 found.1 found.2)
-      where
-        of : (u : StoreState) → slice_get w.stores s ≡ Some u
-            → (y ≡ u) ⊎ ((u ≡ x) × (s ≡ t) × (y ≡ file_after x event)) → FileStep (x_of s u) y
-        of u at (inl same) = inl same
-        of u at (inr (is_x, is_t, is_y)) =
-            inr (inl (
-              event,
-              subst (λ (n : ℕ). MayCome stories (x_of n u) (Does event)) (sym is_t)
-                  (may u (subst (λ (n : ℕ). slice_get w.stores n ≡ Some u) is_t at)),
-              is_y ∙ ap (λ (v : StoreState). file_after v event) (sym is_x),
-            ))
-
-    files_of : (event : WholeEvent) → IsOwnPut stories w event → (s : ℕ) (y : StoreState)
-        → slice_get (to_files stories w event) s ≡ Some y → FileOf s y
-    files_of (Take t pass line) own s y at = as_it_is s y at
-    files_of (Want t) own s y at = as_it_is s y at
-    files_of (Hold t) own s y at = as_it_is s y at
-    files_of (Call disk good reads) own s y at = of (disk == 0) at
-      where
-        of : (b : Bool) → slice_get (if b then w.stores
-            else if w.host.up then with_event w.stores (disk - 1) (files.Call good reads)
-            else w.stores) s ≡ Some y → FileOf s y
-        of true at = as_it_is s y at
-        of false at =
-            if_of w.host.up (with_event w.stores (disk - 1) (files.Call good reads)) s y
-            (event_of (disk - 1) (files.Call good reads) (λ x there. tt)
-            (slice_get w.stores (disk - 1)) refl s y) at
-    files_of (Free t) own s y at = as_it_is s y at
-    files_of (Run t found) own s y at = as_it_is s y at
-    files_of (Keep t) own s y at = of (put_of stories w t) refl at
-      where
-        of : (o : Option Snapshot) → put_of stories w t ≡ o
-            → slice_get (put_begun w.stores t o) s ≡ Some y → FileOf s y
-        of None is at = as_it_is s y at
-        of (Some snapshot) is at =
-            event_of t (files.Keep snapshot.place snapshot.count snapshot.bytes)
-            (λ x there. own x snapshot there is) (slice_get w.stores t) refl s y at
-    files_of (Accept t) own s y at = as_it_is s y at
-    files_of (Give t) own s y at = as_it_is s y at
-    files_of (Stop []) own s y at = as_it_is s y at
-    files_of (Stop (image ∷ images)) own s y at =
-        if_of (is_image w.host.disk image && are_images w.stores images)
-        (stopped_files w.stores images) s y
-        (λ there. let found = stopped_at w.stores images s y there in (
-          found.0,
-          found.1,
-          elim found.2 [
-            | inl same ↦ inl same
-            | inr stops ↦ inr (inl (files.Stop stops.0, tt, stops.1))
-          ],
-        )) at
-    files_of Recover own s y at = of (is_up w) at
-      where
-        of : (b : Bool) → slice_get (if b then w.stores else map begins_opening w.stores) s ≡ Some y
-            → FileOf s y
-        of true at = as_it_is s y at
-        of false at =
-            let found = map_at begins_opening w.stores s y at in
-            (found.0, found.1, inr (inr found.2))
-
   -- ---- an event, to the rows
 
   module _ (budget : ℕ) (premise : AreGiven stories budget) (w : WholeState)
@@ -342,10 +142,11 @@ module _ (stories : List Story) where
         → EachInAgreement stories budget w
         → EachInAgreement stories budget (whole_after stories budget w event)
     each_agrees event own all s y at =
-        let found = files_of budget w event own s y at in
-        grown s y w.host.rows (run stories budget w.host (to_host w event)).rows sound.journal
-        (rows_grow event)
-        (step_agrees (session_in_rows w.host.rows s found.0) y found.2 (all s found.0 found.1))
+        let found = files_of stories w event own s y at in
+        grown stories s y w.host.rows (run stories budget w.host (to_host w event)).rows
+        sound.journal (rows_grow event)
+        (step_agrees stories (session_in_rows w.host.rows s found.0) y found.2
+        (all s found.0 found.1))
 
     session_dates : (event : WholeEvent) → IsOwnPut stories w event → (s : ℕ)
         → EachInAgreement stories budget w
@@ -359,15 +160,13 @@ module _ (stories : List Story) where
         of : WholeStep event (to_host w event) → IsUpToDate (session_in_rows
             (run stories budget w.host (to_host w event)).rows s y)
         of (inl same) =
-            let found = files_of budget w event own s y at in
-            subst (λ (l : List Row). IsUpToDate (session_in_rows l s y)) (sym same)
-            (step_dates (session_in_rows w.host.rows s found.0) y found.2 (all s found.0 found.1)
-            (date found.0 found.1))
+            let found = files_of stories w event own s y at in
+            rw same (step_dates stories (session_in_rows w.host.rows s found.0) y found.2
+            (all s found.0 found.1) (date found.0 found.1))
         of (inr (r, next, is, files_same)) =
             let there = subst (λ (l : List StoreState). slice_get l s ≡ Some y) files_same at in
-            subst (λ (l : List Row). IsUpToDate (session_in_rows l s y)) (sym is)
-            (dated s y w.host.rows r sound.journal next (all s y there) (none y r there is)
-            (date y there))
+            rw is (dated stories s y w.host.rows r sound.journal next (all s y there)
+            (none y r there is) (date y there))
 
   -- ---- a list of events
 
@@ -433,12 +232,9 @@ module _ (stories : List Story) where
       let up = all_date budget premise events w (first_of stories budget premise w.host) (λ t. [])
       (start_well stories budget premise w.host start) all own s
       (λ x here. subst (λ (z : StoreState). IsUpToDate (session_in_rows w.host.rows s z))
-      (one_file first x (sym at ∙ here)) date) none last there in
+      (some_same first x (sym at ∙ here)) date) none last there in
       (warms_in_sixteen stories).warms (session_in_rows v.host.rows s last) place image
       (agree s last there) up row is
-    where
-      one_file : (x y : StoreState) → Some x ≡ Some y → x ≡ y
-      one_file x y is = cc
 
   -- ---- one by one
 
@@ -448,49 +244,29 @@ module _ (stories : List Story) where
       → whole_run stories budget v (drop (i + 1) events)
       ≡ whole_run stories budget w (drop i events)
   whole_next budget events i event w v lt here is =
-      ap (λ (u : WholeState). whole_run stories budget u (drop (i + 1) events)) is
-      ∙ ap (λ (e : WholeEvent). whole_run stories budget (whole_after stories budget w e)
-      (drop (i + 1) events)) here
-      ∙ sym (ap (λ (l : List WholeEvent). whole_run stories budget w l)
-      (drop_more events i event lt))
+      rw (is, drop_more events i event lt, sym here) refl
 
   pub whole_end : (budget : ℕ) (events : List WholeEvent) (i : ℕ) (w : WholeState)
       → length events ≤ i → whole_run stories budget w (drop i events) ≡ w
-  whole_end budget [] zero w le = refl
-  whole_end budget [] (suc i) w le = refl
-  whole_end budget (e ∷ events) zero w le = absurd (omega (arith, le))
-  whole_end budget (e ∷ events) (suc i) w le = whole_end budget events i w (omega (arith, le))
+  whole_end budget events i w le =
+      at_drop_all (λ (l : List WholeEvent). whole_run stories budget w l) events i le
 
--- ---- own puts, one by one
+  -- ---- own puts, one by one
 
-module _ (stories : List Story) where
   pub own_next : (budget : ℕ) (events : List WholeEvent) (i : ℕ) (event : WholeEvent)
       (w v : WholeState) → i < length events
       → event ≡ get_or events i event → v ≡ whole_after stories budget w event
       → IsOwnPut stories w event → AreOwnPuts stories budget v (drop (i + 1) events)
       → AreOwnPuts stories budget w (drop i events)
   own_next budget events i event w v lt here is own more =
-      subst (λ (l : List WholeEvent). AreOwnPuts stories budget w l)
-      (sym (drop_more events i event lt))
-      (subst (λ (e : WholeEvent). IsOwnPut stories w e
-      × AreOwnPuts stories budget (whole_after stories budget w e) (drop (i + 1) events)) here
-      (own, subst (λ (u : WholeState). AreOwnPuts stories budget u (drop (i + 1) events)) is more))
+      rw (drop_more events i event lt, sym here)
+      (own, subst (λ (u : WholeState). AreOwnPuts stories budget u (drop (i + 1) events)) is more)
 
   pub own_end : (budget : ℕ) (events : List WholeEvent) (i : ℕ) (w : WholeState)
       → length events ≤ i → AreOwnPuts stories budget w (drop i events)
-  own_end budget [] zero w le = tt
-  own_end budget [] (suc i) w le = tt
-  own_end budget (e ∷ events) zero w le = absurd (omega (arith, le))
-  own_end budget (e ∷ events) (suc i) w le = own_end budget events i w (omega (arith, le))
+  own_end budget events i w le = rw (drop_all i events le) tt
 
 -- ---- where it begins
-
-file_of : (files : List (List ℕ)) (s : ℕ) (x : StoreState)
-    → slice_get (map file_over files) s ≡ Some x
-    → (bytes : List ℕ) × (slice_get files s ≡ Some bytes) × (x ≡ file_over bytes)
-file_of [] s x is = absurd cc
-file_of (bytes ∷ files) zero x is = (bytes, refl, sym (some_same (file_over bytes) x is))
-file_of (bytes ∷ files) (suc s) x is = file_of files s x is
 
 pub may_begin : (journal : List ℕ) (files : List (List ℕ))
     → MayBegin journal files (whole_down journal files)
@@ -500,9 +276,7 @@ may_begin journal files rows all shut =
     let same : rows_or_none (rows_in journal) ≡ rows = ap rows_or_none read in (
       down_starts journal rows all shut,
       (λ stories budget agreed s x at.
-          let found = file_of files s x at in
-          subst (λ (l : List Row). IsInAgreement stories (session_in_rows l s x)) (sym same)
-          (subst (λ (z : StoreState). IsInAgreement stories (session_in_rows rows s z))
-          (sym found.2)
-          (begins_by_rows stories rows s found.0 all (agreed s found.0 found.1)))),
+          let found = map_at file_over files s x at in
+          rw (same, found.2)
+          (begins_by_rows stories rows s found.0 all (agreed s found.0 found.1))),
     )

@@ -1,29 +1,23 @@
 -- What is so of each area stays so, through every event.
 use Rattle.std.proofs.Common.{◌≡◌, ◌⊎◌, inl, inr, ◌∙◌, ℕ, Bool, true}
 use Rattle.std.proofs.Common.{false, List, refl, sym, ap, subst}
-use Rattle.std.specs.Prelude.{◌&&◌, if◌then◌else◌, Option, Some, None, IfSome}
+use Rattle.std.specs.Prelude.{Some, IfSome}
 use Rattle.std.proofs.lemmas.Bool.{cases_Bool}
+use Rattle.std.proofs.lemmas.Option.{none-some, same_Some}
 use Rattle.disk_model.specs.DiskState.{IsDiskImage}
-use Rattle.disk_model.specs.Plain.{is_image}
-use Rattle.disk_model.proofs.PlainLaws.{image_is}
 use Rattle.snap_store.specs.declared.side.Side.{Side}
 use Rattle.snap_store.specs.declared.side.Side.TheVariants.{A, B}
 use Rattle.snap_store.specs.declared.slot.Slot.{Slot}
 use Rattle.snap_store.specs.declared.slot.Slot.TheVariants.{Closed, Open, Unsure}
 use Rattle.snap_store.specs.declared.slot.Slots.{Slots}
-use Rattle.snap_store.specs.File.{Stored, whole_area}
+use Rattle.snap_store.specs.File.{Stored, openable_area, whole_area}
 use Rattle.snap_store.specs.Images.{StandsOnSide, loosened}
 use Rattle.snap_store.specs.Slots.{opposite_side, slot_in, slot_of, taken_side, with_slot}
 use Rattle.snap_store.specs.Store.{area_held}
 use Rattle.snap_store.proofs.PutLemmas.{slot_kept, slot_set}
 use Rattle.snap_store.proofs.StoreLemmas.{held_in, held_is, laid_side, sound_images}
-use Rattle.store_events.specs.declared.disk.DiskCall.{DiskCall}
-use Rattle.store_events.specs.declared.disk.DiskCall.TheVariants.{Sync, Look}
 use Rattle.store_events.specs.declared.event.Event.{Event}
 use Rattle.store_events.specs.declared.event.Event.TheVariants.{Keep, Call, Stop, Recover}
-use Rattle.store_events.specs.declared.state.Reading.{Reading}
-use Rattle.store_events.specs.declared.state.Reading.TheVariants.{FirstSync, AskSize, ReadFront}
-use Rattle.store_events.specs.declared.state.Reading.TheVariants.{ReadA, ReadB}
 use Rattle.store_events.specs.declared.state.Stage.{Stage}
 use Rattle.store_events.specs.declared.state.Stage.TheVariants.{CloseWrite, CloseSync, HeadWrite}
 use Rattle.store_events.specs.declared.state.Stage.TheVariants.{BytesWrite, AreaSync, OpenWrite}
@@ -31,18 +25,36 @@ use Rattle.store_events.specs.declared.state.Stage.TheVariants.{OpenSync}
 use Rattle.store_events.specs.declared.state.Step.{Step}
 use Rattle.store_events.specs.declared.state.Step.TheVariants.{Idle, Put, Opening}
 use Rattle.store_events.specs.declared.state.StoreState.{StoreState}
-use Rattle.store_events.specs.Disk.{fault_counted, disk_after, may_work}
-use Rattle.store_events.specs.Events.{file_after, store_called, store_comes_up, has_room}
-use Rattle.store_events.specs.Events.{keep_at, next_store_call, store_onward, begins_opening}
+use Rattle.store_events.specs.Disk.{disk_after}
+use Rattle.store_events.specs.Events.{file_after, store_called, store_comes_up}
+use Rattle.store_events.specs.Events.{next_store_call, begins_opening}
 use Rattle.store_events.specs.Events.{put_begins, put_call, put_onward, slots_in, store_stopped}
 use Rattle.store_events.specs.Steady.{HasStage, HasStep, IsPutting, IsSteady}
 use Rattle.store_events.specs.Steady.{seen_of, store_of, always_tells}
 use Rattle.store_events.specs.Areas.{Brings, EachArea, EachOpenable, area_being_put}
-use Rattle.store_events.proofs.ImageLemmas.{look_leaves, stays_after, stays_bad, sync_leaves}
-use Rattle.store_events.proofs.SteadyLemmas.{put_leaves, side_of_both}
+use Rattle.store_events.proofs.ImageLemmas.{stays_after}
+use Rattle.store_events.proofs.EventLemmas.{bad_call, bad_reading, good_call, good_reading, keeps}
+use Rattle.store_events.proofs.EventLemmas.{reopens, stops}
+use Rattle.store_events.proofs.PuttingLemmas.{put_leaves, side_of_both}
 
-some_same : {A : Type 0} {x y : A} → Some x ≡ Some y → x ≡ y
-some_same is = cc
+-- ---- both sides
+
+pub same_or_other : (side s : Side) → (s ≡ side) ⊎ (s ≡ opposite_side side)
+same_or_other A A = inl refl
+same_or_other A B = inr refl
+same_or_other B A = inr refl
+same_or_other B B = inl refl
+
+pub shown_side : (side : Side) (file : List ℕ) → slot_of (slots_in file) side ≡ slot_in side file
+shown_side A file = refl
+shown_side B file = refl
+
+-- what is held once a file was read may open in it
+pub shown_held : (side : Side) (file : List ℕ) (area : Stored)
+    → area_held side (slot_of (slots_in file) side) file ≡ Some area
+    → openable_area side file ≡ Some area
+shown_held A file area is = sym (held_in A file) ∙ is
+shown_held B file area is = sym (held_in B file) ∙ is
 
 -- ---- what is held, as the disk reads otherwise
 
@@ -77,13 +89,10 @@ stands_by w steady c image = elim (cases_Bool w.made) [
       (steady.sound.unmade unmade).1)
 ]
 
-no_area : (area : Stored) → None ≡ Some area → ⊥
-no_area area is = cc
-
 held_closed : (P : Stored → Type 0) (slots : Slots) (file : List ℕ)
     → ((side : Side) → slot_of slots side ≡ Closed) → HeldBy P slots file
 held_closed P slots file closed side area is =
-    absurd (no_area area (sym (ap (λ (s : Slot). area_held side s file) (closed side)) ∙ is))
+    absurd (none-some area (sym (ap (λ (s : Slot). area_held side s file) (closed side)) ∙ is))
 
 -- where it reads as one of its images
 pub held_at : (P : Stored → Type 0) (w : StoreState) → IsSteady w → HeldBy P w.slots w.disk.seen
@@ -124,12 +133,6 @@ module _ (P : Stored → Type 0) (w : StoreState) (steady : IsSteady w) (all : E
       → HeldBy P (with_slot w.slots side slot) w.disk.seen
   known_held slot here s x is = of (same_or_other side s)
     where
-      same_or_other : (side s : Side) → (s ≡ side) ⊎ (s ≡ opposite_side side)
-      same_or_other A A = inl refl
-      same_or_other A B = inr refl
-      same_or_other B A = inr refl
-      same_or_other B B = inl refl
-
       of : (s ≡ side) ⊎ (s ≡ opposite_side side) → P x
       of (inl same) =
           here x
@@ -146,84 +149,39 @@ module _ (P : Stored → Type 0) (w : StoreState) (steady : IsSteady w) (all : E
           beside is)
 
   closed_held : (x : Stored) → area_held side Closed w.disk.seen ≡ Some x → P x
-  closed_held x is = absurd (no_area x is)
+  closed_held x is = absurd (none-some x is)
 
   whole_held : whole_area side w.disk.seen ≡ Some area → (x : Stored)
       → whole_area side w.disk.seen ≡ Some x → P x
-  whole_held there x is = subst P (some_same (sym there ∙ is)) new
+  whole_held there x is = subst P (same_Some area x (sym there ∙ is)) new
 
   put_areas : (stage : Stage) → HasStage w stage side area → (reads : List ℕ)
       → (let q = disk_after (put_call stage side area) true reads w.disk in
       EachArea P (put_onward (record w { disk = q }) stage side area))
-  put_areas CloseWrite has reads = record {
-    held = put_held CloseWrite has true reads
-        (stays_after (put_call CloseWrite side area) reads w.disk steady.reads);
-    put = new;
-  }
-  put_areas CloseSync has reads = record { held = known_held Closed closed_held; put = new }
-  put_areas HeadWrite has reads = record {
-    held = put_held HeadWrite has true reads
-        (stays_after (put_call HeadWrite side area) reads w.disk steady.reads);
-    put = new;
-  }
-  put_areas BytesWrite has reads = record {
-    held = put_held BytesWrite has true reads
-        (stays_after (put_call BytesWrite side area) reads w.disk steady.reads);
-    put = new;
-  }
-  put_areas AreaSync has reads =
-      record { held = known_held Unsure (whole_held has.1); put = new }
-  put_areas OpenWrite has reads = record {
-    held = put_held OpenWrite has true reads
-        (stays_after (put_call OpenWrite side area) reads w.disk steady.reads);
-    put = new;
-  }
-  put_areas OpenSync has reads =
-      record { held = known_held (Open area.place area.count) (whole_held has.1.1); put = tt }
+  put_areas stage has reads = of stage has
+    where
+      write_held : (s : Stage) → HasStage w s side area
+          → HeldBy P w.slots (disk_after (put_call s side area) true reads w.disk).seen
+      write_held s has =
+          put_held s has true reads (stays_after (put_call s side area) reads w.disk steady.reads)
+
+      of : (s : Stage) → HasStage w s side area
+          → (let q = disk_after (put_call s side area) true reads w.disk in
+          EachArea P (put_onward (record w { disk = q }) s side area))
+      of CloseWrite has = record { held = write_held CloseWrite has; put = new }
+      of CloseSync has = record { held = known_held Closed closed_held; put = new }
+      of HeadWrite has = record { held = write_held HeadWrite has; put = new }
+      of BytesWrite has = record { held = write_held BytesWrite has; put = new }
+      of AreaSync has = record { held = known_held Unsure (whole_held has.1); put = new }
+      of OpenWrite has = record { held = write_held OpenWrite has; put = new }
+      of OpenSync has = record {
+        held = known_held (Open area.place area.count) (whole_held has.1.1);
+        put = tt;
+      }
 
 -- ---- every call
 
 module _ (P : Stored → Type 0) where
-  bad_areas : (w : StoreState) → IsSteady w → EachArea P w → (step : Step) → HasStep w step
-      → IfSome (area_being_put step) P → (call : DiskCall)
-      → next_store_call step ≡ Some call → (reads : List ℕ)
-      → (let q = disk_after call false reads w.disk in IsDiskImage q q.seen
-      → HeldBy P w.slots q.seen)
-  bad_areas w steady all Idle has put call is reads read = absurd cc
-  bad_areas w steady all (Put stage side area) has put call is reads read =
-      let same : put_call stage side area ≡ call = some_same is in
-      subst (λ (d : DiskCall). HeldBy P w.slots (disk_after d false reads w.disk).seen) same
-      (put_held P w steady all side area has.0 put stage has.1 false reads
-      (subst (λ (d : DiskCall). IsDiskImage (disk_after d false reads w.disk)
-      (disk_after d false reads w.disk).seen) (sym same) read))
-  bad_areas w steady all (Opening reading) has put call is reads read = of reading is
-    where
-      by_image : IsDiskImage w.disk (disk_after call false reads w.disk).seen
-          → HeldBy P w.slots (disk_after call false reads w.disk).seen
-      by_image image = held_at P w steady all.held (disk_after call false reads w.disk).seen image
-
-      of_sync : Sync ≡ call → HeldBy P w.slots (disk_after call false reads w.disk).seen
-      of_sync same =
-          by_image (subst (λ (d : DiskCall). IsDiskImage (disk_after d false reads w.disk)
-          (disk_after d false reads w.disk).seen
-          → IsDiskImage w.disk (disk_after d false reads w.disk).seen)
-          same (λ image. sync_leaves false reads w.disk reads steady.reads image) read)
-
-      of_look : Look ≡ call → HeldBy P w.slots (disk_after call false reads w.disk).seen
-      of_look same =
-          by_image (subst (λ (d : DiskCall). IsDiskImage (disk_after d false reads w.disk)
-          (disk_after d false reads w.disk).seen
-          → IsDiskImage w.disk (disk_after d false reads w.disk).seen)
-          same (λ image. look_leaves false reads w.disk reads image) read)
-
-      of : (r : Reading) → next_store_call (Opening r) ≡ Some call
-          → HeldBy P w.slots (disk_after call false reads w.disk).seen
-      of FirstSync is = of_sync (some_same is)
-      of AskSize is = of_look (some_same is)
-      of ReadFront is = of_look (some_same is)
-      of ReadA is = of_look (some_same is)
-      of ReadB is = of_look (some_same is)
-
   -- each area that may open in an image is one that is held
   pub in_image : (w : StoreState) → IsSteady w → EachArea P w → (image : List ℕ)
       → IsDiskImage w.disk image → EachOpenable P image
@@ -233,78 +191,34 @@ module _ (P : Stored → Type 0) where
       (store_of w) steady.sound refl image is).openable side area
       there)
 
-  shown_side : (side : Side) (file : List ℕ) → slot_of (slots_in file) side ≡ slot_in side file
-  shown_side A file = refl
-  shown_side B file = refl
-
   up_areas : (w : StoreState) → IsSteady w → EachArea P w → EachArea P (store_comes_up w)
   up_areas w steady all = record {
-    held = λ side area is.
-        in_image w steady all w.disk.seen steady.reads side area
-        (sym (held_in side w.disk.seen)
-        ∙ ap (λ (s : Slot). area_held side s w.disk.seen) (sym (shown_side side w.disk.seen)) ∙ is);
+    held = λ side area is. in_image w steady all w.disk.seen steady.reads side area
+        (shown_held side w.disk.seen area is);
     put = tt;
   }
 
-  abbrev GoodAreas : StoreState → Step → List ℕ → DiskCall → Type 0
-  GoodAreas w step reads call =
-      EachArea P (store_onward (record w { disk = disk_after call true reads w.disk }) step)
-
-  good_areas : (w : StoreState) → IsSteady w → EachArea P w → (step : Step) → HasStep w step
-      → IfSome (area_being_put step) P → (call : DiskCall)
-      → next_store_call step ≡ Some call → (reads : List ℕ)
-      → GoodAreas w step reads call
-  good_areas w steady all Idle has put call is reads = absurd cc
-  good_areas w steady all (Put stage side area) has put call is reads =
-      subst (λ (d : DiskCall). GoodAreas w (Put stage side area) reads d) (some_same is)
-      (put_areas P w steady all side area has.0 put stage has.1 reads)
-  good_areas w steady all (Opening reading) has put call is reads = of reading is
-    where
-      of : (r : Reading)
-          → next_store_call (Opening r) ≡ Some call
-          → GoodAreas w (Opening r) reads call
-      of FirstSync is =
-          subst (λ (d : DiskCall). GoodAreas w (Opening FirstSync) reads d) (some_same is)
-          (record { held = all.held; put = tt })
-      of AskSize is =
-          subst (λ (d : DiskCall). GoodAreas w (Opening AskSize) reads d) (some_same is)
-          (record { held = all.held; put = tt })
-      of ReadFront is =
-          subst (λ (d : DiskCall). GoodAreas w (Opening ReadFront) reads d) (some_same is)
-          (record { held = all.held; put = tt })
-      of ReadA is =
-          subst (λ (d : DiskCall). GoodAreas w (Opening ReadA) reads d) (some_same is)
-          (record { held = all.held; put = tt })
-      of ReadB is =
-          subst (λ (d : DiskCall). GoodAreas w (Opening ReadB) reads d) (some_same is)
-          (up_areas w steady all)
-
   called_areas : (w : StoreState) → IsSteady w → EachArea P w → (good : Bool) (reads : List ℕ)
       → (step : Step) → HasStep w step → IfSome (area_being_put step) P
-      → (call : Option DiskCall) → next_store_call step ≡ call
-      → EachArea P (store_called w good reads step call)
-  called_areas w steady all good reads step has put None is = all
-  called_areas w steady all true reads step has put (Some call) is = of (may_work call)
-    where
-      of : (b : Bool)
-          → EachArea P (if b
-          then store_onward (record w { disk = disk_after call true reads w.disk }) step else w)
-      of true = good_areas w steady all step has put call is reads
-      of false = all
-  called_areas w steady all false reads step has put (Some call) is =
-      of (is_image (disk_after call false reads w.disk) reads) refl
-    where
-      of : (b : Bool) → is_image (disk_after call false reads w.disk) reads ≡ b
-          → EachArea P (if b then record w {
-            disk = disk_after call false reads w.disk;
-            faults = fault_counted w.faults;
-            step = Idle;
-          } else w)
-      of true told = record {
-        held = bad_areas w steady all step has put call is reads (stays_bad call reads w.disk told);
+      → EachArea P (store_called w good reads step (next_store_call step))
+  called_areas w steady all good reads Idle has put = all
+  called_areas w steady all true reads (Put stage side area) has put =
+      good_call (EachArea P) w all (Put stage side area) (put_call stage side area) reads
+      (put_areas P w steady all side area has.0 put stage has.1 reads)
+  called_areas w steady all false reads (Put stage side area) has put =
+      bad_call (EachArea P) w all (Put stage side area) (put_call stage side area) reads (λ read.
+      record {
+        held = put_held P w steady all side area has.0 put stage has.1 false reads read;
         put = tt;
-      }
-      of false told = all
+      })
+  called_areas w steady all true reads (Opening reading) has put =
+      good_reading (EachArea P) w all reading has reads (record { held = all.held; put = tt })
+      (λ only next. record { held = all.held; put = tt }) (λ only. up_areas w steady all)
+  called_areas w steady all false reads (Opening reading) has put =
+      bad_reading (EachArea P) w all reading reads steady.reads (λ q narrower read. record {
+        held = held_at P w steady all.held q.seen (narrower q.seen read);
+        put = tt;
+      })
 
   -- ---- the other events
 
@@ -331,17 +245,6 @@ module _ (P : Stored → Type 0) where
       of B B slot at x is = all.held B x
           (ap (λ (t : Slot). area_held B t w.disk.seen) at ∙ loosened_held B slot w.disk.seen x is)
 
-  keep_areas : (w : StoreState) → EachArea P w → (area : Stored) → P area → (step : Step)
-      → EachArea P (keep_at w area step)
-  keep_areas w all area new Idle =
-      of (w.up && w.made && has_room area)
-    where
-      of : (b : Bool) → EachArea P (if b then put_begins w (taken_side w.slots) area else w)
-      of true = begins_areas w (taken_side w.slots) area all new
-      of false = all
-  keep_areas w all area new (Put stage side old) = all
-  keep_areas w all area new (Opening reading) = all
-
   pub stop_areas : (w : StoreState) → IsSteady w → EachArea P w → (image : List ℕ)
       → IsDiskImage w.disk image → EachArea P (store_stopped w image)
   stop_areas w steady all image is =
@@ -353,18 +256,12 @@ module _ (P : Stored → Type 0) where
   pub after_areas : (w : StoreState) (event : Event) → IsSteady w → Brings P event → EachArea P w
       → EachArea P (file_after w event)
   after_areas w (Keep place count bytes) steady brings all =
-      keep_areas w all (record { place = place; count = count; bytes = bytes }) brings w.step
+      let area : Stored = record { place = place; count = count; bytes = bytes } in
+      keeps (EachArea P) w all area w.step
+      (λ _. begins_areas w (taken_side w.slots) area all brings)
   after_areas w (Call good reads) steady brings all =
-      called_areas w steady all good reads w.step steady.step all.put (next_store_call w.step) refl
-  after_areas w (Stop image) steady brings all = of (is_image w.disk image) refl
-    where
-      of : (b : Bool)
-          → is_image w.disk image ≡ b
-          → EachArea P (if b then store_stopped w image else w)
-      of true is = stop_areas w steady all image (image_is w.disk image is)
-      of false is = all
-  after_areas w Recover steady brings all = of w.up
-    where
-      of : (b : Bool) → EachArea P (if b then w else begins_opening w)
-      of true = all
-      of false = opens_areas w all
+      called_areas w steady all good reads w.step steady.step all.put
+  after_areas w (Stop image) steady brings all =
+      stops (EachArea P) w all image (stop_areas w steady all image)
+  after_areas w Recover steady brings all =
+      reopens (EachArea P) w all w.up (opens_areas w all)

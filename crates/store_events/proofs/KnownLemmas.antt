@@ -1,10 +1,11 @@
 -- An area that is known to be open stays so until a newer one is.
 use Rattle.std.proofs.Common.{◌≡◌, ◌⊎◌, inl, inr, ◌∙◌, ℕ, ◌≤◌, Bool, true, false, List, refl}
-use Rattle.std.proofs.Common.{ap, subst, arith}
-use Rattle.std.specs.Prelude.{◌&&◌, ◌==◌, if◌then◌else◌, Option, Some, None}
+use Rattle.std.proofs.Common.{ap, subst, sym, arith}
+use Rattle.std.specs.Prelude.{◌&&◌, ◌==◌, if◌then◌else◌, Some, None}
+use Rattle.std.proofs.lemmas.Bool.{and_parts}
 use Rattle.std.proofs.lemmas.Bool.Decides.{nat_tests}
+use Rattle.std.proofs.lemmas.Option.{cond_some}
 use Rattle.disk_model.specs.DiskState.{IsDiskImage}
-use Rattle.disk_model.specs.Plain.{is_image}
 use Rattle.snap_store.specs.declared.side.Side.{Side}
 use Rattle.snap_store.specs.declared.side.Side.TheVariants.{A, B}
 use Rattle.snap_store.specs.declared.slot.Slot.{Slot}
@@ -16,13 +17,12 @@ use Rattle.snap_store.specs.Images.{loosened}
 use Rattle.snap_store.specs.Slots.{is_before, opposite_side, slot_in}
 use Rattle.snap_store.specs.Slots.{slot_of, taken_side, with_slot}
 use Rattle.snap_store.specs.Store.{IsImageOf}
+use Rattle.session_saves.specs.Saves.{HasSince}
 use Rattle.snap_store.proofs.PutLemmas.{slot_kept}
 use Rattle.snap_store.proofs.StoreLemmas.{sound_images}
 use Rattle.store_events.specs.declared.disk.DiskCall.{DiskCall}
 use Rattle.store_events.specs.declared.event.Event.{Event}
 use Rattle.store_events.specs.declared.event.Event.TheVariants.{Keep, Call, Stop, Recover}
-use Rattle.store_events.specs.declared.state.Reading.TheVariants.{FirstSync, AskSize, ReadFront}
-use Rattle.store_events.specs.declared.state.Reading.TheVariants.{ReadA, ReadB}
 use Rattle.store_events.specs.declared.state.Stage.{Stage}
 use Rattle.store_events.specs.declared.state.Stage.TheVariants.{CloseWrite, CloseSync, HeadWrite}
 use Rattle.store_events.specs.declared.state.Stage.TheVariants.{BytesWrite, AreaSync, OpenWrite}
@@ -30,38 +30,20 @@ use Rattle.store_events.specs.declared.state.Stage.TheVariants.{OpenSync}
 use Rattle.store_events.specs.declared.state.Step.{Step}
 use Rattle.store_events.specs.declared.state.Step.TheVariants.{Idle, Put, Opening}
 use Rattle.store_events.specs.declared.state.StoreState.{StoreState}
-use Rattle.store_events.specs.Disk.{fault_counted, disk_after, may_work}
-use Rattle.store_events.specs.Events.{file_after, store_called, store_comes_up, has_room}
-use Rattle.store_events.specs.Events.{keep_at, next_store_call, store_onward, begins_opening}
-use Rattle.store_events.specs.Events.{put_begins, put_onward, slots_in, store_stopped}
+use Rattle.store_events.specs.Disk.{disk_after}
+use Rattle.store_events.specs.Events.{file_after, store_called, store_comes_up}
+use Rattle.store_events.specs.Events.{next_store_call}
+use Rattle.store_events.specs.Events.{put_call, put_onward}
 use Rattle.store_events.specs.Steady.{HasStep, IsPutting, IsSteady, seen_of, store_of, always_tells}
 use Rattle.store_events.specs.Areas.{EachArea}
-
--- an area of this OPEN row and of at least so many inputs is known to be open
-abbrev pub Has : ℕ → ℕ → Slots → Type 0
-Has place least slots =
-    (side : Side) × (count : ℕ) × (slot_of slots side ≡ Open place count) × (least ≤ count)
+use Rattle.store_events.proofs.AreaLemmas.{same_or_other, shown_side}
+use Rattle.store_events.proofs.EventLemmas.{bad_call, bad_reading, good_call, good_reading, keeps}
+use Rattle.store_events.proofs.EventLemmas.{reopens, stops}
 
 -- ---- the area beside the one that is taken is no older
 
-closed_open : (place count : ℕ) → Closed ≡ Open place count → ⊥
-closed_open place count is = cc
-
-unsure_open : (place count : ℕ) → Unsure ≡ Open place count → ⊥
-unsure_open place count is = cc
-
 open_same : (p n place count : ℕ) → Open p n ≡ Open place count → (p ≡ place) × (n ≡ count)
-open_same p n place count is = (ap place_in is, ap count_in is)
-  where
-    place_in : Slot → ℕ
-    place_in Closed = 0
-    place_in Unsure = 0
-    place_in (Open p n) = p
-
-    count_in : Slot → ℕ
-    count_in Closed = 0
-    count_in Unsure = 0
-    count_in (Open p n) = n
+open_same p n place count is = (cc, cc)
 
 -- it isn't before the one that is taken
 abbrev NoOlder : Slots → Side → ℕ → ℕ → Type 0
@@ -89,25 +71,23 @@ taken_of (Open p n) (Open p' n') =
           p',
           n',
           refl,
-          subst (λ (m : ℕ). is_before p' n' m count ≡ false) same.0
-              (subst (λ (m : ℕ). is_before p' n' p m ≡ false) same.1 (turned_before p n p' n' is)),
+          rw (sym same.0, sym same.1) (turned_before p n p' n' is),
         )
     of false is place count at =
         let same = open_same p' n' place count at in (
           p,
           n,
           refl,
-          subst (λ (m : ℕ). is_before p n m count ≡ false) same.0
-              (subst (λ (m : ℕ). is_before p n p' m ≡ false) same.1 is),
+          rw (sym same.0, sym same.1) is,
         )
-taken_of (Open p n) Closed = λ place count at. absurd (closed_open place count at)
-taken_of (Open p n) Unsure = λ place count at. absurd (unsure_open place count at)
-taken_of Closed (Open p' n') = λ place count at. absurd (closed_open place count at)
-taken_of Unsure (Open p' n') = λ place count at. absurd (unsure_open place count at)
-taken_of Closed Closed = λ place count at. absurd (closed_open place count at)
-taken_of Closed Unsure = λ place count at. absurd (closed_open place count at)
-taken_of Unsure Closed = λ place count at. absurd (unsure_open place count at)
-taken_of Unsure Unsure = λ place count at. absurd (unsure_open place count at)
+taken_of (Open p n) Closed = λ place count at. absurd cc
+taken_of (Open p n) Unsure = λ place count at. absurd cc
+taken_of Closed (Open p' n') = λ place count at. absurd cc
+taken_of Unsure (Open p' n') = λ place count at. absurd cc
+taken_of Closed Closed = λ place count at. absurd cc
+taken_of Closed Unsure = λ place count at. absurd cc
+taken_of Unsure Closed = λ place count at. absurd cc
+taken_of Unsure Unsure = λ place count at. absurd cc
 
 no_older : (slots : Slots) → TakenOf slots (taken_side slots)
 no_older slots = taken_of slots.a slots.b
@@ -123,17 +103,11 @@ same_row p n place count is le =
 open_parts : (header one whole : Bool) (x y : Stored)
     → (if header && one && whole then Some x else None) ≡ Some y
     → (header ≡ true) × (one ≡ true) × (whole ≡ true) × (x ≡ y)
-open_parts true true true x y is = (refl, refl, refl, cc)
-open_parts true true false x y is = absurd cc
-open_parts true false true x y is = absurd cc
-open_parts true false false x y is = absurd cc
-open_parts false true true x y is = absurd cc
-open_parts false true false x y is = absurd cc
-open_parts false false true x y is = absurd cc
-open_parts false false false x y is = absurd cc
-
-not_zero : (gate : ℕ) → (gate == 1) ≡ true → (gate == 0) ≡ false
-not_zero gate is = grind (arith, nat_tests)
+open_parts header one whole x y is =
+    let found = cond_some (header && one && whole) x y is in
+    let all = and_parts (header && one) whole found.0 in
+    let gates = and_parts header one all.0 in
+    (gates.0, gates.1, all.1, found.1)
 
 -- an area that is open in a file is known to be, once the file was read
 pub slot_shown : (side : Side) (file : List ℕ) (area : Stored) → open_area side file ≡ Some area
@@ -145,25 +119,24 @@ slot_shown side file area is =
     let header = parts.0 in
     let one = parts.1 in
     let whole = parts.2 in
-    let zero = not_zero (gate_byte side file) parts.1 in
+    let zero : (gate_byte side file == 0) ≡ false = grind (arith, nat_tests) in
     let at : Open (area_place side file) (count_at side file) ≡ Open area.place area.count =
     ap (λ (x : Stored). Open x.place x.count) parts.3 in
     rw (header, zero, one, whole) at
 
 -- ---- what a put does to what is known
 
-same_or_other : (side s : Side) → (s ≡ side) ⊎ (s ≡ opposite_side side)
-same_or_other A A = inl refl
-same_or_other A B = inr refl
-same_or_other B A = inr refl
-same_or_other B B = inl refl
-
 -- what is known of one side is known otherwise, but the open one is the other
 beside_has : (place least : ℕ) (slots : Slots) (side : Side) (slot : Slot) (count : ℕ)
     → slot_of slots (opposite_side side) ≡ Open place count → least ≤ count
-    → Has place least (with_slot slots side slot)
+    → HasSince place least (with_slot slots side slot)
 beside_has place least slots side slot count at le =
-    (opposite_side side, count, slot_kept side slots slot ∙ at, le)
+    record {
+      side = opposite_side side;
+      count = count;
+      open_there = slot_kept side slots slot ∙ at;
+      since = le;
+    }
 
 -- what is known of the gates, in each image
 pub shown : (w : StoreState) → IsSteady w → (image : List ℕ) → IsDiskImage w.disk image
@@ -172,13 +145,13 @@ shown w steady image is =
     sound_images always_tells IsDiskImage seen_of (store_of w) steady.sound refl image is
 
 -- what is known to be open is open in each image
-pub has_open : (place least : ℕ) (w : StoreState) → IsSteady w → Has place least w.slots
+pub has_open : (place least : ℕ) (w : StoreState) → IsSteady w → HasSince place least w.slots
     → (image : List ℕ) → IsDiskImage w.disk image
     → (side : Side) × (area : Stored) × (open_area side image ≡ Some area)
     × (area.place ≡ place) × (least ≤ area.count)
 has_open place least w steady has image is =
-    let there = (shown w steady image is).synced has.0 place has.1 has.2 in
-    (has.0, there.0, there.2, there.3, omega (arith, there.4, has.3))
+    let there = (shown w steady image is).synced has.side place has.count has.open_there in
+    (has.side, there.0, there.2, there.3, omega (arith, there.4, has.since))
 
 module _ (place least : ℕ) (w : StoreState) (steady : IsSteady w)
     (rows : EachArea (λ area. area.place ≤ place) w) where
@@ -187,47 +160,49 @@ module _ (place least : ℕ) (w : StoreState) (steady : IsSteady w)
       let there = (shown w steady w.disk.seen steady.reads).synced side p n at in
       subst (λ (m : ℕ). m ≤ place) there.3 (rows.held side there.0 there.1)
 
-  begins_has : Has place least w.slots → (slot : Slot)
-      → Has place least (with_slot w.slots (taken_side w.slots) slot)
-  begins_has has slot = of (same_or_other (taken_side w.slots) has.0)
+  begins_has : HasSince place least w.slots → (slot : Slot)
+      → HasSince place least (with_slot w.slots (taken_side w.slots) slot)
+  begins_has has slot = of (same_or_other (taken_side w.slots) has.side)
     where
-      of : (has.0 ≡ taken_side w.slots) ⊎ (has.0 ≡ opposite_side (taken_side w.slots))
-          → Has place least (with_slot w.slots (taken_side w.slots) slot)
+      of : (has.side ≡ taken_side w.slots) ⊎ (has.side ≡ opposite_side (taken_side w.slots))
+          → HasSince place least (with_slot w.slots (taken_side w.slots) slot)
       of (inl taken) =
-          let newer = no_older w.slots place has.1
-          (subst (λ (s : Side). slot_of w.slots s ≡ Open place has.1) taken has.2) in
-          let same = same_row newer.0 newer.1 place has.1 newer.3
+          let newer = no_older w.slots place has.count
+          (subst (λ (s : Side). slot_of w.slots s ≡ Open place has.count) taken has.open_there) in
+          let same = same_row newer.0 newer.1 place has.count newer.3
           (no_later (opposite_side (taken_side w.slots)) newer.0 newer.1 newer.2) in
           beside_has place least w.slots (taken_side w.slots) slot newer.1
           (subst (λ (p : ℕ). slot_of w.slots (opposite_side (taken_side w.slots)) ≡ Open p newer.1)
-          same.0
-          newer.2)
-          (omega (arith, same.1, has.3))
+          same.0 newer.2)
+          (omega (arith, same.1, has.since))
       of (inr beside) =
-          beside_has place least w.slots (taken_side w.slots) slot has.1
-          (subst (λ (s : Side). slot_of w.slots s ≡ Open place has.1) beside has.2) has.3
+          beside_has place least w.slots (taken_side w.slots) slot has.count
+          (subst (λ (s : Side). slot_of w.slots s ≡ Open place has.count) beside has.open_there)
+          has.since
 
   loose_shut : (p n : ℕ) → loosened (Open p n) ≡ Open p n → ⊥
   loose_shut p n is = cc
 
   -- of the gate of the area that is put nothing is known but that it is closed
-  known_has : (side : Side) (area : Stored) → IsPutting w side area → Has place least w.slots
-      → (slot : Slot) → Has place least (with_slot w.slots side slot)
-  known_has side area putting has slot = of (same_or_other side has.0)
+  known_has : (side : Side) (area : Stored) → IsPutting w side area → HasSince place least w.slots
+      → (slot : Slot) → HasSince place least (with_slot w.slots side slot)
+  known_has side area putting has slot = of (same_or_other side has.side)
     where
-      of : (has.0 ≡ side) ⊎ (has.0 ≡ opposite_side side)
-          → Has place least (with_slot w.slots side slot)
+      of : (has.side ≡ side) ⊎ (has.side ≡ opposite_side side)
+          → HasSince place least (with_slot w.slots side slot)
       of (inl own) =
-          absurd (loose_shut place has.1
+          absurd (loose_shut place has.count
           (subst (λ (s : Slot). loosened s ≡ s)
-          (subst (λ (s : Side). slot_of w.slots s ≡ Open place has.1) own has.2) putting.loose))
+          (subst (λ (s : Side). slot_of w.slots s ≡ Open place has.count) own has.open_there)
+          putting.loose))
       of (inr beside) =
-          beside_has place least w.slots side slot has.1
-          (subst (λ (s : Side). slot_of w.slots s ≡ Open place has.1) beside has.2) has.3
+          beside_has place least w.slots side slot has.count
+          (subst (λ (s : Side). slot_of w.slots s ≡ Open place has.count) beside has.open_there)
+          has.since
 
-  put_has : (side : Side) (area : Stored) → IsPutting w side area → Has place least w.slots
+  put_has : (side : Side) (area : Stored) → IsPutting w side area → HasSince place least w.slots
       → (stage : Stage) (call : DiskCall) (reads : List ℕ)
-      → Has place least
+      → HasSince place least
       (put_onward (record w { disk = disk_after call true reads w.disk }) stage side area).slots
   put_has side area putting has CloseWrite call reads = has
   put_has side area putting has CloseSync call reads = known_has side area putting has Closed
@@ -238,92 +213,43 @@ module _ (place least : ℕ) (w : StoreState) (steady : IsSteady w)
   put_has side area putting has OpenSync call reads =
       known_has side area putting has (Open area.place area.count)
 
-  shown_side : (side : Side) (file : List ℕ) → slot_of (slots_in file) side ≡ slot_in side file
-  shown_side A file = refl
-  shown_side B file = refl
-
   -- ---- what an opening finds
 
-  up_has : Has place least w.slots → Has place least (store_comes_up w).slots
+  up_has : HasSince place least w.slots → HasSince place least (store_comes_up w).slots
   up_has has =
-      let there = (shown w steady w.disk.seen steady.reads).synced has.0 place has.1 has.2 in
-      let slot = slot_shown has.0 w.disk.seen there.0 there.2 in (
-        has.0,
-        has.1,
-        shown_side has.0 w.disk.seen ∙ slot
+      let there = (shown w steady w.disk.seen steady.reads).synced has.side place has.count
+      has.open_there in
+      let slot = slot_shown has.side w.disk.seen there.0 there.2 in record {
+        side = has.side;
+        count = has.count;
+        open_there = shown_side has.side w.disk.seen ∙ slot
             ∙ ap (λ (p : ℕ). Open p there.0.count) there.3
-            ∙ ap (λ (n : ℕ). Open place n) there.4,
-        has.3,
-      )
+            ∙ ap (λ (n : ℕ). Open place n) there.4;
+        since = has.since;
+      }
 
   -- ---- every event
 
-  good_has : (step : Step) → HasStep w step → Has place least w.slots → (call : DiskCall)
-      → (reads : List ℕ) → next_store_call step ≡ Some call
-      → Has place least
-      (store_onward (record w { disk = disk_after call true reads w.disk }) step).slots
-  good_has Idle held has call reads is = has
-  good_has (Put stage side area) held has call reads is =
-      put_has side area held.0 has stage call reads
-  good_has (Opening FirstSync) held has call reads is = has
-  good_has (Opening AskSize) held has call reads is = has
-  good_has (Opening ReadFront) held has call reads is = has
-  good_has (Opening ReadA) held has call reads is = has
-  good_has (Opening ReadB) held has call reads is =
-      subst (λ (d : DiskCall). Has place least
-      (store_onward (record w { disk = disk_after d true reads w.disk }) (Opening ReadB)).slots)
-      (some_same is) (up_has has)
-    where
-      some_same : {A : Type 0} {x y : A} → Some x ≡ Some y → x ≡ y
-      some_same is = cc
+  abbrev Known : StoreState → Type 0
+  Known v = HasSince place least v.slots
 
-  called_has : Has place least w.slots → (good : Bool) (reads : List ℕ) (step : Step)
-      → HasStep w step → (call : Option DiskCall) → next_store_call step ≡ call
-      → Has place least (store_called w good reads step call).slots
-  called_has has good reads step held None is = has
-  called_has has true reads step held (Some call) is = of (may_work call)
-    where
-      of : (b : Bool) → Has place least
-          (if b then store_onward (record w { disk = disk_after call true reads w.disk }) step
-          else w).slots
-      of true = good_has step held has call reads is
-      of false = has
-  called_has has false reads step held (Some call) is =
-      of (is_image (disk_after call false reads w.disk) reads)
-    where
-      of : (b : Bool) → Has place least (if b then record w {
-        disk = disk_after call false reads w.disk;
-        faults = fault_counted w.faults;
-        step = Idle;
-      } else w).slots
-      of true = has
-      of false = has
+  called_has : Known w → (good : Bool) (reads : List ℕ) (step : Step) → HasStep w step
+      → Known (store_called w good reads step (next_store_call step))
+  called_has has good reads Idle held = has
+  called_has has true reads (Put stage side area) held =
+      good_call Known w has (Put stage side area) (put_call stage side area) reads
+      (put_has side area held.0 has stage (put_call stage side area) reads)
+  called_has has false reads (Put stage side area) held =
+      bad_call Known w has (Put stage side area) (put_call stage side area) reads (λ _. has)
+  called_has has true reads (Opening reading) held =
+      good_reading Known w has reading held reads has (λ _ _. has) (λ _. up_has has)
+  called_has has false reads (Opening reading) held =
+      bad_reading Known w has reading reads steady.reads (λ _ _ _. has)
 
-  keep_has : Has place least w.slots → (area : Stored) (step : Step)
-      → Has place least (keep_at w area step).slots
-  keep_has has area Idle = of (w.up && w.made && has_room area)
-    where
-      of : (b : Bool) → Has place least
-          (if b then put_begins w (taken_side w.slots) area else w).slots
-      of true = begins_has has (loosened (slot_of w.slots (taken_side w.slots)))
-      of false = has
-  keep_has has area (Put stage side old) = has
-  keep_has has area (Opening reading) = has
-
-  pub after_has : (event : Event)
-      → Has place least w.slots
-      → Has place least (file_after w event).slots
+  pub after_has : (event : Event) → Known w → Known (file_after w event)
   after_has (Keep place count bytes) has =
-      keep_has has (record { place = place; count = count; bytes = bytes }) w.step
-  after_has (Call good reads) has =
-      called_has has good reads w.step steady.step (next_store_call w.step) refl
-  after_has (Stop image) has = of (is_image w.disk image)
-    where
-      of : (b : Bool) → Has place least (if b then store_stopped w image else w).slots
-      of true = has
-      of false = has
-  after_has Recover has = of w.up
-    where
-      of : (b : Bool) → Has place least (if b then w else begins_opening w).slots
-      of true = has
-      of false = has
+      keeps Known w has (record { place = place; count = count; bytes = bytes }) w.step
+      (λ _. begins_has has (loosened (slot_of w.slots (taken_side w.slots))))
+  after_has (Call good reads) has = called_has has good reads w.step steady.step
+  after_has (Stop image) has = stops Known w has image (λ _. has)
+  after_has Recover has = reopens Known w has w.up has

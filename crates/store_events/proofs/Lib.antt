@@ -1,4 +1,5 @@
 pub mod ImageLemmas
+pub mod EventLemmas
 pub mod PuttingLemmas
 pub mod SteadyLemmas
 pub mod AreaLemmas

@@ -1,17 +1,13 @@
 -- The newest area has each open one of its OPEN row behind it.
 use Rattle.std.proofs.Common.{◌≡◌, ◌∙◌, ℕ, ◌≤◌, Bool, true, false, List, refl, ap, subst, arith}
-use Rattle.std.specs.Prelude.{◌&&◌, nat_lt, if◌then◌else◌, Some, None}
+use Rattle.std.specs.Prelude.{◌&&◌, nat_lt, if◌then◌else◌, Some}
 use Rattle.std.proofs.lemmas.Bool.Decides.{nat_tests}
+use Rattle.std.proofs.lemmas.Option.{cond_some}
 use Rattle.snap_store.specs.declared.side.Side.{Side}
 use Rattle.snap_store.specs.declared.side.Side.TheVariants.{A, B}
 use Rattle.snap_store.specs.File.{Stored, area_on_side, is_open_area}
 use Rattle.snap_store.specs.File.{is_wanted_area, newest_area, open_area}
 use Rattle.snap_store.proofs.Newest.{choice, choice_is}
-
-open_is : (is_there : Bool) (x y : Stored) → (if is_there then Some x else None) ≡ Some y
-    → (is_there ≡ true) × (x ≡ y)
-open_is true x y is = (refl, cc)
-open_is false x y is = absurd cc
 
 wanted : (place most : ℕ) (x : Stored) → x.place ≡ place → x.count ≤ most
     → is_wanted_area place most x ≡ true
@@ -60,7 +56,7 @@ module _ (place most : ℕ) (file : List ℕ) where
   side_is : (side : Side) (area : Stored) → open_area side file ≡ Some area → area.place ≡ place
       → area.count ≤ most → (of_side side ≡ true) × (area_on_side side file ≡ area)
   side_is side area there same le =
-      let parts = open_is (is_open_area side file) (area_on_side side file) area there in
+      let parts = cond_some (is_open_area side file) (area_on_side side file) area there in
       let yes : is_wanted_area place most (area_on_side side file) ≡ true =
       ap (λ (x : Stored). is_wanted_area place most x) parts.1 ∙ wanted place most area same le in (
         ap (λ (b : Bool). b && is_wanted_area place most (area_on_side side file)) parts.0 ∙ yes,

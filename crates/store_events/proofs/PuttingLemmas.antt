@@ -1,13 +1,11 @@
 -- What the slots say holds in each image, through the calls of a put.
 use Rattle.std.proofs.Common.{◌≡◌, ◌∙◌, ℕ, ◌+◌, ◌^◌, ◌<◌, ◌≤◌, Bool, true, false, List}
 use Rattle.std.proofs.Common.{[], ◌∷◌, length, refl, sym, ap, subst, arith}
-use Rattle.std.specs.Prelude.{◌&&◌, nat_le, nat_lt, if◌then◌else◌, Option, Some, None}
+use Rattle.std.specs.Prelude.{◌&&◌, nat_le, nat_lt, Option, Some}
 use Rattle.std.proofs.lemmas.Bool.{and_parts}
 use Rattle.std.proofs.lemmas.Bool.Decides.{nat_tests}
 use Rattle.disk_model.specs.Disk.{file_written}
 use Rattle.disk_model.specs.DiskState.{DiskState, IsDiskImage, settled}
-use Rattle.disk_model.specs.Plain.{is_image}
-use Rattle.disk_model.proofs.PlainLaws.{image_is}
 use Rattle.disk_model.proofs.StateLaws.{only_settled, seen_write, settled_image}
 use Rattle.snap_store.specs.declared.side.Side.{Side}
 use Rattle.snap_store.specs.declared.side.Side.TheVariants.{A, B}
@@ -17,37 +15,27 @@ use Rattle.snap_store.specs.declared.slot.Slots.{Slots}
 use Rattle.snap_store.specs.declared.outline.TheConstants.{MAX_SNAPSHOT}
 use Rattle.snap_store.specs.File.{Stored, gate_byte, gate_of, has_header, head_bytes, side_start}
 use Rattle.snap_store.specs.File.{whole_area}
-use Rattle.snap_store.specs.Images.{IsLaid, Spares, StandsOnSide, loosened}
-use Rattle.snap_store.specs.Slots.{is_closed, opposite_side, slot_in}
-use Rattle.snap_store.specs.Slots.{slot_of, taken_side, with_slot}
+use Rattle.snap_store.specs.Images.{IsLaid, StandsOnSide, loosened}
+use Rattle.snap_store.specs.Slots.{opposite_side, slot_in}
+use Rattle.snap_store.specs.Slots.{slot_of, with_slot}
 use Rattle.snap_store.specs.Store.{IsSoundStore}
 use Rattle.snap_store.proofs.AreaWritten.{length-head, whole_there}
-use Rattle.snap_store.proofs.LaidLemmas.{laid_area_torn, laid_closed, laid_gate_torn, laid_loosened}
+use Rattle.snap_store.proofs.LaidLemmas.{laid_area_torn, laid_closed, laid_gate_torn}
 use Rattle.snap_store.proofs.LaidLemmas.{laid_opened}
 use Rattle.snap_store.proofs.PutLemmas.{slot_kept, slot_set}
-use Rattle.snap_store.proofs.SlotLemmas.{spares_taken}
 use Rattle.snap_store.proofs.StoreLemmas.{laid_seen, laid_turned, sound_read}
-use Rattle.store_events.specs.declared.disk.DiskCall.{DiskCall}
-use Rattle.store_events.specs.declared.disk.DiskCall.TheVariants.{Write, Sync, Look}
-use Rattle.store_events.specs.declared.event.Event.{Event}
-use Rattle.store_events.specs.declared.event.Event.TheVariants.{Keep, Call, Stop, Recover}
-use Rattle.store_events.specs.declared.state.Reading.{Reading}
-use Rattle.store_events.specs.declared.state.Reading.TheVariants.{FirstSync, AskSize, ReadFront}
-use Rattle.store_events.specs.declared.state.Reading.TheVariants.{ReadA, ReadB}
+use Rattle.store_events.specs.declared.disk.DiskCall.TheVariants.{Write}
 use Rattle.store_events.specs.declared.state.Stage.{Stage}
 use Rattle.store_events.specs.declared.state.Stage.TheVariants.{CloseWrite, CloseSync, HeadWrite}
 use Rattle.store_events.specs.declared.state.Stage.TheVariants.{BytesWrite, AreaSync, OpenWrite}
 use Rattle.store_events.specs.declared.state.Stage.TheVariants.{OpenSync}
-use Rattle.store_events.specs.declared.state.Step.{Step}
-use Rattle.store_events.specs.declared.state.Step.TheVariants.{Idle, Put, Opening}
 use Rattle.store_events.specs.declared.state.StoreState.{StoreState}
-use Rattle.store_events.specs.Disk.{fault_counted, disk_after, may_work}
-use Rattle.store_events.specs.Events.{file_after, store_called, store_down_over, has_room}
-use Rattle.store_events.specs.Events.{keep_at, next_store_call, store_onward, begins_opening}
-use Rattle.store_events.specs.Events.{put_begins, put_call, put_onward, slots_in, store_stopped}
-use Rattle.store_events.specs.Steady.{HasStage, HasStep, IsPutting, IsSettled}
+use Rattle.store_events.specs.Disk.{disk_after}
+use Rattle.store_events.specs.Events.{has_room}
+use Rattle.store_events.specs.Events.{comes_to, knows, put_call, put_onward, slots_in}
+use Rattle.store_events.specs.Steady.{HasStage, IsPutting, IsSettled}
 use Rattle.store_events.specs.Steady.{IsSteady, seen_of, always_tells}
-use Rattle.store_events.proofs.ImageLemmas.{look_leaves, stays_after, stays_bad, sync_leaves}
+use Rattle.store_events.proofs.ImageLemmas.{stays_after, sync_leaves}
 use Rattle.store_events.proofs.ImageLemmas.{write_leaves}
 
 abbrev pub Sound : DiskState → Bool → Slots → Type 0
@@ -65,25 +53,17 @@ by_le n m is = grind (arith, nat_tests)
 by_lt : (n m : ℕ) → nat_lt n m ≡ true → n < m
 by_lt n m is = grind (arith, nat_tests)
 
-place_fits : (area : Stored) → has_room area ≡ true → area.place < 2 ^ 64
-place_fits area room =
-    let numbers = and_parts (nat_lt area.place (2 ^ 64) && nat_lt area.count (2 ^ 32))
+-- its place, its count and its bytes
+fits : (area : Stored) → has_room area ≡ true
+    → (area.place < 2 ^ 64) × (area.count < 2 ^ 32) × (length area.bytes ≤ MAX_SNAPSHOT)
+fits area room =
+    let all = and_parts (nat_lt area.place (2 ^ 64) && nat_lt area.count (2 ^ 32))
     (nat_le (length area.bytes) MAX_SNAPSHOT) room in
-    by_lt area.place (2 ^ 64)
-    (and_parts (nat_lt area.place (2 ^ 64)) (nat_lt area.count (2 ^ 32)) numbers.0).0
-
-count_fits : (area : Stored) → has_room area ≡ true → area.count < 2 ^ 32
-count_fits area room =
-    let numbers = and_parts (nat_lt area.place (2 ^ 64) && nat_lt area.count (2 ^ 32))
-    (nat_le (length area.bytes) MAX_SNAPSHOT) room in
-    by_lt area.count (2 ^ 32)
-    (and_parts (nat_lt area.place (2 ^ 64)) (nat_lt area.count (2 ^ 32)) numbers.0).1
-
-has_few : (area : Stored) → has_room area ≡ true → length area.bytes ≤ MAX_SNAPSHOT
-has_few area room =
-    by_le (length area.bytes) MAX_SNAPSHOT
-    (and_parts (nat_lt area.place (2 ^ 64) && nat_lt area.count (2 ^ 32))
-    (nat_le (length area.bytes) MAX_SNAPSHOT) room).1
+    let numbers = and_parts (nat_lt area.place (2 ^ 64)) (nat_lt area.count (2 ^ 32)) all.0 in (
+      by_lt area.place (2 ^ 64) numbers.0,
+      by_lt area.count (2 ^ 32) numbers.1,
+      by_le (length area.bytes) MAX_SNAPSHOT all.1,
+    )
 
 -- ---- both sides of an image, seen from one of them
 
@@ -223,7 +203,7 @@ module _ (w : StoreState) (steady : IsSteady w) (side : Side) (area : Stored)
       (omega arith) (omega (arith, length-head area.place area.count (length area.bytes))) c image
   put_leaves BytesWrite has good reads c image =
       area_leaves has.0 (side_start side + 16) area.bytes good reads
-      (omega arith) (omega (arith, has_few area putting.room)) c image
+      (omega arith) (omega (arith, (fits area putting.room).2)) c image
   put_leaves AreaSync has good reads c image =
       laid c (sync_leaves good reads p c steady.reads image)
   put_leaves OpenWrite has good reads c image = gate_leaves has.0 1 good reads c image
@@ -231,7 +211,7 @@ module _ (w : StoreState) (steady : IsSteady w) (side : Side) (area : Stored)
       laid c (sync_leaves good reads p c steady.reads image)
 
   -- so what is known stays true
-  put_sound : (stage : Stage) → HasStage w stage side area → (good : Bool) (reads : List ℕ)
+  pub put_sound : (stage : Stage) → HasStage w stage side area → (good : Bool) (reads : List ℕ)
       → (let q = disk_after (put_call stage side area) good reads p in IsDiskImage q q.seen
       → Sound q w.made w.slots)
   put_sound stage has good reads read =
@@ -239,84 +219,74 @@ module _ (w : StoreState) (steady : IsSteady w) (side : Side) (area : Stored)
       beside beside_area putting.made read refl refl (put_leaves stage has good reads)
 
   -- and more is known once all is synced
-  abbrev known : Slot → Slots
-  known slot = with_slot w.slots side slot
-
-  sound_known : (slot : Slot) (held : Option Stored) → Laid slot held p.seen
-      → Sound (settled p.seen) w.made (known slot)
-  sound_known slot held there =
-      sound_laid (settled p.seen) w.made (known slot) side slot held beside beside_area putting.made
-      (settled_image p.seen) (slot_set side w.slots slot) (slot_kept side w.slots slot)
-      (λ c image.
-      subst (λ (l : List ℕ). Laid slot held l) (sym (only_settled p.seen c image)) there)
-
-  kept_spares : (slot : Slot) → Spares side (slot_of (known slot) (opposite_side side))
-  kept_spares slot =
-      subst (λ (s : Slot). Spares side s) (sym (slot_kept side w.slots slot)) putting.spares
-
-  kept_loose : (slot : Slot) → loosened slot ≡ slot
-      → loosened (slot_of (known slot) side) ≡ slot_of (known slot) side
-  kept_loose slot is =
-      subst (λ (s : Slot). loosened s ≡ s) (sym (slot_set side w.slots slot)) is
-
-  -- what stands there, by another spelling of the area
   seen_stands : (slot : Slot) (held : Option Stored) → StandsOnSide side slot held p.seen
       → Laid slot held p.seen
   seen_stands slot held stands =
       let there = laid p.seen steady.reads in
       record { header = there.header; here = stands; there = there.there }
 
-  abbrev written_call : DiskCall → List ℕ → StoreState
-  written_call call reads = record w { disk = disk_after call true reads p }
+  sound_known : (slot : Slot) (held : Option Stored) → StandsOnSide side slot held p.seen
+      → Sound (settled p.seen) w.made (with_slot w.slots side slot)
+  sound_known slot held stands =
+      sound_laid (settled p.seen) w.made (with_slot w.slots side slot) side slot held beside
+      beside_area putting.made (settled_image p.seen) (slot_set side w.slots slot)
+      (slot_kept side w.slots slot)
+      (λ c image. subst (λ (l : List ℕ). Laid slot held l) (sym (only_settled p.seen c image))
+      (seen_stands slot held stands))
 
-  read_after : (call : DiskCall) (reads : List ℕ)
-      → IsDiskImage (disk_after call true reads p) (disk_after call true reads p).seen
-  read_after call reads = stays_after call reads p steady.reads
+  -- after a good write its put goes on, with what stands there then
+  written : (stage next : Stage) → HasStage w stage side area → (reads : List ℕ)
+      → (let q = disk_after (put_call stage side area) true reads p in
+      HasStage (comes_to (record w { disk = q }) next side area) next side area
+      → IsSteady (comes_to (record w { disk = q }) next side area))
+  written stage next has reads fact =
+      let read = stays_after (put_call stage side area) reads p steady.reads in record {
+        reads = read;
+        sound = put_sound stage has true reads read;
+        step = (
+          record {
+            room = putting.room;
+            made = putting.made;
+            loose = putting.loose;
+            spares = putting.spares;
+          },
+          fact,
+        );
+      }
+
+  -- and after a good sync this is known of its gate
+  synced : (slot : Slot) (held : Option Stored) (next : Stage) → loosened slot ≡ slot
+      → StandsOnSide side slot held p.seen
+      → (let v = comes_to (knows (record w { disk = settled p.seen }) side slot) next side area in
+      HasStage v next side area → IsSteady v)
+  synced slot held next loose stands fact = record {
+    reads = settled_image p.seen;
+    sound = sound_known slot held stands;
+    step = (
+      record {
+        room = putting.room;
+        made = putting.made;
+        loose = rw (slot_set side w.slots slot) loose;
+        spares = rw (slot_kept side w.slots slot) putting.spares;
+      },
+      fact,
+    );
+  }
 
   -- a good call
-  put_goes_on : (stage : Stage) → HasStage w stage side area → (reads : List ℕ)
-      → may_work (put_call stage side area) ≡ true
-      → IsSteady (put_onward (written_call (put_call stage side area) reads) stage side area)
-  put_goes_on CloseWrite has reads room = record {
-    reads = read_after (put_call CloseWrite side area) reads;
-    sound = put_sound CloseWrite has true reads (read_after (put_call CloseWrite side area) reads);
-    step = (
-      record {
-        room = putting.room;
-        made = putting.made;
-        loose = putting.loose;
-        spares = putting.spares;
-      },
-      ap (λ (l : List ℕ). gate_byte side l)
-          (seen_write (gate_of side) (0 ∷ []) p (gate_first side))
-          ∙ (laid_closed side old beside beside_area p.seen
-          (laid_as Unsure has p.seen steady.reads)).here,
-    );
-  }
-  put_goes_on CloseSync has reads room = record {
-    reads = settled_image p.seen;
-    sound = sound_known Closed old (seen_stands Closed old has);
-    step = (
-      record {
-        room = putting.room;
-        made = putting.made;
-        loose = kept_loose Closed refl;
-        spares = kept_spares Closed;
-      },
-      slot_set side w.slots Closed,
-    );
-  }
-  put_goes_on HeadWrite has reads room = record {
-    reads = read_after (put_call HeadWrite side area) reads;
-    sound = put_sound HeadWrite has true reads (read_after (put_call HeadWrite side area) reads);
-    step = (
-      record {
-        room = putting.room;
-        made = putting.made;
-        loose = putting.loose;
-        spares = putting.spares;
-      },
-      (
+  pub put_goes_on : (stage : Stage) → HasStage w stage side area → (reads : List ℕ)
+      → (let q = disk_after (put_call stage side area) true reads p in
+      IsSteady (put_onward (record w { disk = q }) stage side area))
+  put_goes_on CloseWrite has reads =
+      written CloseWrite CloseSync has reads
+      (ap (λ (l : List ℕ). gate_byte side l)
+      (seen_write (gate_of side) (0 ∷ []) p (gate_first side))
+      ∙ (laid_closed side old beside beside_area p.seen
+      (laid_as Unsure has p.seen steady.reads)).here)
+  put_goes_on CloseSync has reads =
+      synced Closed old HeadWrite refl has (slot_set side w.slots Closed)
+  put_goes_on HeadWrite has reads =
+      written HeadWrite BytesWrite has reads (
         has,
         (
           p.seen,
@@ -327,67 +297,29 @@ module _ (w : StoreState) (steady : IsSteady w) (side : Side) (area : Stored)
                 length-head area.place area.count (length area.bytes),
               )),
         ),
-      ),
-    );
-  }
-  put_goes_on BytesWrite has reads room = record {
-    reads = read_after (put_call BytesWrite side area) reads;
-    sound = put_sound BytesWrite has true reads (read_after (put_call BytesWrite side area) reads);
-    step = (
-      record {
-        room = putting.room;
-        made = putting.made;
-        loose = putting.loose;
-        spares = putting.spares;
-      },
-      (
+      )
+  put_goes_on BytesWrite has reads =
+      let room = fits area putting.room in
+      written BytesWrite AreaSync has reads (
         has.0,
         ap (λ (l : List ℕ). whole_area side l)
             (seen_write (side_start side + 16) area.bytes p
-            (omega (arith, start_first side, has_few area putting.room))
+            (omega (arith, start_first side, room.2))
             ∙ ap (λ (l : List ℕ). file_written l (side_start side + 16) area.bytes) has.1.1)
-            ∙ whole_there side has.1.0 area.place area.count area.bytes
-            (place_fits area putting.room) (count_fits area putting.room)
-            (has_few area putting.room),
-      ),
-    );
-  }
-  put_goes_on AreaSync has reads room = record {
-    reads = settled_image p.seen;
-    sound = sound_known Unsure (Some area) (seen_stands Unsure (Some area) has.1);
-    step = (
-      record {
-        room = putting.room;
-        made = putting.made;
-        loose = kept_loose Unsure refl;
-        spares = kept_spares Unsure;
-      },
-      (slot_set side w.slots Unsure, has.1),
-    );
-  }
-  put_goes_on OpenWrite has reads room = record {
-    reads = read_after (put_call OpenWrite side area) reads;
-    sound = put_sound OpenWrite has true reads (read_after (put_call OpenWrite side area) reads);
-    step = (
-      record {
-        room = putting.room;
-        made = putting.made;
-        loose = putting.loose;
-        spares = putting.spares;
-      },
-      (
+            ∙ whole_there side has.1.0 area.place area.count area.bytes room.0 room.1 room.2,
+      )
+  put_goes_on AreaSync has reads =
+      synced Unsure (Some area) OpenWrite refl has.1 (slot_set side w.slots Unsure, has.1)
+  put_goes_on OpenWrite has reads =
+      written OpenWrite OpenSync has reads (
         has.0,
         subst (λ (l : List ℕ). StandsOnSide side (Open area.place area.count) (Some area) l)
             (sym (seen_write (gate_of side) (1 ∷ []) p (gate_first side)))
             (laid_opened side beside beside_area area p.seen
             (seen_stands Unsure (Some area) has.1)).here,
-      ),
-    );
-  }
-  put_goes_on OpenSync has reads room = record {
+      )
+  put_goes_on OpenSync has reads = record {
     reads = settled_image p.seen;
-    sound =
-        sound_known (Open area.place area.count) (Some area)
-        (seen_stands (Open area.place area.count) (Some area) has.1);
+    sound = sound_known (Open area.place area.count) (Some area) has.1;
     step = tt;
   }

@@ -1,13 +1,13 @@
 -- A row more, as a session is told of it.
 use Rattle.std.proofs.Common.{◌≡◌, ◌≢◌, inl, inr, ◌∙◌, ℕ, ◌<◌, Bool, true}
 use Rattle.std.proofs.Common.{false, List, [], ◌∷◌, ◌++◌, length, refl, sym}
-use Rattle.std.proofs.Common.{ap, subst, append_assoc, arith, zero, suc, get_or}
+use Rattle.std.proofs.Common.{ap, subst, append_assoc, arith}
 use Rattle.std.specs.Prelude.{◌&&◌, ◌==◌, ◌≤◌, Some, if◌then◌else◌, not}
 use Rattle.std.specs.List.{Contains}
 use Rattle.std.proofs.lemmas.Bool.{cases_Bool, cases_eq}
 use Rattle.std.proofs.lemmas.Bool.Decides.{nat_tests}
 use Rattle.std.proofs.lemmas.List.{append-nil, length-append}
-use Rattle.std.proofs.lemmas.List.Elements.{Contains-append_cases}
+use Rattle.std.proofs.lemmas.List.Elements.{Contains-append_cases, Contains-push_cases}
 use Rattle.gate_journal.specs.Rows.{is_open}
 use Rattle.gate_journal.specs.declared.command.Command.{Command}
 use Rattle.gate_journal.specs.declared.command.Command.TheVariants.{Open, Line, Char, File, Close}
@@ -114,11 +114,10 @@ abbrev IsKnown : ℕ → List Row → Type 0
 IsKnown s rows = IsBegun (commands_of rows s) × IsBefore s rows
 
 one_there : (b : Bool) (place row : ℕ) → Contains (one_of b place) row → row ≡ place
-one_there true place row at = of at.0 at.1 at.2
-  where
-    of : (k : ℕ) → k < 1 → get_or (place ∷ []) k row ≡ row → row ≡ place
-    of zero lt is = sym is
-    of (suc k) lt is = absurd (omega (arith, lt))
+one_there true place row at = elim (Contains-push_cases [] place row at) [
+  | inl none ↦ absurd (omega (arith, none.1))
+  | inr here ↦ sym here
+]
 one_there false place row at = absurd (omega (arith, at.1))
 
 longer : (rows : List Row) (r : Row)

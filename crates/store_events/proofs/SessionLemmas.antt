@@ -1,12 +1,13 @@
 -- A session's file agrees with its rows and commands, whatever happens, and warms in 16 turns.
-use Rattle.std.proofs.Common.{◌≡◌, ◌⊎◌, inl, inr, ◌∙◌, ℕ, zero, suc, ◌+◌, ◌*◌}
-use Rattle.std.proofs.Common.{◌-◌, ◌<◌, ◌≤◌, Bool, true, false, get_or, List, []}
+use Rattle.std.proofs.Common.{◌≡◌, ◌⊎◌, inl, inr, ◌∙◌, ℕ, ◌+◌, ◌*◌}
+use Rattle.std.proofs.Common.{◌-◌, ◌<◌, ◌≤◌, Bool, true, false, List, []}
 use Rattle.std.proofs.Common.{◌∷◌, ◌++◌, length, drop, refl, sym, ap, subst, arith}
 use Rattle.std.specs.Prelude.{Option, Some, None, IfSome, if◌then◌else◌}
 use Rattle.std.specs.List.{Contains}
 use Rattle.std.proofs.lemmas.Bool.{cases_Bool, cases_lt}
+use Rattle.std.proofs.lemmas.Option.{same_Some}
 use Rattle.std.proofs.lemmas.List.{length-append, length-drop}
-use Rattle.std.proofs.lemmas.List.Elements.{Contains-append_cases, filter_map-append}
+use Rattle.std.proofs.lemmas.List.Elements.{Contains-push_cases, filter_map-append}
 use Rattle.glk_input.specs.declared.input.Input.{Input}
 use Rattle.disk_model.specs.DiskState.{IsDiskImage}
 use Rattle.gate_journal.specs.declared.command.Command.{Command}
@@ -16,18 +17,12 @@ use Rattle.story_run.specs.Solo.{is_wanted, world_after_input}
 use Rattle.story_snap.specs.Bytes.{HasBytes}
 use Rattle.session_core.specs.History.{input_of}
 use Rattle.session_core.specs.Turns.{turns_by}
-use Rattle.snap_store.specs.declared.side.Side.{Side}
-use Rattle.snap_store.specs.declared.side.Side.TheVariants.{A, B}
-use Rattle.snap_store.specs.declared.slot.Slot.{Slot}
 use Rattle.snap_store.specs.declared.slot.Slot.TheVariants.{Open}
-use Rattle.snap_store.specs.declared.slot.Slots.{Slots}
-use Rattle.snap_store.specs.File.{Stored, area_given, newest_area, open_area}
-use Rattle.snap_store.specs.Slots.{slot_in, slot_of}
-use Rattle.snap_store.specs.Store.{area_held}
-use Rattle.snap_store.proofs.StoreLemmas.{held_in, open_openable}
+use Rattle.snap_store.specs.File.{Stored, area_given, newest_area}
+use Rattle.snap_store.proofs.StoreLemmas.{open_openable}
 use Rattle.session_saves.specs.Agreement.{Agrees, IsAgreedFile, last_row}
 use Rattle.session_saves.specs.Game.{inputs_of, turns_after, turns_of_inputs, world_at}
-use Rattle.session_saves.specs.Saves.{HasSince, IsKeptUp, due_in, none_missed}
+use Rattle.session_saves.specs.Saves.{IsKeptUp, due_in, none_missed}
 use Rattle.session_saves.specs.Warming.{count_in}
 use Rattle.session_saves.proofs.AgreementLemmas.{last-append, last_contained}
 use Rattle.session_saves.proofs.AgreementLemmas.{more_commands, new_opens}
@@ -36,16 +31,15 @@ use Rattle.store_events.specs.declared.event.Event.{Event}
 use Rattle.store_events.specs.declared.event.Event.TheVariants.{Keep, Call, Stop, Recover}
 use Rattle.store_events.specs.declared.state.StoreState.{StoreState}
 use Rattle.store_events.specs.Areas.{Brings, EachArea, area_being_put}
-use Rattle.store_events.specs.Events.{file_after, store_down_over, slots_in}
+use Rattle.store_events.specs.Events.{store_down_over, slots_in}
 use Rattle.store_events.specs.Laws.{HasOpen, StaysInAgreement, StaysOpen, StaysSteady}
 use Rattle.store_events.specs.Laws.{WarmsInSixteen}
 use Rattle.store_events.specs.Session.{Begins, Does, EachMayCome, EachMissesNone}
 use Rattle.store_events.specs.Session.{FileHappening, IsDue, IsInAgreement}
 use Rattle.store_events.specs.Session.{IsSnapshotOfGame, IsUpToDate, MayCome, MissesNone}
 use Rattle.store_events.specs.Session.{SessionState, Takes, inputs, lived, session_after}
-use Rattle.store_events.specs.Steady.{IsSteady}
-use Rattle.store_events.proofs.AreaLemmas.{after_areas, in_image}
-use Rattle.store_events.proofs.KnownLemmas.{Has, after_has, has_open, shown, slot_shown}
+use Rattle.store_events.proofs.AreaLemmas.{after_areas, in_image, shown_held, shown_side}
+use Rattle.store_events.proofs.KnownLemmas.{after_has, has_open, shown, slot_shown}
 use Rattle.store_events.proofs.NewestLemmas.{newest_since}
 use Rattle.store_events.proofs.SteadyLemmas.{after_steady, down_steady}
 
@@ -60,29 +54,11 @@ stays_steady = record {
 
 -- ---- areas that are known to be open
 
-of_since : (place least : ℕ) (slots : Slots) → HasSince place least slots → Has place least slots
-of_since place least slots has = (has.side, has.count, has.open_there, has.since)
-
-since_of : (place least : ℕ) (slots : Slots) → Has place least slots → HasSince place least slots
-since_of place least slots has =
-    record { side = has.0; count = has.1; open_there = has.2; since = has.3 }
-
-since_after : (w : StoreState) (event : Event) (place least : ℕ) → IsSteady w
-    → EachArea (λ area. area.place ≤ place) w → HasSince place least w.slots
-    → HasSince place least (file_after w event).slots
-since_after w event place least steady rows has =
-    since_of place least (file_after w event).slots
-    (after_has place least w steady rows event (of_since place least w.slots has))
-
-since_open : (w : StoreState) (place least : ℕ) (image : List ℕ) → IsSteady w
-    → HasSince place least w.slots → IsDiskImage w.disk image
-    → (side : Side) × (area : Stored) × (open_area side image ≡ Some area)
-    × (area.place ≡ place) × (least ≤ area.count)
-since_open w place least image steady has is =
-    has_open place least w steady (of_since place least w.slots has) image is
-
 pub stays_open : StaysOpen
-stays_open = record { goes_on = since_after; shows = since_open }
+stays_open = record {
+  goes_on = λ w event place least steady rows has. after_has place least w steady rows event has;
+  shows = λ w place least image steady has is. has_open place least w steady has image is;
+}
 
 -- ---- each area has less, or other
 
@@ -100,9 +76,6 @@ map_areas P Q w each all = record {
 
 -- ---- the session's own snapshot
 
-one_world : (v w : WorldState) → Some v ≡ Some w → v ≡ w
-one_world v w e = cc
-
 own_agrees : (stories : List Story) (x : SessionState) (place count : ℕ) (bytes : List ℕ)
     → IsSnapshotOfGame stories x place count bytes
     → Agrees stories x.rows x.game (record { place = place; count = count; bytes = bytes })
@@ -111,7 +84,7 @@ own_agrees stories x place count bytes own = record {
   fits = λ _. own.fits;
   holds = λ _ _ w at.
       subst (λ (v : WorldState). HasBytes v.image bytes v)
-      (one_world own.world w (sym own.comes ∙ at)) own.has;
+      (same_Some own.world w (sym own.comes ∙ at)) own.has;
 }
 
 -- ---- what happens to a session
@@ -124,27 +97,17 @@ module _ (stories : List Story) where
   brings x (Stop image) may = tt
   brings x Recover may = tt
 
-  some_same : (m n : ℕ) → Some m ≡ Some n → m ≡ n
-  some_same m n is = cc
-
-  single : (row place k : ℕ) → k < 1 → get_or (place ∷ []) k row ≡ row → row ≡ place
-  single row place zero lt is = sym is
-  single row place (suc k) lt is = absurd (omega (arith, lt))
-
   -- an OPEN row behind all others is the last one
   pub last_behind : (rows : List ℕ) (place : ℕ) → ((row : ℕ) → Contains rows row → row < place)
       → (last : ℕ) → last_row (rows ++ place ∷ []) ≡ Some last
       → (row : ℕ) → Contains (rows ++ place ∷ []) row → row ≤ last
   last_behind rows place above last is row there =
       let same : place ≡ last =
-      some_same place last (sym (last-append None rows place) ∙ is) in
-      elim (Contains-append_cases rows (place ∷ []) row there) [
+      same_Some place last (sym (last-append None rows place) ∙ is) in
+      elim (Contains-push_cases rows place row there) [
         | inl before ↦ omega (arith, above row before, same)
-        | inr here ↦ omega (arith, only here, same)
+        | inr here ↦ omega (arith, here, same)
       ]
-    where
-      only : Contains (place ∷ []) row → row ≡ place
-      only at = single row place at.0 at.1 at.2
 
   next_agrees : (x : SessionState) (one : FileHappening) → MayCome stories x one
       → IsInAgreement stories x → IsInAgreement stories (session_after x one)
@@ -179,10 +142,6 @@ module _ (stories : List Story) where
   lived_agrees x (one ∷ more) kept may =
       lived_agrees (session_after x one) more (next_agrees x one may.0 kept) may.1
 
-  shown_side : (side : Side) (file : List ℕ) → slot_of (slots_in file) side ≡ slot_in side file
-  shown_side A file = refl
-  shown_side B file = refl
-
   begins_agreed : (rows : List ℕ) (game : List Command) (bytes : List ℕ)
       → ((place : ℕ) → last_row rows ≡ Some place → (row : ℕ) → Contains rows row → row ≤ place)
       → IsAgreedFile stories rows game bytes
@@ -190,10 +149,7 @@ module _ (stories : List Story) where
   begins_agreed rows game bytes last agreed = record {
     steady = down_steady bytes;
     areas = record {
-      held = λ side area is.
-          agreed side area
-          (sym (held_in side bytes)
-          ∙ ap (λ (s : Slot). area_held side s bytes) (sym (shown_side side bytes)) ∙ is);
+      held = λ side area is. agreed side area (shown_held side bytes area is);
       put = tt;
     };
     last = last;
@@ -221,30 +177,19 @@ module _ (stories : List Story) where
       ⊎ ((input : Input) × (o ≡ Some input)
       × (length (inputs_of (game ++ command ∷ [])) ≡ length (inputs_of game) + 1))
   one_input None game command is =
-      let both = filter_map-append input_of game (command ∷ []) in
-      let last : inputs_of (command ∷ []) ≡ [] = rw is refl in
-      inl (ap (λ (l : List Input). length l) (both
-      ∙ ap (λ (l : List Input). inputs_of game ++ l) last)
-      ∙ omega (arith, length-append (inputs_of game) []))
-  one_input (Some input) game command is =
-      let both = filter_map-append input_of game (command ∷ []) in
-      let last : inputs_of (command ∷ []) ≡ input ∷ [] = rw is refl in
-      inr (
-        input,
-        refl,
-        ap (λ (l : List Input). length l) (both
-            ∙ ap (λ (l : List Input). inputs_of game ++ l) last)
-            ∙ omega (arith, length-append (inputs_of game) (input ∷ [])),
-      )
+      inl (rw (filter_map-append input_of game (command ∷ []), is)
+      (omega (arith, length-append (inputs_of game) [])))
+  one_input (Some input) game command is = inr (
+    input,
+    refl,
+    rw (filter_map-append input_of game (command ∷ []), is)
+        (omega (arith, length-append (inputs_of game) (input ∷ []))),
+  )
 
   first_input : (o : Option Input) (command : Command) → input_of command ≡ o
       → length (inputs_of (command ∷ [])) ≤ 16
-  first_input None command is =
-      let last : inputs_of (command ∷ []) ≡ [] = rw is refl in
-      omega (arith, ap (λ (l : List Input). length l) last)
-  first_input (Some input) command is =
-      let last : inputs_of (command ∷ []) ≡ input ∷ [] = rw is refl in
-      omega (arith, ap (λ (l : List Input). length l) last)
+  first_input None command is = rw is (omega arith)
+  first_input (Some input) command is = rw is (omega arith)
 
   not_due : (x : SessionState) (place : ℕ) → last_row x.rows ≡ Some place → (IsDue x → ⊥)
       → due_in x.store.slots None place (inputs x) ≡ false
@@ -256,7 +201,7 @@ module _ (stories : List Story) where
   next_kept : (x : SessionState) (one : FileHappening) → IsInAgreement stories x
       → MissesNone x one → IsUpToDate x → IsUpToDate (session_after x one)
   next_kept x (Does event) kept misses date place is = λ clear due some before.
-      since_after x.store event place (due * 16) kept.steady (earlier_rows x kept place is)
+      after_has place (due * 16) x.store kept.steady (earlier_rows x kept place is) event
       (date place is clear due some before)
   next_kept x (Takes command) kept misses date place is =
       elim (one_input (input_of command) x.game command refl) [
@@ -291,7 +236,7 @@ module _ (stories : List Story) where
         side = side;
         count = area.count;
         open_there = shown_side side bytes ∙ slot_shown side bytes area there
-            ∙ ap (λ (p : ℕ). Open p area.count) (some_same area.place place (sym row ∙ is));
+            ∙ ap (λ (p : ℕ). Open p area.count) (same_Some area.place place (sym row ∙ is));
         since = since;
       }) few
 
@@ -338,7 +283,7 @@ module _ (stories : List Story) where
         subst (λ (n : ℕ). IsKeptUp place n x.store.slots none_missed) (omega (arith, many))
         (date place is) in
         let has = is_within_sixteen x.store.slots place least up (omega (arith, many)) in
-        let there = since_open x.store place least image kept.steady has at in
+        let there = has_open place least x.store kept.steady has image at in
         let agrees = in_image (Agrees stories x.rows x.game) x.store kept.steady kept.areas image at
         there.0 there.1 (open_openable there.0 image there.1 there.2) in
         let fits = agrees.fits (is ∙ ap (λ (p : ℕ). Some p) (sym there.3)) in

@@ -19,9 +19,7 @@ returns-clause-value c =
 pub returns-clause-lives : goal.returns-clause-lives
 returns-clause-lives c =
     each_lives c.args.stories.now c.args.budget c.args.state c.args.events.now c.loop-event.state
-    (sym (run_end c.args.stories.now c.args.budget c.args.events.now c.loop-event.event-index
-    c.loop-event.state c.loop-event-test.false)
-    ∙ c.loop-event.invariant)
+    (returns-clause-value c)
 
 pub returns-clause-shows : goal.returns-clause-shows
 returns-clause-shows c = shows_alone
@@ -29,16 +27,12 @@ returns-clause-shows c = shows_alone
 pub returns-clause-kept : goal.returns-clause-kept
 returns-clause-kept c =
     none_lost c.args.stories.now c.args.budget c.args.state c.args.events.now c.loop-event.state
-    (sym (run_end c.args.stories.now c.args.budget c.args.events.now c.loop-event.event-index
-    c.loop-event.state c.loop-event-test.false)
-    ∙ c.loop-event.invariant)
+    (returns-clause-value c)
 
 pub returns-clause-isolated : goal.returns-clause-isolated
 returns-clause-isolated c =
     isolated c.args.stories.now c.args.budget c.args.state c.args.events.now c.loop-event.state
-    (sym (run_end c.args.stories.now c.args.budget c.args.events.now c.loop-event.event-index
-    c.loop-event.state c.loop-event-test.false)
-    ∙ c.loop-event.invariant)
+    (returns-clause-value c)
 
 pub returns-in_err-happen-clause-shows : goal.returns-in_err-happen-clause-shows
 returns-in_err-happen-clause-shows c = shows_alone

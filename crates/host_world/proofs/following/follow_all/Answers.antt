@@ -1,6 +1,4 @@
-use Rattle.std.proofs.Common.{◌≡◌, ◌∙◌, subst, sym}
-use Rattle.host_world.specs.Puts.{AreOwnPuts}
-use Rattle.host_world.specs.Whole.{whole_run}
+use Rattle.std.proofs.Common.{◌∙◌, subst, sym}
 use Rattle.host_world.specs.WholeHeadline.{FilesAgree, LivesAsHost, SessionWarmsInSixteen}
 use Rattle.host_world.specs.declared.whole.WholeState.{WholeState}
 use Rattle.host_world.proofs.WholeLemmas.{files_agree, lives_as_host, own_end, own_next}

@@ -1,4 +1,4 @@
-use Rattle.std.proofs.Common.{◌≡◌, ◌∙◌, ap, Bool, sym, subst, true, ℕ, OnOk}
+use Rattle.std.proofs.Common.{◌≡◌, ◌∙◌, ap, Bool, sym, subst, true, OnOk}
 use Rattle.std.specs.Prelude.{if◌then◌else◌}
 use Rattle.disk_model.specs.DiskState.{DiskState}
 use Rattle.store_events.specs.Disk.{disk_after}
@@ -45,19 +45,7 @@ returns c =
       sessions = sessions_with c.args.self.now c.args.row.session Begun;
       step = Idle;
     } =
-    c.go_to.ensures
-    ∙ ap (λ (d : DiskState). record c.args.self.now {
-      disk = d;
-      sessions = sessions_with c.args.self.now c.session-s.result Begun;
-    }) disk
-    ∙ ap (λ (n : ℕ).
-    record c.args.self.now { disk = after; sessions = sessions_with c.args.self.now n Begun })
-    c.session-s.ensures
-    ∙ ap (λ (s : Step). record c.args.self.now {
-      disk = after;
-      sessions = sessions_with c.args.self.now c.args.row.session Begun;
-      step = s;
-    }) c.requires in
+    rw (sym disk, sym c.session-s.ensures, sym c.requires) c.go_to.ensures in
     let ends : call_ended c.go_to.new.self good c.first_step-step.result
     ≡ call_next w (begun_with w c.args.row) good reads =
     ap (λ (s : Step). call_ended c.go_to.new.self good s) c.first_step-step.ensures

@@ -1,4 +1,4 @@
-use Rattle.std.proofs.Common.{◌≡◌, ◌∙◌, ap, Bool, sym, subst, true, OnOk}
+use Rattle.std.proofs.Common.{◌≡◌, ◌∙◌, ap, Bool, refl, sym, subst, true, OnOk}
 use Rattle.std.specs.Prelude.{if◌then◌else◌}
 use Rattle.disk_model.specs.DiskState.{DiskState}
 use Rattle.store_events.specs.Disk.{disk_after}
@@ -41,10 +41,7 @@ returns c =
       disk = disk_after c.in-Some.call c.args.good c.args.reads.now c.args.self.now.disk;
       step = Idle;
     } =
-    ap (λ (d : DiskState). record c.args.self.now { disk = d; step = c.replace-step.new.dest }) disk
-    ∙ ap
-    (λ (s : Step). record c.args.self.now { disk = disk_after call good reads w.disk; step = s })
-    c.replace-step.ensures.after in
+    rw (disk, c.replace-step.ensures.after) refl in
     let ends : call_ended there good c.replace-step.result ≡ call_next w w good reads =
     ap (λ (s : Step). call_ended there good s) c.replace-step.ensures.value
     ∙ call_made w w there good reads call (sym c.in_ok-call.ensures ∙ c.in-Some.is)
