@@ -23,8 +23,8 @@ use Rattle.store_events.specs.Disk.{fault_counted, disk_after, may_work}
 use Rattle.host_world.specs.Happenings.{Happening, history_left}
 use Rattle.host_world.specs.Headline.{AreGiven}
 use Rattle.host_world.specs.Journal.{broken, next_call, onward, past_gate, with_fault}
-use Rattle.host_world.specs.Pending.{command_listed, pending, pending_at, pending_of}
-use Rattle.host_world.specs.Sessions.{in_phase, phase_set, turn_set}
+use Rattle.host_world.specs.Pending.{command_listed, pending}
+use Rattle.host_world.specs.Sessions.{in_phase, phase_set}
 use Rattle.store_events.specs.declared.disk.DiskCall.{DiskCall}
 use Rattle.store_events.specs.declared.disk.DiskCall.TheVariants.{Sync, Write}
 use Rattle.host_world.specs.declared.state.HostState.{HostState}
@@ -57,15 +57,10 @@ module _ (stories : List Story) (budget : ℕ) (premise : AreGiven stories budge
     set_phase_is : (r : Row) (b : Busy stories budget v r) (phase : Phase)
         → phase_set v.sessions r.session phase (slice_get v.sessions r.session)
         ≡ set v.sessions r.session (in_phase b.asker b.turn phase)
-    set_phase_is r b phase =
-        ap (λ (o : Option Session). phase_set v.sessions r.session phase o) b.at
-        ∙ ap (λ (o : Option Turn). turn_set v.sessions r.session phase b.asker o) b.stands
+    set_phase_is r b phase = rw (b.at, b.stands) refl
 
     busy_pending : (r : Row) (b : Busy stories budget v r) → pending stories budget b.asker ≡ []
-    busy_pending r b =
-        ap (λ (o : Option Turn). pending_of stories budget b.asker.history o) b.stands
-        ∙ ap (λ (p : Phase). pending_at stories budget
-        (commands_in b.asker.history) b.turn.line p) b.started
+    busy_pending r b = rw (b.stands, b.started) refl
 
     busy_rows : (r : Row) (b : Busy stories budget v r)
         → commands_of v.rows r.session ≡ commands_in b.asker.history

@@ -16,7 +16,7 @@ use Rattle.host_world.specs.Events.{begin_append, begin_held, begin_session}
 use Rattle.host_world.specs.Events.{begin_session_turn, begun, first_step}
 use Rattle.host_world.specs.Happenings.{Happening, history_left}
 use Rattle.host_world.specs.Headline.{AreGiven}
-use Rattle.host_world.specs.Pending.{pending, pending_at, pending_of}
+use Rattle.host_world.specs.Pending.{pending}
 use Rattle.host_world.specs.Sessions.{in_phase}
 use Rattle.host_world.specs.declared.state.HostState.{HostState}
 use Rattle.host_world.specs.declared.state.Step.{Step}
@@ -80,10 +80,7 @@ module _ (stories : List Story) (budget : ℕ) (premise : AreGiven stories budge
     begins s x t at turn held phase c accepted =
         let known = sound.each s x at in
         let up = turn_up stories budget s w.rows w.uncertain x t w.up known.rows turn in
-        let none : pending stories budget x ≡ [] =
-        ap (λ (o : Option Turn). pending_of stories budget x.history o) turn
-        ∙ ap (λ (p : Phase). pending_at stories budget
-        (commands_in x.history) t.line p) phase in
+        let none : pending stories budget x ≡ [] = rw (turn, phase) refl in
         let same : commands_of w.rows s ≡ commands_in x.history =
         rows_up s w.rows w.uncertain x w.up up known.rows
         ∙ ap (λ (l : List Command). commands_in x.history ++ l) none

@@ -8,7 +8,7 @@ use Rattle.std.specs.Prelude.{if◌then◌else◌}
 use Rattle.gate_journal.specs.declared.command.Command.{Command}
 use Rattle.line_words.specs.declared.reply.Reply.{Reply}
 use Rattle.story_run.specs.declared.story.Story.{Story}
-use Rattle.session_core.specs.Turning.{Turned, commands_in, decision_on, turn_met, turn_of}
+use Rattle.session_core.specs.Turning.{commands_in, decision_on, turn_met, turn_of}
 use Rattle.session_core.specs.declared.entry.Entry.{Entry}
 use Rattle.session_core.specs.declared.entry.Entry.TheVariants.{Accepted, Faulted}
 use Rattle.session_core.specs.declared.entry.Outcome.{Outcome}
@@ -94,10 +94,7 @@ module _ (stories : List Story) (budget : ℕ) where
       → (turn_of stories budget h by line outcome).history
       ≡ (turn_met h by (decision_on stories budget (commands_in h) line).reply
       (Some c) outcome).history
-  history_with h by line outcome c is =
-      ap (λ (t : Turned). t.history) (turn_is h by line outcome)
-      ∙ ap (λ (o : Option Command). (turn_met h by
-      (decision_on stories budget (commands_in h) line).reply o outcome).history) is
+  history_with h by line outcome c is = rw (turn_is h by line outcome, is) refl
 
   -- the entry of a turn brings the commands of its history up to its row
   pub entry_rows :

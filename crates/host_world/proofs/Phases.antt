@@ -1,5 +1,5 @@
 -- How a session goes on, and what a phase is known by.
-use Rattle.std.proofs.Common.{Bool, List, None, Option, Some, [], ap, false, refl, set, subst, sym}
+use Rattle.std.proofs.Common.{Bool, List, None, Option, Some, [], ap, false, refl, subst, sym}
 use Rattle.std.proofs.Common.{true, ℕ, ◌++◌, ◌∙◌, ◌≡◌, ◌≢◌}
 use Rattle.std.proofs.lemmas.List.{append-nil}
 use Rattle.std.specs.List.{slice_get}
@@ -9,9 +9,7 @@ use Rattle.story_run.specs.declared.story.Story.{Story}
 use Rattle.session_core.specs.declared.entry.Entry.{Entry}
 use Rattle.host_world.specs.Events.{goes_to, held_by, with_session}
 use Rattle.host_world.specs.Happenings.{Happening}
-use Rattle.host_world.specs.Journal.{sessions_with}
-use Rattle.host_world.specs.Sessions.{in_phase, phase_in, phase_of, phase_set, turn_set}
-use Rattle.host_world.specs.declared.state.Given.{Given}
+use Rattle.host_world.specs.Sessions.{in_phase, phase_in, phase_of}
 use Rattle.host_world.specs.declared.state.HostState.{HostState}
 use Rattle.host_world.specs.declared.turn.Phase.{Phase}
 use Rattle.host_world.specs.declared.turn.Phase.TheVariants.{Begun}
@@ -46,29 +44,15 @@ module _ (stories : List Story) (budget : ℕ) where
       (w : HostState) (s : ℕ) (x : Session) (t : Turn) (phase : Phase) (holder : Option ℕ)
       → slice_get w.sessions s ≡ Some x → x.turn ≡ Some t
       → moved w s (in_phase x t phase) holder [] ≡ goes_to w s phase holder
-  goes_is w s x t phase holder at turn =
-      ap (λ (l : List Session). record w { sessions = l; holder = holder; given = w.given ++ [] })
-      (sym (ap (λ (o : Option Session). phase_set w.sessions s phase o) at
-      ∙ ap (λ (o : Option Turn). turn_set w.sessions s phase x o) turn))
-      ∙ ap (λ (g : List Given). record w {
-        sessions = sessions_with w s phase;
-        holder =
-            holder;
-        given = g;
-      }) (append-nil w.given)
+  goes_is w s x t phase holder at turn = rw (at, turn, append-nil w.given) refl
 
   -- and one that is set while nobody else takes the journal
   pub with_is : (w : HostState) (s : ℕ) (x : Session) → moved w s x w.holder [] ≡ with_session w s x
-  with_is w s x =
-      ap (λ (g : List Given). record w { sessions = set w.sessions s x; given = g })
-      (append-nil w.given)
+  with_is w s x = rw (append-nil w.given) refl
 
   pub held_as : (w : HostState) (s : ℕ) (x : Session) → slice_get w.sessions s ≡ Some x
       → moved w s x (Some s) [] ≡ record w { holder = Some s }
-  held_as w s x at =
-      ap (λ (l : List Session). record w { sessions = l; holder = Some s; given = w.given ++ [] })
-      (set_same w.sessions s x at)
-      ∙ ap (λ (g : List Given). record w { holder = Some s; given = g }) (append-nil w.given)
+  held_as w s x at = rw (set_same w.sessions s x at, append-nil w.given) refl
 
   pub if_kept : (P : HostState → Type 0) (a b : HostState) (test : Bool) → P b → (test ≡ true → P a)
       → P (if test then a else b)

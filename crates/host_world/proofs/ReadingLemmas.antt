@@ -207,11 +207,8 @@ ends_here n rows gate past shut = of n
     test = grind (arith, nat_tests)
 
     of : (k : ℕ) → rows_from k rows (gate ∷ past) ≡ Some rows
-    of zero = ap (λ (b : Bool). if b then None else Some rows) test
-    of (suc k) =
-        ap (λ (b : Bool). if b then (if has_row rows past (row_at rows past) then rows_from k
-        (rows ++ row_at rows past ∷ []) (drop
-        (length (row_body (row_at rows past))) past) else None) else Some rows) test
+    of zero = rw test refl
+    of (suc k) = rw test refl
 
 end_found : (n : ℕ) (rows : List Row) (x : List ℕ) → 1 ≤ length x → get_or x 0 0 ≢ 1
     → rows_from n rows x ≡ Some rows

@@ -58,8 +58,7 @@ module _ (stories : List Story) (budget : ℕ) where
       pub pending_is : (phase : Phase) → t.phase ≡ phase
           → pending stories budget x ≡ pending_at stories budget
           (commands_in x.history) t.line phase
-      pending_is phase is = ap (λ (o : Option Turn). pending_of stories budget x.history o) turn
-          ∙ ap (λ (p : Phase). pending_at stories budget (commands_in x.history) t.line p) is
+      pending_is phase is = rw (turn, is) refl
 
       pub quiet_is : (phase : Phase) → t.phase ≡ phase → Quiet stories budget phase → (u : Turn)
           → x.turn ≡ Some u → u.phase ≡ Begun → ⊥

@@ -11,7 +11,6 @@ use Rattle.gate_journal.specs.Rows.{IsNext}
 use Rattle.gate_journal.specs.declared.row.Row.{Row}
 use Rattle.story_run.specs.declared.story.Story.{Story}
 use Rattle.session_core.specs.declared.entry.Entry.{Entry}
-use Rattle.store_events.specs.declared.event.Event.TheVariants as files
 use Rattle.store_events.specs.declared.state.StoreState.{StoreState}
 use Rattle.store_events.specs.Rows.{session_in_rows}
 use Rattle.store_events.specs.Session.{IsUpToDate}
@@ -20,7 +19,6 @@ use Rattle.store_events.proofs.SessionLemmas.{stays_in_agreement, warms_in_sixte
 use Rattle.host_world.specs.Events.{after, run}
 use Rattle.host_world.specs.Happenings.{Happening, all_told}
 use Rattle.host_world.specs.Headline.{AreGiven}
-use Rattle.host_world.specs.Keeping.{with_event}
 use Rattle.host_world.specs.Puts.{AreOwnPuts, IsOwnPut}
 use Rattle.host_world.specs.Whole.{all_to_host, are_images, closes_host, fails_at, is_up, no_put}
 use Rattle.host_world.specs.Whole.{to_files, to_host, whole_after, whole_run}
@@ -110,10 +108,7 @@ module _ (stories : List Story) where
             else if w.host.up && fails_at (slice_get w.stores (disk - 1)) good reads
             then closes_host w.host else [])
         of true is =
-            by_one (Call disk good reads) (journal.Call 0 good reads)
-            (ap (λ (b : Bool). if b then w.stores
-            else if w.host.up then with_event w.stores (disk - 1) (files.Call good reads)
-            else w.stores) is)
+            by_one (Call disk good reads) (journal.Call 0 good reads) (rw is refl)
         of false is =
             inl (closed_rows (w.host.up && fails_at (slice_get w.stores (disk - 1)) good reads))
     whole_step (Free s) = by_one (Free s) (journal.Free s) refl

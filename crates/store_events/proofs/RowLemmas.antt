@@ -213,13 +213,7 @@ module _ (stories : List Story) (rows : List Row) (r : Row) (s : ℕ) (store : S
       → opens_of (rows ++ r ∷ []) s ≡ places → game_of (commands_of (rows ++ r ∷ []) s) ≡ game
       → session_in_rows (rows ++ r ∷ []) s store
       ≡ record { rows = places; game = game; store = store }
-  parts_are places game is_places is_game =
-      ap (λ (l : List ℕ). record {
-        rows = l;
-        game = game_of (commands_of (rows ++ r ∷ []) s);
-        store = store;
-      }) is_places
-      ∙ ap (λ (g : List Command). record { rows = places; game = g; store = store }) is_game
+  parts_are places game is_places is_game = rw (is_places, is_game) refl
 
   places_by : (b : Bool) → own r s ≡ b
       → opens_of (rows ++ r ∷ []) s ≡ opens_of rows s ++ one_of b r.place
@@ -263,11 +257,7 @@ module _ (stories : List Story) (rows : List Row) (r : Row) (s : ℕ) (store : S
   as_told : (here opens : Bool) → (r.session == s) ≡ here → is_open r.command ≡ opens
       → (if here then (if opens then Begins r.place r.command else Takes r.command) ∷ [] else [])
       ≡ told_of r s
-  as_told here opens is_here is_opens =
-      ap (λ (b : Bool). if here then (if b then Begins r.place r.command
-      else Takes r.command) ∷ [] else []) (sym is_opens)
-      ∙ ap (λ (b : Bool). if b then (if is_open r.command then Begins r.place r.command
-      else Takes r.command) ∷ [] else []) (sym is_here)
+  as_told here opens is_here is_opens = rw (is_here, is_opens) refl
 
   told : Told (told_of r s)
   told = elim (cases_eq r.session s) [

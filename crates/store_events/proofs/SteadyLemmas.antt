@@ -10,7 +10,7 @@ use Rattle.snap_store.specs.declared.slot.Slot.{Slot}
 use Rattle.snap_store.specs.declared.slot.Slot.TheVariants.{Closed, Open, Unsure}
 use Rattle.snap_store.specs.File.{Stored}
 use Rattle.snap_store.specs.File.{whole_area}
-use Rattle.snap_store.specs.Images.{Spares, StandsOnSide, loosened}
+use Rattle.snap_store.specs.Images.{StandsOnSide, loosened}
 use Rattle.snap_store.specs.Slots.{is_closed, opposite_side}
 use Rattle.snap_store.specs.Slots.{slot_of, taken_side, with_slot}
 use Rattle.snap_store.proofs.LaidLemmas.{laid_loosened}
@@ -131,12 +131,8 @@ module _ (w : StoreState) (steady : IsSteady w) (area : Stored) (room : has_room
       record {
         room = room;
         made = made;
-        loose = subst (λ (s : Slot). loosened s ≡ s)
-            (sym (slot_set taken w.slots (loosened taken_slot)))
-            (twice_loosened taken_slot);
-        spares = subst (λ (s : Slot). Spares taken s)
-            (sym (slot_kept taken w.slots (loosened taken_slot)))
-            (spares_taken w.slots);
+        loose = rw (slot_set taken w.slots (loosened taken_slot)) (twice_loosened taken_slot);
+        spares = rw (slot_kept taken w.slots (loosened taken_slot)) (spares_taken w.slots);
       },
       first_has (is_closed taken_slot) refl,
     );
