@@ -77,15 +77,6 @@ same_at old new name now is here other =
     is other ∙ kept_at (bytes_eq name other) now (old other)
     (λ same. ap old (sym ((bytes_eq-Decides name other).0 same)) ∙ here)
 
-pub some_so : {X : Type 0} (o : Option X) (P Q : X → Type 0) → ((x : X) → P x → Q x) → IfSome o P
-    → IfSome o Q
-some_so None P Q f p = tt
-some_so (Some x) P Q f p = f x p
-
-pub none_so : {X : Type 0} (o : Option X) (P Q : Type 0) → (P → Q) → IfNone o P → IfNone o Q
-none_so None P Q f p = f p
-none_so (Some x) P Q f p = tt
-
 untold : {X : Type 0} (b : Bool) (now : Told X) → Untold ≡ cond b (told_now Untold now) Untold
 untold true now = refl
 untold false now = refl
