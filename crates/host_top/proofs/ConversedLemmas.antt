@@ -1,7 +1,7 @@
 -- What `pipe` leaves of its disk, its input and its output, from what its host says as it is
 -- opened, serves and ends.
 use Rattle.std.proofs.Common.{◌≡◌, ◌⊎◌, ℕ, ◌+◌, ◌<◌, ◌≤◌, max, List, [], ◌∷◌, ◌++◌, length, map}
-use Rattle.std.proofs.Common.{take, sym, ap, ◌∙◌, subst, Bool, IsTrue, Some, arith, refl}
+use Rattle.std.proofs.Common.{take, sym, ap, ◌∙◌, subst, Bool, IsTrue, arith, refl}
 use Rattle.std.proofs.lemmas.List.{length-map}
 use Rattle.std.proofs.Math.Seq.{take-append_seam}
 use Rattle.std.proofs.lemmas.Option.{same_Some}

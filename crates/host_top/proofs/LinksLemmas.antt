@@ -1,6 +1,6 @@
 -- What `serve` leaves of its disk, its output and its doors, from what its host says as it is
 -- opened and ends.
-use Rattle.std.proofs.Common.{◌≡◌, ◌⊎◌, inl, inr, ℕ, ◌≤◌, List, [], ◌∷◌, length, map, refl, sym}
+use Rattle.std.proofs.Common.{◌≡◌, ◌⊎◌, inl, inr, ℕ, List, length, refl, sym}
 use Rattle.std.proofs.Common.{◌∙◌, subst, arith, IsTrue}
 use Rattle.gate_journal.specs.Log.{rows_of}
 use Rattle.gate_journal.specs.Rows.{SpellsRows}

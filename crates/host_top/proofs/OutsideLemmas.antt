@@ -1,6 +1,6 @@
 -- Names of disks in memory.
 use Rattle.std.proofs.Common.{◌≡◌, ◌≢◌, ℕ, ◌<◌, ◌≤◌, List, is_some, arith, refl, sym, ap, ◌∙◌, cond}
-use Rattle.std.proofs.Common.{Bool, true, false, Option, Some, None, IfSome, IfNone}
+use Rattle.std.proofs.Common.{Bool, true, false, Option, Some, None}
 use Rattle.std.specs.Map.{update}
 use Rattle.std.specs.Borrow.{Bor}
 use Rattle.std.specs.Option.{option_and_then, option_copied}

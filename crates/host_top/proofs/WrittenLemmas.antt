@@ -16,14 +16,14 @@ use Rattle.host_top.specs.Files.{IsLentFrom, OutsideState, Told}
 use Rattle.host_top.specs.declared.folder.Back.{Back}
 use Rattle.host_top.specs.declared.folder.Back.TheVariants as back
 use Rattle.host_top.specs.Said.{SaysFault, SaysLine, bad_journal, bad_journal_at}
-use Rattle.host_top.specs.Served.{RefusesJournal, WritesServed}
+use Rattle.host_top.specs.Served.{RefusesJournal}
 use Rattle.host_top.specs.Status.{status_of_stop}
 use Rattle.line_talk.specs.Streams.{SourceState, SinkState}
 use Rattle.line_talk.specs.Writing.{IsPartOf}
 use Rattle.line_talk.specs.declared.sink.Stop.{Stop}
 use Rattle.line_talk.specs.declared.sink.Stop.TheVariants as stop
 use Rattle.host_top.specs.declared.status.Status.{Status}
-use Rattle.host_top.specs.declared.status.Status.TheVariants.{Done, ReadFault, DiskFault, NoMemory}
+use Rattle.host_top.specs.declared.status.Status.TheVariants.{Done, DiskFault, NoMemory}
 use Rattle.host_top.specs.declared.status.Status.TheVariants.{BadFolder, DoorFault}
 use Rattle.host_top.proofs.ServedLemmas.{where_told, WroteSome}
 

@@ -1,4 +1,4 @@
-use Rattle.std.proofs.Common.{arith, refl, sym, subst, ap, ◌∙◌, ◌≡◌, ◌-◌, ◌+◌, ◌∷◌, [], ◌++◌, suc}
+use Rattle.std.proofs.Common.{arith, refl, sym, subst, ap, ◌∙◌, ◌≡◌, ◌-◌, ◌+◌, ◌++◌, suc}
 use Rattle.std.proofs.Common.{ℕ, List, Option, Some, map, string_bytes, length, take, slice_get}
 use Rattle.std.proofs.Common.{◌<◌}
 use Rattle.std.proofs.lemmas.List.{length-take-le}
