@@ -3,6 +3,7 @@ use Rattle.std.proofs.Common.{◌≡◌, ◌≢◌, ◌⊎◌, inl, inr, ℕ, Li
 use Rattle.std.proofs.Common.{sym, ap, ◌∙◌, subst, cond, Bool, true, false, Option}
 use Rattle.std.proofs.Common.{None, Some, IsTrue}
 use Rattle.std.proofs.lemmas.Slice.Eq.{bytes_eq-Decides}
+use Rattle.std.proofs.lemmas.Option.{same_Some}
 use Rattle.std.specs.Str.{bytes_eq}
 use Rattle.disk_model.specs.Disk.{SameDisk}
 use Rattle.turn_cell.specs.History.{Each}
@@ -49,9 +50,6 @@ told_last Missing None last = refl
 told_last Missing (Some d) last = refl
 told_last (There a) None last = refl
 told_last (There a) (Some d) last = refl
-
-same_some : {A : Type 0} (a b : A) → Some a ≡ Some b → a ≡ b
-same_some a b e = cc
 
 each_both : {A : Type 0} (P Q : A → Type 0) (xs : List A) → Each P xs → Each Q xs
     → Each (λ x. P x × Q x) xs
@@ -134,7 +132,7 @@ module _ {D : Type 0} (disks : DiskWords D) where
           (ap (λ (n : List ℕ). bytes_eq n l.name) found.1 ∙ turned_about l.name other away)
           ((more.others l.name apart).1 ∙ is.loan)
           (sym same ∙ ap (λ (x : Loan). x.label)
-          (same_some loan (loan_by disks found.0)
+          (same_Some loan (loan_by disks found.0)
           (sym at ∙ ap c.loan (sym found.1) ∙ found.2.loan)))
       | inr none ↦ is.own other loan away (sym (more.others other none).1 ∙ at)
     ];
@@ -226,7 +224,7 @@ module _ {D : Type 0} (disks : DiskWords D) where
           ))
       of true is (Some l) some =
           λ same. own other l away (ap b.loan (sym ((bytes_eq-Decides name other).0 is)) ∙ some)
-          (ap (λ (x : Loan). x.label) (same_some (record l { to = Some (disks.faults back) }) loan
+          (ap (λ (x : Loan). x.label) (same_Some (record l { to = Some (disks.faults back) }) loan
           (sym (takes.loans other ∙ there (bytes_eq name other) _ (b.loan other) is
           ∙ ap (returned (disks.faults back)) some) ∙ at)) ∙ same)
 

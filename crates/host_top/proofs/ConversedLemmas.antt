@@ -1,9 +1,10 @@
 -- What `pipe` leaves of its disk, its input and its output, from what its host says as it is
 -- opened, serves and ends.
 use Rattle.std.proofs.Common.{◌≡◌, ◌⊎◌, ℕ, ◌+◌, ◌<◌, ◌≤◌, max, List, [], ◌∷◌, ◌++◌, length, map}
-use Rattle.std.proofs.Common.{take, sym, ap, ◌∙◌, subst, Bool, IsTrue, Some, arith, refl}
+use Rattle.std.proofs.Common.{take, sym, ap, ◌∙◌, subst, Bool, IsTrue, arith, refl}
 use Rattle.std.proofs.lemmas.List.{length-map}
 use Rattle.std.proofs.Math.Seq.{take-append_seam}
+use Rattle.std.proofs.lemmas.Option.{same_Some}
 use Rattle.disk_model.specs.Disk.{EachImage, LeavesOnly, SameDisk}
 use Rattle.gate_journal.specs.Log.{IsBetween, IsSinceOpened, Log, MayOpen, MaySpell, Opening, Rises}
 use Rattle.gate_journal.specs.Log.{rows_kept, rows_found, rows_of}
@@ -93,9 +94,6 @@ module _ {D : Type 0} (disks : DiskWords D) where
     back_zip gs ss bs of.1 gives.1,
   )
 
-same_some : {A : Type 0} (a b : A) → Some a ≡ Some b → a ≡ b
-same_some a b e = cc
-
 module _ {D : Type 0} (disks : DiskWords D) (given back : D) (givens backs : List D)
     (stories : List Story) (budget : ℕ) (rows : List Row) (host : Host D) (first last : Passes D)
     (opened : IsOpenedHost stories budget rows (record { disk = given; found = length rows }) host
@@ -108,7 +106,7 @@ module _ {D : Type 0} (disks : DiskWords D) (given back : D) (givens backs : Lis
   -- it is the journal that was opened on this disk, with these rows
   opening : end.0.opening ≡ record { disk = given; found = length rows }
   opening =
-      sym (same_some (record { disk = given; found = length rows }) end.0.opening
+      sym (same_Some (record { disk = given; found = length rows }) end.0.opening
       (sym opened.root ∙ end.2.opening))
 
   opened_on : end.0.opening.disk ≡ given

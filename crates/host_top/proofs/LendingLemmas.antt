@@ -4,7 +4,10 @@ use Rattle.std.proofs.Common.{drop, arith, refl, sym, ap, ◌∙◌, subst, Opti
 use Rattle.std.proofs.Common.{Result, Ok, Err, OnErr, IsErrOf, slice_get, get_or, String, false}
 use Rattle.std.proofs.Common.{IsTrue, string_bytes}
 use Rattle.std.proofs.Math.ListN.{drop_of_length-le}
-use Rattle.std.proofs.lemmas.Option.{slice_get-get_or, slice_get-map}
+use Rattle.std.proofs.Math.Seq.{drop-cons, take-suc}
+use Rattle.std.proofs.lemmas.List.{same_from_push}
+use Rattle.std.proofs.lemmas.Option.{get_or_from_slice_get, slice_get-get_or, slice_get-map}
+use Rattle.std.proofs.lemmas.Option.{slice_get_read, slice_get_within}
 use Rattle.std.specs.Option.{option_map}
 use Rattle.std.specs.Str.{bytes_eq}
 use Rattle.disk_model.specs.Disk.{SameDisk}
@@ -45,38 +48,17 @@ module _ {A : Type 0} where
   pub same_item : (x y : A) → Some x ≡ Some y → x ≡ y
   same_item x y e = cc
 
-  abbrev head_of : A → List A → A
-  head_of d [] = d
-  head_of d (x ∷ xs) = x
-
-  abbrev behind_one : List A → List A
-  behind_one [] = []
-  behind_one (x ∷ xs) = xs
-
-  no_end : (xs : List A) (x : A) (B : Type 0) → xs ++ x ∷ [] ≡ [] → B
-  no_end [] x B e = absurd (grind (arith, ap length e))
-  no_end (y ∷ ys) x B e = absurd (grind (arith, ap length e))
-
   pub drop_step : (xs : List A) (k : ℕ) (x : A) → slice_get xs k ≡ Some x
       → drop k xs ≡ x ∷ drop (suc k) xs
-  drop_step [] k x e = cc
-  drop_step (y ∷ ys) zero x e = ap (λ (z : A). z ∷ ys) (same_item y x e)
-  drop_step (y ∷ ys) (suc k) x e = drop_step ys k x e
-
-  none_taken : (k : ℕ) (xs : List A) (B : Type 0) → take (suc k) xs ≡ [] → k < length xs → B
-  none_taken k [] B e low = absurd (omega arith)
-  none_taken k (x ∷ xs) B e low = absurd (grind (arith, ap length e))
+  drop_step xs k x e = drop-cons xs k x (slice_get_within xs k x e)
+      ∙ ap (λ (y : A). y ∷ drop (suc k) xs) (get_or_from_slice_get xs k x x e)
 
   -- the last of the first ones
   pub pop_last : (xs : List A) (k : ℕ) (rest : List A) (x : A) → rest ++ x ∷ [] ≡ take (suc k) xs
       → k < length xs → (rest ≡ take k xs) × (slice_get xs k ≡ Some x)
-  pop_last [] k rest x e within = absurd (omega arith)
-  pop_last (y ∷ ys) zero [] x e within = (refl, ap (λ (l : List A). Some (head_of x l)) (sym e))
-  pop_last (y ∷ ys) zero (z ∷ zs) x e within = no_end zs x _ (ap behind_one e)
-  pop_last (y ∷ ys) (suc k) [] x e within = none_taken k ys _ (ap behind_one (sym e)) (omega arith)
-  pop_last (y ∷ ys) (suc k) (z ∷ zs) x e within =
-      let more = pop_last ys k zs x (ap behind_one e) (omega arith) in
-      (ap (λ (w : A). w ∷ zs) (ap (head_of z) e) ∙ ap (λ (l : List A). y ∷ l) more.0, more.1)
+  pop_last xs k rest x e within =
+      let last = same_from_push rest (take k xs) x (get_or xs k x) (e ∙ take-suc xs k x within) in
+      (last.0, slice_get_read xs (length xs) k x refl within last.1)
 
 -- the name at a place
 pub named_at : {Y : Type 0} (names : List (String Y)) (k : ℕ) (name : String Y) → k < length names
@@ -229,7 +211,7 @@ module _ {D : Type 0} (disks : DiskWords D) where
       each_map (λ n. bytes_eq n name ≡ false) (λ n. Each (IsOther n) ls) (take (length ds) ns)
       (λ n other. named n (turned_about n name other, tt)) (next_apart ns ds name apart e)
 
-  pub take_on : (a b c : OutsideState D) (ns : List (List ℕ)) (ds : List D) (name : List ℕ)
+  take_on : (a b c : OutsideState D) (ns : List (List ℕ)) (ds : List D) (name : List ℕ)
       (ls : List (Lending D)) → AreDifferentNames ns → slice_get ns (length ds) ≡ Some name
       → AreNamed (name ∷ []) ls → Borrowed disks a b (lent_as ns ds) → Borrowed disks b c ls
       → Borrowed disks a c (lent_as ns ds ++ ls)
@@ -260,8 +242,7 @@ module _ {D : Type 0} (disks : DiskWords D) where
   back_named P (n ∷ ns) [] each = tt
   back_named P (n ∷ ns) (d ∷ ds) each = (each.0, back_named P ns ds each.1)
 
-  -- where one isn't lent, the others are put back as they were given
-  pub refused_back : (a b c : OutsideState D) (ns : List (List ℕ)) (ds : List D) (name : List ℕ)
+  refused_back : (a b c : OutsideState D) (ns : List (List ℕ)) (ds : List D) (name : List ℕ)
       (ls : List (Lending D)) → AreDifferentNames ns → slice_get ns (length ds) ≡ Some name
       → AreNamed (name ∷ []) ls → AreAsGiven ls → Borrowed disks a b (lent_as ns ds ++ ls)
       → PutsBack disks.faults ns ds b c
@@ -298,12 +279,30 @@ module _ {D : Type 0} (disks : DiskWords D) where
   lent_at a b (n ∷ ns) (g ∷ gs) (suc i) name d each named is =
       lent_at a b ns gs i name d each.1 named is
 
-  pub lent_first_at : (a b : OutsideState D) (ns : List (List ℕ)) (ds : List D)
+  lent_first_at : (a b : OutsideState D) (ns : List (List ℕ)) (ds : List D)
       (ls : List (Lending D)) (i : ℕ) (name : List ℕ) (d : D)
       → Borrowed disks a b (lent_as ns ds ++ ls)
       → slice_get ns i ≡ Some name → slice_get ds i ≡ Some d → IsLent (b.loan name) (disks.label d)
   lent_first_at a b ns ds ls i name d is =
       lent_at a b ns ds i name d (each_first (IsLending disks a b) (lent_as ns ds) ls is.each)
+
+  -- where one isn't lent, those that were are out still, and may be put back as they were given
+  pub take_not : (a b c : OutsideState D) (ns : List (List ℕ)) (ds new : List D) (name : List ℕ)
+      → AreDifferentNames ns → slice_get ns (length ds) ≡ Some name
+      → Borrowed disks a b (lent_as ns ds)
+      → (new ≡ ds) × ((ls : List (Lending D)) × AreAsGiven ls × AreNamed (name ∷ []) ls
+      × Borrowed disks b c ls)
+      → ((i : ℕ) (other : List ℕ) (d : D) → slice_get ns i ≡ Some other
+      → slice_get new i ≡ Some d → IsLent (c.loan other) (disks.label d))
+      × ((e : OutsideState D) → PutsBack disks.faults ns new c e
+      → (ks : List (Lending D)) × AreAsGiven ks × AreNamed ns ks × Borrowed disks a e ks)
+  take_not a b c ns ds new name apart named first e =
+      let all = take_on a b c ns ds name e.1.0 apart named e.1.2 first e.1.3 in (
+        λ i other d there is. lent_first_at a c ns ds e.1.0 i other d all there
+            (subst (λ (l : List D). slice_get l i ≡ Some d) e.0 is),
+        λ x puts. refused_back a c x ns ds name e.1.0 apart named e.1.2 e.1.1 all
+            (subst (λ (l : List D). PutsBack disks.faults ns l c x) e.0 puts),
+      )
 
   pub none_lent : (a : OutsideState D) (ns : List (List ℕ)) (ds : List D) → ds ≡ []
       → Borrowed disks a a (lent_as ns ds)

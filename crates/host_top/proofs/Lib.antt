@@ -1,3 +1,4 @@
+pub mod WordsLemmas
 pub mod PlainLemmas
 pub mod SpeechLemmas
 pub mod StoriesLemmas

@@ -1,23 +1,22 @@
 -- What `serve` leaves of its disk, its output and its doors, from what its host says as it is
 -- opened and ends.
-use Rattle.std.proofs.Common.{◌≡◌, ◌⊎◌, inl, inr, ℕ, ◌≤◌, List, [], ◌∷◌, length, map, refl, sym}
+use Rattle.std.proofs.Common.{◌≡◌, ◌⊎◌, inl, inr, ℕ, List, length, refl, sym}
 use Rattle.std.proofs.Common.{◌∙◌, subst, arith, IsTrue}
 use Rattle.gate_journal.specs.Log.{rows_of}
 use Rattle.gate_journal.specs.Rows.{SpellsRows}
 use Rattle.gate_journal.specs.declared.fault.JournalFault.{JournalFault}
 use Rattle.gate_journal.specs.declared.fault.JournalFault.TheVariants as fault
 use Rattle.gate_journal.specs.declared.row.Row.{Row}
-use Rattle.host_serve.specs.Opening.{IsOpenedHost, lone, roots}
+use Rattle.host_serve.specs.Opening.{IsOpenedHost, roots}
 use Rattle.host_serve.specs.declared.host.Host.{Host}
 use Rattle.host_serve.specs.declared.host.Passes.{Passes}
 use Rattle.host_serve.specs.Holders.{Holder}
-use Rattle.host_serve.specs.Hosts.{sessions_below}
 use Rattle.host_serve.specs.Splitting.{AreRoots}
 use Rattle.line_talk.specs.Streams.{SourceState, SinkState}
 use Rattle.line_talk.specs.declared.sink.Stop.{Stop}
 use Rattle.line_talk.specs.declared.sink.Stop.TheVariants as stop
 use Rattle.line_talk.proofs.StreamsLemmas.{gave_none, wrote_none}
-use Rattle.turn_cell.specs.History.{Each}
+use Rattle.host_serve.proofs.RootLemmas.{roots_alone}
 use Rattle.story_run.specs.declared.story.Story.{Story}
 use Rattle.host_top.specs.DiskWords.{DiskWords}
 use Rattle.host_top.specs.Files.{OutsideState}
@@ -63,14 +62,9 @@ links_served disks given back givens backs stories budget rows host first last o
 
 -- ---- passes
 
-lone_roots : (xs : List ℕ) → Each (λ (h : Holder). (h.number ≡ 0) × (h.made ≤ 0))
-    (map (λ (s : ℕ). lone) xs)
-lone_roots [] = tt
-lone_roots (x ∷ xs) = ((refl, omega arith), lone_roots xs)
-
 -- nothing was split off the passes of a host that was just opened
 pub are_roots : (holders : List Holder) → holders ≡ roots → AreRoots 0 holders
-are_roots holders is = subst (AreRoots 0) (sym is) (lone_roots (sessions_below 64))
+are_roots holders is = subst (AreRoots 0) (sym is) roots_alone
 
 -- ---- doors
 

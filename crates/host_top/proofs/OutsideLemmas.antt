@@ -1,6 +1,6 @@
 -- Names of disks in memory.
 use Rattle.std.proofs.Common.{◌≡◌, ◌≢◌, ℕ, ◌<◌, ◌≤◌, List, is_some, arith, refl, sym, ap, ◌∙◌, cond}
-use Rattle.std.proofs.Common.{Bool, true, false, Option, Some, None, IfSome, IfNone}
+use Rattle.std.proofs.Common.{Bool, true, false, Option, Some, None}
 use Rattle.std.specs.Map.{update}
 use Rattle.std.specs.Borrow.{Bor}
 use Rattle.std.specs.Option.{option_and_then, option_copied}
@@ -76,15 +76,6 @@ pub same_at : {S : Type 0} (old new : List ℕ → Option S) (name : List ℕ) (
 same_at old new name now is here other =
     is other ∙ kept_at (bytes_eq name other) now (old other)
     (λ same. ap old (sym ((bytes_eq-Decides name other).0 same)) ∙ here)
-
-pub some_so : {X : Type 0} (o : Option X) (P Q : X → Type 0) → ((x : X) → P x → Q x) → IfSome o P
-    → IfSome o Q
-some_so None P Q f p = tt
-some_so (Some x) P Q f p = f x p
-
-pub none_so : {X : Type 0} (o : Option X) (P Q : Type 0) → (P → Q) → IfNone o P → IfNone o Q
-none_so None P Q f p = f p
-none_so (Some x) P Q f p = tt
 
 untold : {X : Type 0} (b : Bool) (now : Told X) → Untold ≡ cond b (told_now Untold now) Untold
 untold true now = refl

@@ -17,6 +17,9 @@ use Rattle.command_words.specs.declared.words.Action.TheVariants.{Init, Help, Ve
 use Rattle.host_top.specs.Borrowed.{journal_in, snaps_below}
 use Rattle.host_top.specs.Files.{OutsideState, KeepsDisks, KeepsDoors, Told}
 use Rattle.host_top.specs.Follows.{DoesTask, FollowsCommand, TellsCaller, WritesFor}
+use Rattle.host_top.specs.Begun.{WritesBegun, ready}
+use Rattle.host_top.specs.LinksServed.{WritesLinks}
+use Rattle.host_top.specs.Served.{WritesServed}
 use Rattle.host_top.specs.Headline.{Speech, WritesOf, whole_text}
 use Rattle.command_words.specs.Help.{help_text, version_text}
 use Rattle.line_talk.specs.Lines.{lines, talk, IsWithinLimits}
@@ -32,9 +35,7 @@ use Rattle.command_words.specs.Words.{Asked}
 use Rattle.line_talk.specs.Writing.{IsPartOf}
 use Rattle.line_talk.proofs.LinesLemmas.{still_reached, talk_settled, talk_first}
 use Rattle.host_top.proofs.ServedLemmas.{WroteSome, consumed, nothing_left, pipe_told}
-use Rattle.host_top.proofs.WrittenLemmas.{init_told}
-use Rattle.host_top.proofs.WrittenLemmas.{links_told, not_lent_served, not_lent_links}
-use Rattle.host_top.proofs.WrittenLemmas.{not_loaded_served, not_loaded_links, not_loaded_begun}
+use Rattle.host_top.proofs.WrittenLemmas.{never_begun, init_told, links_told}
 use Rattle.host_top.proofs.LinksLemmas.{no_doors}
 use Rattle.host_top.proofs.LoansLemmas.{doors_none, keeps_none}
 use Rattle.host_top.proofs.UsedLemmas.{not_lent, takes_lent}
@@ -109,11 +110,8 @@ writes LineLimit (Err line) s read rest now written within left leaves = absurd 
 
 nothing_writes : (status : Status) (P : Type 0) (said : Result Speech (List ℕ)) (input : List ℕ)
     → (status ≡ ReadFault) × P ⊎ (status ≡ NoMemory) → WritesOf status said input []
-nothing_writes status P said input (inl failed) =
-    subst (λ (s : Status). WritesOf s said input []) (sym failed.0) (inl refl)
-nothing_writes status P said input (inr wanted) =
-    subst (λ (s : Status). WritesOf s said input []) (sym wanted)
-    (whole_text said (talk input), refl)
+nothing_writes status P said input = never_begun (λ (s : Status). WritesOf s said input [])
+    ReadFault status P (inl refl) (whole_text said (talk input), refl)
 
 abbrev IsSteadyTask : Result Task (List ℕ) → Type 0
 IsSteadyTask (Ok (Says speech)) = IsSteady speech
@@ -170,8 +168,8 @@ held_on disks (Ok (Serves stories budget folder)) s bytes held outside beyond in
     held_so held _ held_is (
       [],
       none.wrote,
-      not_lent_served disks stories budget outside.disk folder
-          bytes status _ none.cause,
+      never_begun (λ (s : Status). WritesServed s disks stories budget outside.disk folder bytes [])
+          DiskFault status _ refl (inl refl) none.cause,
     )
 held_on disks (Ok (Serves stories budget folder)) s bytes held outside beyond input now output new
     status (inr t, doors) left_is held_is =
@@ -185,8 +183,8 @@ held_on disks (Ok (ServesLinks stories folder call))
     held_so held _ held_is (
       [],
       none.wrote,
-      not_lent_links disks (outside.disk (journal_in folder))
-          status _ none.cause,
+      never_begun (λ (s : Status). WritesLinks s disks (outside.disk (journal_in folder)) [])
+          DiskFault status _ refl (inl refl) none.cause,
     )
 held_on disks (Ok (ServesLinks stories folder call))
     s bytes held outside beyond input now output new
@@ -205,11 +203,14 @@ nothing_tells disks disk status P (Err line) input c = nothing_writes status P (
 nothing_tells disks disk status P (Ok (Says speech)) input c =
     nothing_writes status P (Ok speech) input c
 nothing_tells disks disk status P (Ok (Serves stories budget folder)) input c =
-    not_loaded_served disks stories budget disk folder input status P c
+    never_begun (λ (s : Status). WritesServed s disks stories budget disk folder input []) ReadFault
+    status P (inl refl) (inl refl) c
 nothing_tells disks disk status P (Ok (ServesLinks stories folder call)) input c =
-    not_loaded_links disks (disk (journal_in folder)) status P c
+    never_begun (λ (s : Status). WritesLinks s disks (disk (journal_in folder)) []) ReadFault status
+    P refl (inl refl) c
 nothing_tells disks disk status P (Ok (Begins folder)) input c =
-    not_loaded_begun disks (disk (journal_in folder)) status P c
+    never_begun (λ (s : Status). WritesBegun s disks (disk (journal_in folder)) []) ReadFault status
+    P refl (inl (ready, refl)) c
 
 -- the disks that are told are those from before the loads
 same_told : {D : Type 0} (disks : DiskWords D) (old new : List ℕ → Told D) (status : Status)

@@ -5,6 +5,7 @@ use Rattle.std.proofs.Common.{slice_get, false, String, string_bytes}
 use Rattle.std.proofs.lemmas.Option.{slice_get_within}
 use Rattle.std.specs.Str.{bytes_eq}
 use Rattle.turn_cell.specs.History.{Each}
+use Rattle.turn_cell.proofs.HistoryLemmas.{each_map}
 use Rattle.host_top.specs.Borrowed.{AreDifferentNames, AreAsGiven, AreNamed, Borrowed}
 use Rattle.host_top.specs.Borrowed.{IsLending, Lending, NotLent, PutsBack, back_as}
 use Rattle.host_top.specs.Borrowed.{journal_in, lent_as, snap_in, snaps_below}
@@ -71,105 +72,59 @@ not_taken disks names outside beyond input output status cause l = record {
 }
 
 module _ {D : Type 0} (disks : DiskWords D) where
-  -- the disks were lent from those that are told
-  lent_still : (a b : OutsideState D) (ns : List (List ℕ)) (gs bs : List D) (i : ℕ) (n : List ℕ)
-      (g : D) → Each (IsLending disks a b) (back_as (lent_as ns gs) bs)
-      → slice_get ns i ≡ Some n → slice_get gs i ≡ Some g → IsTrue (disks.tells g)
-      → IsLentFrom disks.seen disks.may_leave (a.disk n) g
-  lent_still a b [] gs bs i n g each named there = cc
-  lent_still a b (m ∷ ns) [] bs i n g each named there = cc
-  lent_still a b (m ∷ ns) (h ∷ gs) [] zero n g each named there =
-      at m h n g each.0.lent (same_item m n named) (same_item h g there)
-    where
-      at : (m : List ℕ) (h : D) (n : List ℕ) (g : D)
-          → (IsTrue (disks.tells h) → IsLentFrom disks.seen disks.may_leave (a.disk m) h) → m ≡ n
-          → h ≡ g
-          → IsTrue (disks.tells g) → IsLentFrom disks.seen disks.may_leave (a.disk n) g
-      at m h n g lent name disk =
-          subst (λ (x : D). IsTrue (disks.tells x)
-          → IsLentFrom disks.seen disks.may_leave (a.disk n) x) disk
-          (subst (λ (x : List ℕ). IsTrue (disks.tells h)
-          → IsLentFrom disks.seen disks.may_leave (a.disk x) h) name lent)
-  lent_still a b (m ∷ ns) (h ∷ gs) [] (suc i) n g each named there =
-      lent_still a b ns gs [] i n g (none_more ns gs each.1) named there
-    where
-      none_more : (ns : List (List ℕ)) (gs : List D) → Each (IsLending disks a b) (lent_as ns gs)
-          → Each (IsLending disks a b) (back_as (lent_as ns gs) [])
-      none_more [] gs each = each
-      none_more (x ∷ xs) [] each = each
-      none_more (x ∷ xs) (y ∷ ys) each = each
-  lent_still a b (m ∷ ns) (h ∷ gs) (d ∷ bs) zero n g each named there =
-      subst (λ (x : D). IsTrue (disks.tells x) → IsLentFrom disks.seen disks.may_leave (a.disk n) x)
-      (same_item h g there)
-      (subst (λ (x : List ℕ). IsTrue (disks.tells h)
-      → IsLentFrom disks.seen disks.may_leave (a.disk x) h) (same_item m n named) each.0.lent)
-  lent_still a b (m ∷ ns) (h ∷ gs) (d ∷ bs) (suc i) n g each named there =
-      lent_still a b ns gs bs i n g each.1 named there
+  -- a disk is lent from the one that is told under its name
+  abbrev IsLentAt : OutsideState D → List ℕ → D → Type 0
+  IsLentAt a n g = IsTrue (disks.tells g) → IsLentFrom disks.seen disks.may_leave (a.disk n) g
 
-  lent_out_at : (a b : OutsideState D) (ns : List (List ℕ)) (gs : List D) (i : ℕ) (n : List ℕ)
-      (g : D) → Each (IsLending disks a b) (lent_as ns gs)
-      → slice_get ns i ≡ Some n → slice_get gs i ≡ Some g → IsTrue (disks.tells g)
-      → IsLentFrom disks.seen disks.may_leave (a.disk n) g
-  lent_out_at a b [] gs i n g each named there = cc
-  lent_out_at a b (m ∷ ns) [] i n g each named there = cc
-  lent_out_at a b (m ∷ ns) (h ∷ gs) zero n g each named there =
-      subst (λ (x : D). IsTrue (disks.tells x) → IsLentFrom disks.seen disks.may_leave (a.disk n) x)
-      (same_item h g there)
-      (subst (λ (x : List ℕ). IsTrue (disks.tells h)
-      → IsLentFrom disks.seen disks.may_leave (a.disk x) h) (same_item m n named) each.0.lent)
-  lent_out_at a b (m ∷ ns) (h ∷ gs) (suc i) n g each named there =
-      lent_out_at a b ns gs i n g each.1 named there
+  abbrev IsTold : OutsideState D → Lending D → Type 0
+  IsTold a l = IsLentAt a l.name l.given
 
-  lent_beside_one : (a b : OutsideState D) (ns : List (List ℕ)) (gs : List D) (k : ℕ) (d : D)
-      (i : ℕ) (n : List ℕ) (g : D) → Each (IsLending disks a b) (back_at k d (lent_as ns gs))
-      → slice_get ns i ≡ Some n → slice_get gs i ≡ Some g → IsTrue (disks.tells g)
-      → IsLentFrom disks.seen disks.may_leave (a.disk n) g
-  lent_beside_one a b [] gs k d i n g each named there = cc
-  lent_beside_one a b (m ∷ ns) [] k d i n g each named there = cc
-  lent_beside_one a b (m ∷ ns) (h ∷ gs) zero d zero n g each named there =
-      subst (λ (x : D). IsTrue (disks.tells x) → IsLentFrom disks.seen disks.may_leave (a.disk n) x)
-      (same_item h g there)
-      (subst (λ (x : List ℕ). IsTrue (disks.tells h)
-      → IsLentFrom disks.seen disks.may_leave (a.disk x) h) (same_item m n named) each.0.lent)
-  lent_beside_one a b (m ∷ ns) (h ∷ gs) (suc k) d zero n g each named there =
-      subst (λ (x : D). IsTrue (disks.tells x) → IsLentFrom disks.seen disks.may_leave (a.disk n) x)
-      (same_item h g there)
-      (subst (λ (x : List ℕ). IsTrue (disks.tells h)
-      → IsLentFrom disks.seen disks.may_leave (a.disk x) h) (same_item m n named) each.0.lent)
-  lent_beside_one a b (m ∷ ns) (h ∷ gs) zero d (suc i) n g each named there =
-      lent_out_at a b ns gs i n g each.1 named there
-  lent_beside_one a b (m ∷ ns) (h ∷ gs) (suc k) d (suc i) n g each named there =
-      lent_beside_one a b ns gs k d i n g each.1 named there
+  -- also one that doesn't come back
+  told_as : (a : OutsideState D) (ls : List (Lending D)) (bs : List D)
+      → Each (IsTold a) (back_as ls bs) → Each (IsTold a) ls
+  told_as a [] bs each = tt
+  told_as a (l ∷ ls) [] each = each
+  told_as a (l ∷ ls) (b ∷ bs) each = (each.0, told_as a ls bs each.1)
 
-  stores_lent : (a b : OutsideState D) (ns : List (List ℕ)) (gs : List D) (x : Back D) (i : ℕ)
-      (n : List ℕ) (g : D) → Each (IsLending disks a b) (stores_back (lent_as ns gs) x)
-      → slice_get ns i ≡ Some n → slice_get gs i ≡ Some g → IsTrue (disks.tells g)
-      → IsLentFrom disks.seen disks.may_leave (a.disk n) g
-  stores_lent a b ns gs (back.All journal snaps) i n g each named there =
-      lent_still a b ns gs snaps.items i n g each named there
-  stores_lent a b ns gs (back.Journal journal) i n g each named there =
-      lent_out_at a b ns gs i n g each named there
-  stores_lent a b ns gs (back.Snap session snap) i n g each named there =
-      lent_beside_one a b ns gs session snap i n g each named there
-  stores_lent a b ns gs back.Nothing i n g each named there =
-      lent_out_at a b ns gs i n g each named there
+  told_at : (a : OutsideState D) (ls : List (Lending D)) (k : ℕ) (d : D)
+      → Each (IsTold a) (back_at k d ls) → Each (IsTold a) ls
+  told_at a [] k d each = tt
+  told_at a (l ∷ ls) zero d each = (each.0, each.1)
+  told_at a (l ∷ ls) (suc k) d each = (each.0, told_at a ls k d each.1)
+
+  stores_told : (a : OutsideState D) (ls : List (Lending D)) (x : Back D)
+      → Each (IsTold a) (stores_back ls x) → Each (IsTold a) ls
+  stores_told a ls (back.All journal snaps) each = told_as a ls snaps.items each
+  stores_told a ls (back.Journal journal) each = each
+  stores_told a ls (back.Snap session snap) each = told_at a ls session snap each
+  stores_told a ls back.Nothing each = each
+
+  told_lent : (a : OutsideState D) (ns : List (List ℕ)) (gs : List D) (i : ℕ) (n : List ℕ) (g : D)
+      → Each (IsTold a) (lent_as ns gs) → slice_get ns i ≡ Some n → slice_get gs i ≡ Some g
+      → IsLentAt a n g
+  told_lent a [] gs i n g each named there = cc
+  told_lent a (m ∷ ns) [] i n g each named there = cc
+  told_lent a (m ∷ ns) (h ∷ gs) zero n g each named there =
+      subst (λ (x : List ℕ × D). IsLentAt a x.0 x.1)
+      (λ j. (same_item m n named j, same_item h g there j)) each.0
+  told_lent a (m ∷ ns) (h ∷ gs) (suc i) n g each named there =
+      told_lent a ns gs i n g each.1 named there
 
   pub takes_lent : (folder : List ℕ) (given : D) (givens : List D) (x : Back D)
       (a b : OutsideState D) → length givens ≡ 64
       → Borrowed disks a b (folder_back (journal_in folder) (snaps_below folder 64) given givens x)
-      → (IsTrue (disks.tells given) → IsLentFrom disks.seen disks.may_leave
-      (a.disk (journal_in folder)) given)
-      × ((s : ℕ) (g : D) → slice_get givens s ≡ Some g
-      → (s < 64) × (IsTrue (disks.tells g)
-      → IsLentFrom disks.seen disks.may_leave (a.disk (snap_in folder s)) g))
+      → IsLentAt a (journal_in folder) given
+      × ((s : ℕ) (g : D) → slice_get givens s ≡ Some g → (s < 64) × IsLentAt a (snap_in folder s) g)
   takes_lent folder given givens x a b many is = (
     is.each.0.lent,
-    λ s g there.
-        let low : s < 64 = omega (arith, slice_get_within givens s g there, many) in (
-          low,
-          stores_lent a b (snaps_below folder 64) givens x s (snap_in folder s) g is.each.1
-              (snap_at folder 64 s low) there,
-        ),
+    λ s g there. let low : s < 64 = omega (arith, slice_get_within givens s g there, many) in (
+      low,
+      told_lent a (snaps_below folder 64) givens s (snap_in folder s) g
+          (stores_told a (lent_as (snaps_below folder 64) givens) x
+          (each_map (IsLending disks a b) (IsTold a)
+          (stores_back (lent_as (snaps_below folder 64) givens) x) (λ l is. is.lent) is.each.1))
+          (snap_at folder 64 s low) there,
+    ),
   )
 
 -- what a host left, by what comes back

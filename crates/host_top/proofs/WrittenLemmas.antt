@@ -16,14 +16,14 @@ use Rattle.host_top.specs.Files.{IsLentFrom, OutsideState, Told}
 use Rattle.host_top.specs.declared.folder.Back.{Back}
 use Rattle.host_top.specs.declared.folder.Back.TheVariants as back
 use Rattle.host_top.specs.Said.{SaysFault, SaysLine, bad_journal, bad_journal_at}
-use Rattle.host_top.specs.Served.{RefusesJournal, WritesServed}
+use Rattle.host_top.specs.Served.{RefusesJournal}
 use Rattle.host_top.specs.Status.{status_of_stop}
 use Rattle.line_talk.specs.Streams.{SourceState, SinkState}
 use Rattle.line_talk.specs.Writing.{IsPartOf}
 use Rattle.line_talk.specs.declared.sink.Stop.{Stop}
 use Rattle.line_talk.specs.declared.sink.Stop.TheVariants as stop
 use Rattle.host_top.specs.declared.status.Status.{Status}
-use Rattle.host_top.specs.declared.status.Status.TheVariants.{Done, ReadFault, DiskFault, NoMemory}
+use Rattle.host_top.specs.declared.status.Status.TheVariants.{Done, DiskFault, NoMemory}
 use Rattle.host_top.specs.declared.status.Status.TheVariants.{BadFolder, DoorFault}
 use Rattle.host_top.proofs.ServedLemmas.{where_told, WroteSome}
 
@@ -92,61 +92,13 @@ links_told disks stories journal given givens (back.Snap session snap) input now
 links_told disks stories journal given givens back.Nothing input now output new status lent l =
     ([], l.wrote, subst (λ (s : Status). WritesLinks s disks journal []) (sym l.wanted) (inl refl))
 
-pub not_lent_links : {D : Type 0} (disks : DiskWords D) (journal : Told D) (status : Status)
-    (P : Type 0) → (status ≡ DiskFault) × P ⊎ (status ≡ NoMemory)
-    → WritesLinks status disks journal []
-not_lent_links disks journal status P (inl failed) =
-    subst (λ (s : Status). WritesLinks s disks journal []) (sym failed.0) refl
-not_lent_links disks journal status P (inr wanted) =
-    subst (λ (s : Status). WritesLinks s disks journal []) (sym wanted) (inl refl)
+-- what holds where a first step failed, and where it found no memory
+pub never_begun : (W : Status → Type 0) (bad status : Status) (P : Type 0) → W bad → W NoMemory
+    → (status ≡ bad) × P ⊎ (status ≡ NoMemory) → W status
+never_begun W bad status P failed wanted (inl is) = subst W (sym is.0) failed
+never_begun W bad status P failed wanted (inr is) = subst W (sym is) wanted
 
-pub not_loaded_links : {D : Type 0} (disks : DiskWords D) (journal : Told D) (status : Status)
-    (P : Type 0) → (status ≡ ReadFault) × P ⊎ (status ≡ NoMemory)
-    → WritesLinks status disks journal []
-not_loaded_links disks journal status P (inl failed) =
-    subst (λ (s : Status). WritesLinks s disks journal []) (sym failed.0) refl
-not_loaded_links disks journal status P (inr wanted) =
-    subst (λ (s : Status). WritesLinks s disks journal []) (sym wanted) (inl refl)
-
--- no disk was lent
-pub not_lent_served : {D : Type 0} (disks : DiskWords D) (stories : List Story) (budget : ℕ)
-    (disk : List ℕ → Told D) (folder : List ℕ) (input : List ℕ) (status : Status) (P : Type 0)
-    → (status ≡ DiskFault) × P ⊎ (status ≡ NoMemory)
-    → WritesServed status disks stories budget disk folder input []
-not_lent_served disks stories budget disk folder input status P (inl failed) =
-    subst (λ (s : Status). WritesServed s disks stories budget disk folder input []) (sym failed.0)
-    refl
-not_lent_served disks stories budget disk folder input status P (inr wanted) =
-    subst (λ (s : Status). WritesServed s disks stories budget disk folder input []) (sym wanted)
-    (inl refl)
-
-pub not_lent_begun : {D : Type 0} (disks : DiskWords D) (journal : Told D) (status : Status)
-    (P : Type 0) → (status ≡ DiskFault) × P ⊎ (status ≡ NoMemory)
-    → WritesBegun status disks journal []
-not_lent_begun disks journal status P (inl failed) =
-    subst (λ (s : Status). WritesBegun s disks journal []) (sym failed.0) refl
-not_lent_begun disks journal status P (inr wanted) =
-    subst (λ (s : Status). WritesBegun s disks journal []) (sym wanted) (inl (ready, refl))
-
--- no file was loaded
-pub not_loaded_served : {D : Type 0} (disks : DiskWords D) (stories : List Story) (budget : ℕ)
-    (disk : List ℕ → Told D) (folder : List ℕ) (input : List ℕ) (status : Status) (P : Type 0)
-    → (status ≡ ReadFault) × P ⊎ (status ≡ NoMemory)
-    → WritesServed status disks stories budget disk folder input []
-not_loaded_served disks stories budget disk folder input status P (inl failed) =
-    subst (λ (s : Status). WritesServed s disks stories budget disk folder input []) (sym failed.0)
-    (inl refl)
-not_loaded_served disks stories budget disk folder input status P (inr wanted) =
-    subst (λ (s : Status). WritesServed s disks stories budget disk folder input []) (sym wanted)
-    (inl refl)
-
-pub not_loaded_begun : {D : Type 0} (disks : DiskWords D) (journal : Told D) (status : Status)
-    (P : Type 0) → (status ≡ ReadFault) × P ⊎ (status ≡ NoMemory)
-    → WritesBegun status disks journal []
-not_loaded_begun disks journal status P (inl failed) =
-    subst (λ (s : Status). WritesBegun s disks journal []) (sym failed.0) refl
-not_loaded_begun disks journal status P (inr wanted) =
-    subst (λ (s : Status). WritesBegun s disks journal []) (sym wanted) (inl (ready, refl))
+-- ---- what `init` writes
 
 cut_begun : {D : Type 0} (disks : DiskWords D) (journal : Told D) (part : List ℕ) (cause : Stop)
     → IsPartOf part ready ⊎ IsPartOf part not_empty
@@ -180,6 +132,12 @@ refused_begun disks journal given before now output new status (begin.DiskFault 
     says =
     ([], says.1, subst (λ (s : Status). WritesBegun s disks journal []) (sym says.0) refl)
 
+not_lent_begun : {D : Type 0} (disks : DiskWords D) (journal : Told D) (status : Status)
+    (P : Type 0) → (status ≡ DiskFault) × P ⊎ (status ≡ NoMemory)
+    → WritesBegun status disks journal []
+not_lent_begun disks journal status P = never_begun
+    (λ (s : Status). WritesBegun s disks journal []) DiskFault status P refl (inl (ready, refl))
+
 pub init_told : {D : Type 0} (disks : DiskWords D) (folder : List ℕ)
     (outside beyond : OutsideState D) (input now : SourceState) (output new : SinkState)
     (status : Status)
@@ -201,7 +159,6 @@ init_told disks folder outside beyond input now output new status (inr i) =
       | inr u ↦ (
         [],
         u.wrote,
-        not_lent_begun disks (outside.disk (journal_in folder)) status _
-            u.cause,
+        not_lent_begun disks (outside.disk (journal_in folder)) status _ u.cause,
       )
     ]

@@ -1,18 +1,10 @@
 use Rattle.host_top.proofs.BegunLemmas.{inits_over, inits_failed, inits_in_use, inits_unmade}
+use Rattle.host_top.proofs.WordsLemmas.{words_of}
 use Rattle.host_top.proofs.init.init_all.Goals as goal
 
 pub returns-in-Err-make_stores-clause-value : goal.returns-in-Err-make_stores-clause-value
-returns-in-Err-make_stores-clause-value g c = inits_unmade (record {
-  tells = g.O.Disk.Disk.tells;
-  seen = g.O.Disk.Disk.seen;
-  may_leave = g.O.Disk.Disk.may_leave;
-  moment = g.O.Disk.Disk.moment;
-  left_since = g.O.Disk.Disk.left_since;
-  faults = g.O.Disk.Disk.faults;
-  reach = g.O.Disk.Disk.reach;
-  room = g.O.Disk.Disk.room;
-  label = g.O.Disk.Disk.label;
-}) c.args.disk.now c.is_empty.new.disk c.is_empty.ensures.looks c.is_empty.ensures.kept
+returns-in-Err-make_stores-clause-value g c = inits_unmade (words_of g.O.Disk.Disk) c.args.disk.now
+    c.is_empty.new.disk c.is_empty.ensures.looks c.is_empty.ensures.kept
     c.args.folder.now
     (g.O.Outside.outside c.args.outside.now) (g.O.Outside.outside c.make_stores.new.outside)
     (g.K.Sink.sink c.args.output.now) c.in-Err-make_stores.why _
@@ -21,50 +13,23 @@ returns-in-Err-make_stores-clause-value g c = inits_unmade (record {
     c.make_stores.ensures.later
 
 pub returns-in-Ok-clause-value : goal.returns-in-Ok-clause-value
-returns-in-Ok-clause-value g c = inits_over (record {
-  tells = g.O.Disk.Disk.tells;
-  seen = g.O.Disk.Disk.seen;
-  may_leave = g.O.Disk.Disk.may_leave;
-  moment = g.O.Disk.Disk.moment;
-  left_since = g.O.Disk.Disk.left_since;
-  faults = g.O.Disk.Disk.faults;
-  reach = g.O.Disk.Disk.reach;
-  room = g.O.Disk.Disk.room;
-  label = g.O.Disk.Disk.label;
-}) c.args.disk.now c.is_empty.new.disk c.is_empty.ensures.looks c.is_empty.ensures.kept
+returns-in-Ok-clause-value g c = inits_over (words_of g.O.Disk.Disk) c.args.disk.now
+    c.is_empty.new.disk c.is_empty.ensures.looks c.is_empty.ensures.kept
     (λ told. (c.in-Ok-true.ensures.ok told).0 c.in-Ok-true.field-0-test) c.in-Ok-true.ensures.seen
     c.in-Ok-true.ensures.cause
     c.init_over.new.disk _ _ _ c.args.folder.now (g.O.Outside.outside c.args.outside.now)
     (g.O.Outside.outside c.make_stores.new.outside) c.in-Ok.ensures.ok c.init_over.ensures.value
 
 pub returns-in-Ok-false-clause-value : goal.returns-in-Ok-false-clause-value
-returns-in-Ok-false-clause-value g c = inits_in_use (record {
-  tells = g.O.Disk.Disk.tells;
-  seen = g.O.Disk.Disk.seen;
-  may_leave = g.O.Disk.Disk.may_leave;
-  moment = g.O.Disk.Disk.moment;
-  left_since = g.O.Disk.Disk.left_since;
-  faults = g.O.Disk.Disk.faults;
-  reach = g.O.Disk.Disk.reach;
-  room = g.O.Disk.Disk.room;
-  label = g.O.Disk.Disk.label;
-}) c.args.disk.now c.is_empty.new.disk c.is_empty.ensures.looks c.is_empty.ensures.kept
+returns-in-Ok-false-clause-value g c = inits_in_use (words_of g.O.Disk.Disk) c.args.disk.now
+    c.is_empty.new.disk c.is_empty.ensures.looks c.is_empty.ensures.kept
     c.args.folder.now
     (g.O.Outside.outside c.args.outside.now) _ _ _
     (λ told. (c.in-Ok-false.ensures.ok told).1 c.in-Ok-false.field-0-test)
     c.in-Ok-false.ensures.cause c.say_line.ensures.value
 
 pub returns-in-Err-clause-value : goal.returns-in-Err-clause-value
-returns-in-Err-clause-value g c = inits_failed (record {
-  tells = g.O.Disk.Disk.tells;
-  seen = g.O.Disk.Disk.seen;
-  may_leave = g.O.Disk.Disk.may_leave;
-  moment = g.O.Disk.Disk.moment;
-  left_since = g.O.Disk.Disk.left_since;
-  faults = g.O.Disk.Disk.faults;
-  reach = g.O.Disk.Disk.reach;
-  room = g.O.Disk.Disk.room;
-  label = g.O.Disk.Disk.label;
-}) c.args.disk.now c.is_empty.new.disk c.is_empty.ensures.looks c.is_empty.ensures.kept
+returns-in-Err-clause-value g c = inits_failed (words_of g.O.Disk.Disk) c.args.disk.now
+    c.is_empty.new.disk c.is_empty.ensures.looks c.is_empty.ensures.kept
     c.args.folder.now
     (g.O.Outside.outside c.args.outside.now) _ c.in-Err.ensures.cause.0 c.in-Err.ensures.cause.1

@@ -2,47 +2,22 @@ use Rattle.std.proofs.Common.{◌∙◌, [], ◌∷◌, refl}
 use Rattle.host_top.specs.Borrowed.{snap_in}
 use Rattle.host_top.proofs.InitLemmas.{no_stores, store_made, store_tried}
 use Rattle.host_top.proofs.LendingLemmas.{on_err}
+use Rattle.host_top.proofs.WordsLemmas.{words_of}
 use Rattle.host_top.proofs.init.make_store.Goals as goal
 
 pub returns-in_default-clause-err : goal.returns-in_default-clause-err
-returns-in_default-clause-err g c = no_stores (record {
-  tells = g.O.Disk.Disk.tells;
-  seen = g.O.Disk.Disk.seen;
-  may_leave = g.O.Disk.Disk.may_leave;
-  moment = g.O.Disk.Disk.moment;
-  left_since = g.O.Disk.Disk.left_since;
-  faults = g.O.Disk.Disk.faults;
-  reach = g.O.Disk.Disk.reach;
-  room = g.O.Disk.Disk.room;
-  label = g.O.Disk.Disk.label;
-}) (snap_in c.args.folder.now c.args.session ∷ []) _ _ (λ other. (refl, refl))
+returns-in_default-clause-err g c = no_stores (words_of g.O.Disk.Disk) (snap_in c.args.folder.now
+    c.args.session ∷ []) _ _ (λ other. (refl, refl))
 
 pub returns-in_err-disk-clause-err : goal.returns-in_err-disk-clause-err
-returns-in_err-disk-clause-err g c = on_err c.from_residual.result _ (no_stores (record {
-  tells = g.O.Disk.Disk.tells;
-  seen = g.O.Disk.Disk.seen;
-  may_leave = g.O.Disk.Disk.may_leave;
-  moment = g.O.Disk.Disk.moment;
-  left_since = g.O.Disk.Disk.left_since;
-  faults = g.O.Disk.Disk.faults;
-  reach = g.O.Disk.Disk.reach;
-  room = g.O.Disk.Disk.room;
-  label = g.O.Disk.Disk.label;
-}) (snap_in c.args.folder.now c.args.session ∷ []) (g.O.Outside.outside c.args.outside.now)
+returns-in_err-disk-clause-err g c = on_err c.from_residual.result _ (no_stores (words_of
+    g.O.Disk.Disk) (snap_in c.args.folder.now c.args.session ∷ []) (g.O.Outside.outside
+    c.args.outside.now)
     (g.O.Outside.outside c.disk.new.self) c.in_err-disk.ensures.err)
 
 pub returns-clause-err : goal.returns-clause-err
-returns-clause-err g c = store_tried (record {
-  tells = g.O.Disk.Disk.tells;
-  seen = g.O.Disk.Disk.seen;
-  may_leave = g.O.Disk.Disk.may_leave;
-  moment = g.O.Disk.Disk.moment;
-  left_since = g.O.Disk.Disk.left_since;
-  faults = g.O.Disk.Disk.faults;
-  reach = g.O.Disk.Disk.reach;
-  room = g.O.Disk.Disk.room;
-  label = g.O.Disk.Disk.label;
-}) (snap_in c.args.folder.now c.args.session) c.deref.result.now c.deref-2.result.now
+returns-clause-err g c = store_tried (words_of g.O.Disk.Disk) (snap_in c.args.folder.now
+    c.args.session) c.deref.result.now c.deref-2.result.now
     c.in_ok-disk.disk c.make-made.new.disk
     (g.O.Outside.outside c.args.outside.now) (g.O.Outside.outside c.disk.new.self)
     (g.O.Outside.outside c.put_back.new.self) (c.deref.ensures ∙ c.in-Ok.ensures)
@@ -55,17 +30,8 @@ returns-clause-err g c = store_tried (record {
     })
 
 pub returns-in-Ok-made-clause-ok : goal.returns-in-Ok-made-clause-ok
-returns-in-Ok-made-clause-ok g c = store_made (record {
-  tells = g.O.Disk.Disk.tells;
-  seen = g.O.Disk.Disk.seen;
-  may_leave = g.O.Disk.Disk.may_leave;
-  moment = g.O.Disk.Disk.moment;
-  left_since = g.O.Disk.Disk.left_since;
-  faults = g.O.Disk.Disk.faults;
-  reach = g.O.Disk.Disk.reach;
-  room = g.O.Disk.Disk.room;
-  label = g.O.Disk.Disk.label;
-}) (snap_in c.args.folder.now c.args.session) c.deref.result.now c.deref-2.result.now
+returns-in-Ok-made-clause-ok g c = store_made (words_of g.O.Disk.Disk) (snap_in c.args.folder.now
+    c.args.session) c.deref.result.now c.deref-2.result.now
     c.in_ok-disk.disk c.make-made.new.disk
     (g.O.Outside.outside c.args.outside.now) (g.O.Outside.outside c.disk.new.self)
     (g.O.Outside.outside c.put_back.new.self) (c.deref.ensures ∙ c.in-Ok.ensures)

@@ -2,21 +2,13 @@ use Rattle.std.proofs.Common.{arith, refl}
 use Rattle.host_top.proofs.LoansLemmas.{doors_none, doors_then, files_then}
 use Rattle.host_top.proofs.InitLemmas.{stores_more, stores_none, stores_tried}
 use Rattle.host_top.proofs.LendingLemmas.{on_err}
+use Rattle.host_top.proofs.WordsLemmas.{words_of}
 use Rattle.host_top.proofs.init.make_stores.Goals as goal
 
 pub loop-session-init : goal.loop-session-init
 loop-session-init g c = record {
-  made = stores_none (record {
-    tells = g.O.Disk.Disk.tells;
-    seen = g.O.Disk.Disk.seen;
-    may_leave = g.O.Disk.Disk.may_leave;
-    moment = g.O.Disk.Disk.moment;
-    left_since = g.O.Disk.Disk.left_since;
-    faults = g.O.Disk.Disk.faults;
-    reach = g.O.Disk.Disk.reach;
-    room = g.O.Disk.Disk.room;
-    label = g.O.Disk.Disk.label;
-  }) c.args.folder.now (g.O.Outside.outside c.args.outside.now);
+  made = stores_none (words_of g.O.Disk.Disk) c.args.folder.now (g.O.Outside.outside
+      c.args.outside.now);
   later = omega arith;
   files = record { file = refl; faults = refl };
   doors = doors_none _;
@@ -24,17 +16,8 @@ loop-session-init g c = record {
 
 pub loop-session-preserved : goal.loop-session-preserved
 loop-session-preserved g c = record {
-  made = stores_more (record {
-    tells = g.O.Disk.Disk.tells;
-    seen = g.O.Disk.Disk.seen;
-    may_leave = g.O.Disk.Disk.may_leave;
-    moment = g.O.Disk.Disk.moment;
-    left_since = g.O.Disk.Disk.left_since;
-    faults = g.O.Disk.Disk.faults;
-    reach = g.O.Disk.Disk.reach;
-    room = g.O.Disk.Disk.room;
-    label = g.O.Disk.Disk.label;
-  }) c.args.folder.now c.loop-session.session (g.O.Outside.outside c.args.outside.now)
+  made = stores_more (words_of g.O.Disk.Disk) c.args.folder.now c.loop-session.session
+      (g.O.Outside.outside c.args.outside.now)
       (g.O.Outside.outside c.loop-session.outside) (g.O.Outside.outside c.make_store.new.outside)
       (omega (arith, c.loop-session-test.true)) c.loop-session.invariant.made
       c.in_ok-make_store.ensures.ok;
@@ -45,17 +28,8 @@ loop-session-preserved g c = record {
 
 pub returns-in_err-make_store-clause-err : goal.returns-in_err-make_store-clause-err
 returns-in_err-make_store-clause-err g c = on_err c.from_residual.result _
-    (stores_tried (record {
-      tells = g.O.Disk.Disk.tells;
-      seen = g.O.Disk.Disk.seen;
-      may_leave = g.O.Disk.Disk.may_leave;
-      moment = g.O.Disk.Disk.moment;
-      left_since = g.O.Disk.Disk.left_since;
-      faults = g.O.Disk.Disk.faults;
-      reach = g.O.Disk.Disk.reach;
-      room = g.O.Disk.Disk.room;
-      label = g.O.Disk.Disk.label;
-    }) c.args.folder.now c.loop-session.session (g.O.Outside.outside c.args.outside.now)
+    (stores_tried (words_of g.O.Disk.Disk) c.args.folder.now c.loop-session.session
+    (g.O.Outside.outside c.args.outside.now)
     (g.O.Outside.outside c.loop-session.outside) (g.O.Outside.outside c.make_store.new.outside)
     (omega (arith, c.loop-session-test.true)) c.loop-session.invariant.made
     c.in_err-make_store.ensures.err)

@@ -1,22 +1,14 @@
 use Rattle.std.proofs.Common.{◌≡◌, length, map, string_bytes}
 use Rattle.host_top.specs.Borrowed.{Borrowed, lent_as}
 use Rattle.host_top.specs.Files.{KeepsDoors, KeepsFiles}
+use Rattle.host_top.proofs.WordsLemmas.{words_of}
 use Rattle.host_top.proofs.lending.take_all.Given as goal
 
 abbrev pub invariant-loop-name : goal.invariant-loop-name
 invariant-loop-name g l = record {
   many : length l.disks.items ≡ l.name-index;
-  borrowed : Borrowed (record {
-    tells = g.O.Disk.Disk.tells;
-    seen = g.O.Disk.Disk.seen;
-    may_leave = g.O.Disk.Disk.may_leave;
-    moment = g.O.Disk.Disk.moment;
-    left_since = g.O.Disk.Disk.left_since;
-    faults = g.O.Disk.Disk.faults;
-    reach = g.O.Disk.Disk.reach;
-    room = g.O.Disk.Disk.room;
-    label = g.O.Disk.Disk.label;
-  }) (g.O.Outside.outside l.initial.outside) (g.O.Outside.outside l.outside)
+  borrowed : Borrowed (words_of g.O.Disk.Disk) (g.O.Outside.outside l.initial.outside)
+      (g.O.Outside.outside l.outside)
       (lent_as (map string_bytes l.names) l.disks.items);
   count : (g.O.Outside.outside l.outside).disk_faults
       ≡ (g.O.Outside.outside l.initial.outside).disk_faults;

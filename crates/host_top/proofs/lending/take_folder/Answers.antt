@@ -2,6 +2,7 @@ use Rattle.std.proofs.Common.{[], map, string_bytes}
 use Rattle.host_top.proofs.LoansLemmas.{lent_nothing}
 use Rattle.host_top.proofs.FolderLemmas.{folder_taken, journal_alone, journal_lent}
 use Rattle.host_top.proofs.LendingLemmas.{on_err}
+use Rattle.host_top.proofs.WordsLemmas.{words_of}
 use Rattle.host_top.proofs.lending.take_folder.Goals as goal
 
 pub returns-in_err-journal-clause-err : goal.returns-in_err-journal-clause-err
@@ -9,17 +10,7 @@ returns-in_err-journal-clause-err g c = on_err c.from_residual.result _ (
   [],
   tt,
   (λ other away. tt),
-  lent_nothing (record {
-    tells = g.O.Disk.Disk.tells;
-    seen = g.O.Disk.Disk.seen;
-    may_leave = g.O.Disk.Disk.may_leave;
-    moment = g.O.Disk.Disk.moment;
-    left_since = g.O.Disk.Disk.left_since;
-    faults = g.O.Disk.Disk.faults;
-    reach = g.O.Disk.Disk.reach;
-    room = g.O.Disk.Disk.room;
-    label = g.O.Disk.Disk.label;
-  }) _ _ c.in_err-journal.ensures.err,
+  lent_nothing (words_of g.O.Disk.Disk) _ _ c.in_err-journal.ensures.err,
 )
 
 pub returns-in-Ok-clause-ok : goal.returns-in-Ok-clause-ok
@@ -28,17 +19,8 @@ returns-in-Ok-clause-ok g c =
     let lends = rw c.deref.ensures at c.in_ok-journal.ensures.ok in
     let given = rw c.deref.ensures at c.in_ok-journal.ensures.given in (
       taken.0,
-      folder_taken (record {
-        tells = g.O.Disk.Disk.tells;
-        seen = g.O.Disk.Disk.seen;
-        may_leave = g.O.Disk.Disk.may_leave;
-        moment = g.O.Disk.Disk.moment;
-        left_since = g.O.Disk.Disk.left_since;
-        faults = g.O.Disk.Disk.faults;
-        reach = g.O.Disk.Disk.reach;
-        room = g.O.Disk.Disk.room;
-        label = g.O.Disk.Disk.label;
-      }) (string_bytes c.args.names.now.journal) (map string_bytes c.args.names.now.snaps.items)
+      folder_taken (words_of g.O.Disk.Disk) (string_bytes c.args.names.now.journal) (map
+          string_bytes c.args.names.now.snaps.items)
           c.in_ok-journal.journal c.in-Ok.snaps.items
           (g.O.Outside.outside c.args.outside.now) (g.O.Outside.outside c.disk.new.self)
           (g.O.Outside.outside c.take_all.new.outside) c.requires.journal lends given taken.1,
@@ -48,17 +30,8 @@ pub put_back-requires : goal.put_back-requires
 put_back-requires g c =
     let refused = rw c.deref-2.ensures.value at c.in-Err.ensures.err in
     let lends = rw c.deref.ensures at c.in_ok-journal.ensures.ok in
-    journal_lent (record {
-      tells = g.O.Disk.Disk.tells;
-      seen = g.O.Disk.Disk.seen;
-      may_leave = g.O.Disk.Disk.may_leave;
-      moment = g.O.Disk.Disk.moment;
-      left_since = g.O.Disk.Disk.left_since;
-      faults = g.O.Disk.Disk.faults;
-      reach = g.O.Disk.Disk.reach;
-      room = g.O.Disk.Disk.room;
-      label = g.O.Disk.Disk.label;
-    }) (string_bytes c.args.names.now.journal) c.deref-in-Err.result.now
+    journal_lent (words_of g.O.Disk.Disk) (string_bytes c.args.names.now.journal)
+    c.deref-in-Err.result.now
     (map string_bytes c.args.names.now.snaps.items) c.in_ok-journal.journal
     (g.O.Outside.outside c.args.outside.now) (g.O.Outside.outside c.disk.new.self)
     (g.O.Outside.outside c.take_all.new.outside) refused.0 c.deref-in-Err.ensures
@@ -70,17 +43,8 @@ returns-in-Err-clause-err g c =
     let refused = rw c.deref-2.ensures.value at c.in-Err.ensures.err in
     let lends = rw c.deref.ensures at c.in_ok-journal.ensures.ok in
     let given = rw c.deref.ensures at c.in_ok-journal.ensures.given in
-    journal_alone (record {
-      tells = g.O.Disk.Disk.tells;
-      seen = g.O.Disk.Disk.seen;
-      may_leave = g.O.Disk.Disk.may_leave;
-      moment = g.O.Disk.Disk.moment;
-      left_since = g.O.Disk.Disk.left_since;
-      faults = g.O.Disk.Disk.faults;
-      reach = g.O.Disk.Disk.reach;
-      room = g.O.Disk.Disk.room;
-      label = g.O.Disk.Disk.label;
-    }) (string_bytes c.args.names.now.journal) c.deref-in-Err.result.now
+    journal_alone (words_of g.O.Disk.Disk) (string_bytes c.args.names.now.journal)
+    c.deref-in-Err.result.now
     (map string_bytes c.args.names.now.snaps.items) c.in_ok-journal.journal
     (g.O.Outside.outside c.args.outside.now) (g.O.Outside.outside c.disk.new.self)
     (g.O.Outside.outside c.take_all.new.outside) (g.O.Outside.outside c.put_back.new.self)

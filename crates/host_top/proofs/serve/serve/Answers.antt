@@ -4,20 +4,12 @@ use Rattle.host_top.specs.Folder.{FitsNames}
 use Rattle.host_top.proofs.UsedLemmas.{fits_so, folder_may, folder_names, folder_used, not_lent}
 use Rattle.host_top.proofs.UsedLemmas.{not_taken_as, sixty_four, short_names}
 use Rattle.host_top.proofs.BegunLemmas.{fetch_cause}
+use Rattle.host_top.proofs.WordsLemmas.{words_of}
 use Rattle.host_top.proofs.serve.serve.Goals as goal
 
 pub returns-in_default-clause-value : goal.returns-in_default-clause-value
-returns-in_default-clause-value g c = λ input. inl (not_lent (record {
-  tells = g.O.Disk.Disk.tells;
-  seen = g.O.Disk.Disk.seen;
-  may_leave = g.O.Disk.Disk.may_leave;
-  moment = g.O.Disk.Disk.moment;
-  left_since = g.O.Disk.Disk.left_since;
-  faults = g.O.Disk.Disk.faults;
-  reach = g.O.Disk.Disk.reach;
-  room = g.O.Disk.Disk.room;
-  label = g.O.Disk.Disk.label;
-}) (journal_in c.args.folder.now ∷ snaps_below c.args.folder.now 64)
+returns-in_default-clause-value g c = λ input. inl (not_lent (words_of g.O.Disk.Disk) (journal_in
+    c.args.folder.now ∷ snaps_below c.args.folder.now 64)
     (g.O.Outside.outside c.args.outside.now) input _)
 
 pub take_folder-requires-clause-names : goal.take_folder-requires-clause-names
@@ -31,17 +23,7 @@ take_folder-requires-clause-journal g c =
 pub returns-in-Err-clause-value : goal.returns-in-Err-clause-value
 returns-in-Err-clause-value g c =
     λ input. inl (not_taken_as c.args.folder.now _ _ c.in-Ok.ensures.journal c.in-Ok.ensures.snaps
-    (record {
-      tells = g.O.Disk.Disk.tells;
-      seen = g.O.Disk.Disk.seen;
-      may_leave = g.O.Disk.Disk.may_leave;
-      moment = g.O.Disk.Disk.moment;
-      left_since = g.O.Disk.Disk.left_since;
-      faults = g.O.Disk.Disk.faults;
-      reach = g.O.Disk.Disk.reach;
-      room = g.O.Disk.Disk.room;
-      label = g.O.Disk.Disk.label;
-    }) (g.O.Outside.outside c.args.outside.now)
+    (words_of g.O.Disk.Disk) (g.O.Outside.outside c.args.outside.now)
     (g.O.Outside.outside c.take_folder.new.outside) input _ _
     (fetch_cause c.in-Err.why _ (g.O.Outside.outside c.args.outside.now)
     (g.O.Outside.outside c.take_folder.new.outside) c.of_fetch.ensures c.in-Err.ensures.cause)
@@ -70,17 +52,7 @@ put_folder_back-requires-clause-back g c =
 pub put_folder_back-requires-clause-lent : goal.put_folder_back-requires-clause-lent
 put_folder_back-requires-clause-lent g c =
     λ κ within. folder_may c.args.folder.now _ _ c.in-Ok.ensures.journal c.in-Ok.ensures.snaps
-    (record {
-      tells = g.O.Disk.Disk.tells;
-      seen = g.O.Disk.Disk.seen;
-      may_leave = g.O.Disk.Disk.may_leave;
-      moment = g.O.Disk.Disk.moment;
-      left_since = g.O.Disk.Disk.left_since;
-      faults = g.O.Disk.Disk.faults;
-      reach = g.O.Disk.Disk.reach;
-      room = g.O.Disk.Disk.room;
-      label = g.O.Disk.Disk.label;
-    }) c.in-Ok-take_folder.disks.journal c.in-Ok-take_folder.disks.snaps.items
+    (words_of g.O.Disk.Disk) c.in-Ok-take_folder.disks.journal c.in-Ok-take_folder.disks.snaps.items
     c.serve_over-status.result.1 (g.O.Outside.outside c.args.outside.now)
     (g.O.Outside.outside c.take_folder.new.outside)
     (g.O.Outside.outside c.serve_over-status.new.outside)
@@ -90,17 +62,8 @@ put_folder_back-requires-clause-lent g c =
 pub returns-clause-value : goal.returns-clause-value
 returns-clause-value g c =
     λ input. inr (folder_used c.args.folder.now _ _ c.in-Ok.ensures.journal c.in-Ok.ensures.snaps
-    (record {
-      tells = g.O.Disk.Disk.tells;
-      seen = g.O.Disk.Disk.seen;
-      may_leave = g.O.Disk.Disk.may_leave;
-      moment = g.O.Disk.Disk.moment;
-      left_since = g.O.Disk.Disk.left_since;
-      faults = g.O.Disk.Disk.faults;
-      reach = g.O.Disk.Disk.reach;
-      room = g.O.Disk.Disk.room;
-      label = g.O.Disk.Disk.label;
-    }) _ c.in-Ok-take_folder.disks.journal c.in-Ok-take_folder.disks.snaps.items
+    (words_of g.O.Disk.Disk) _ c.in-Ok-take_folder.disks.journal
+    c.in-Ok-take_folder.disks.snaps.items
     c.serve_over-status.result.1
     (g.O.Outside.outside c.args.outside.now) (g.O.Outside.outside c.take_folder.new.outside)
     (g.O.Outside.outside c.serve_over-status.new.outside)
