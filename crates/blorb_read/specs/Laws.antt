@@ -1,6 +1,6 @@
 -- Which entry of a container's index names the story (Blorb 2.0.4, "Contents of the Resource Index
 -- Chunk").
-use Rattle.std.specs.Prelude.{◌≡◌, ℕ, ◌+◌, ◌*◌, ◌<◌, true, false, List, Option, Some, None}
+use Rattle.std.specs.Prelude.{◌≡◌, ℕ, ◌+◌, ◌*◌, ◌<◌, true, false, List}
 use Rattle.std.specs.Prelude.{MatchOption}
 use Rattle.blorb_read.specs.Container.{word, is_executable, story_start}
 

@@ -1,5 +1,5 @@
 -- The snapshot of a session that is due, and its put (own).
-use Rattle.std.specs.Prelude.{◌≡◌, ℕ, ◌^◌, ◌&&◌, nat_lt, not, if◌then◌else◌, Bool, false}
+use Rattle.std.specs.Prelude.{◌≡◌, ℕ, ◌^◌, ◌&&◌, nat_lt, not, if◌then◌else◌, Bool}
 use Rattle.std.specs.Prelude.{List, length, set, Option, Some, None, option_map}
 use Rattle.std.specs.List.{slice_get}
 use Rattle.gate_journal.specs.Rows.{commands_of}

@@ -1,6 +1,6 @@
 -- What a save's chunks and runs are, piece by piece (Quetzal 1.4, "Overall structure", "Content of
 -- dynamic memory").
-use Rattle.std.specs.Prelude.{◌≡◌, ◌≢◌, ◌<◌, ◌≤◌, ◌^◌, ◌+◌, ◌==◌, ℕ, true, false, List, []}
+use Rattle.std.specs.Prelude.{◌≡◌, ◌≢◌, ◌<◌, ◌^◌, ◌+◌, ◌==◌, ℕ, true, false, List, []}
 use Rattle.std.specs.Prelude.{◌∷◌, ◌++◌, length, if◌then◌else◌, Option, Some, None, All}
 use Rattle.std.specs.Int.RustNames.{bit_xor}
 use Rattle.quetzal.specs.Chunks.{are_chunks, first_named}

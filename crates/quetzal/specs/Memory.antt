@@ -1,7 +1,7 @@
 -- The contents of the CMem and UMem chunks (Quetzal 1.4, "Content of dynamic memory").
 use Rattle.std.specs.Prelude.{◌≡◌, ℕ, ◌+◌, ◌-◌, ◌%◌, ◌≤◌, Bool, true}
 use Rattle.std.specs.Prelude.{false, ◌&&◌, ◌==◌, nat_lt, nat_le, if◌then◌else◌, List}
-use Rattle.std.specs.Prelude.{◌++◌, length, drop, replicate, Option, Some, None, Result, Ok}
+use Rattle.std.specs.Prelude.{◌++◌, length, drop, replicate, Result, Ok}
 use Rattle.std.specs.Prelude.{Err}
 use Rattle.std.specs.Int.{w32, to_be_bytes}
 use Rattle.glulx_image.specs.Header.{word}

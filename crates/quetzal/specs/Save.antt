@@ -1,6 +1,6 @@
 -- A save, and the state of a story that it spells (Quetzal 1.4, "Overall Structure").
-use Rattle.std.specs.Prelude.{◌≡◌, ◌≢◌, ℕ, ◌+◌, ◌≤◌, ◌++◌, List, length}
-use Rattle.std.specs.Prelude.{take, drop, Option, Ok, Err, Result, true}
+use Rattle.std.specs.Prelude.{◌≡◌, ◌≢◌, ℕ, ◌+◌, ◌≤◌, List, length}
+use Rattle.std.specs.Prelude.{take, Option, Ok, Err, Result, true}
 use Rattle.glulx_image.specs.Header.{ramstart, extstart, endmem, stack_size}
 use Rattle.vm_memory.specs.Chaining.{◌>>=◌}
 use Rattle.vm_memory.specs.MemoryMap.{MemoryMap, Origin, memory_of as original_of, origin_of}

@@ -21,7 +21,7 @@ use Rattle.session_saves.specs.Game.{inputs_of, turns_after}
 use Rattle.session_saves.specs.Saves.{SavesState}
 use Rattle.session_saves.specs.Warming.{WarmsFrom, count_in}
 use Rattle.session_desk.specs.declared.held.Held.TheVariants.{Current}
-use Rattle.session_desk.specs.declared.shared.mark.Mark.{Mark}
+use Rattle.session_desk.specs.declared.shared_desk.mark.Mark.{Mark}
 use Rattle.session_desk.specs.declared.verdict.Verdict.TheVariants.{Cold}
 use Rattle.session_desk.specs.Desk.{DeskState, game, HoldsOwnWorld, is_cold, warmed}
 use Rattle.session_desk.specs.Keeping.{IsWarmed}

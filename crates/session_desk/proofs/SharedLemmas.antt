@@ -31,8 +31,8 @@ use Rattle.session_core.proofs.RepeatLemmas.{some_is}
 use Rattle.session_desk.specs.declared.refused.Refused.{Refused}
 use Rattle.session_desk.specs.declared.refused.Refused.TheVariants.{DiskFault, NoMemory}
 use Rattle.session_desk.specs.Commit.{Commits, RefusalLeaves}
-use Rattle.session_desk.specs.declared.shared.mark.Mark.{Mark}
-use Rattle.session_desk.specs.declared.shared.mark.Mark.TheVariants as marks
+use Rattle.session_desk.specs.declared.shared_desk.mark.Mark.{Mark}
+use Rattle.session_desk.specs.declared.shared_desk.mark.Mark.TheVariants as marks
 use Rattle.session_desk.specs.Desk.{committed, DeskState, cold_desk}
 use Rattle.session_desk.specs.Marks.{count_commands, marks_by, commands_woven}
 use Rattle.session_desk.specs.Shared.{desk_tag, DeskTag, history_met, IsMarked, IsPassOf}

@@ -18,11 +18,11 @@ use Rattle.gate_journal.proofs.row.Row.TheSendSync as row
 use Rattle.snap_store.specs.contracts.store.Store as store
 use Rattle.session_saves.specs.contracts.saves.Saves as saves
 use Rattle.session_saves.proofs.saves.Point.TheSendSync as point
-use Rattle.session_desk.specs.contracts.shared.SharedDesk as shared_desk
-use Rattle.session_desk.specs.contracts.shared.SharedDesk.TheInside as inside
-use Rattle.session_desk.specs.contracts.shared.mark.Mark as mark_type
+use Rattle.session_desk.specs.contracts.shared_desk.SharedDesk as shared_desk
+use Rattle.session_desk.specs.contracts.shared_desk.SharedDesk.TheInside as inside
+use Rattle.session_desk.specs.contracts.shared_desk.mark.Mark as mark_type
 use Rattle.session_desk.proofs.desk.Desk.TheSendSync as desk
-use Rattle.session_desk.proofs.shared.mark.Mark.TheSendSync as mark
+use Rattle.session_desk.proofs.shared_desk.mark.Mark.TheSendSync as mark
 
 pub journal_send : (T : RattleType) (g : Ghosts T.Denot) → IsSend T → IsSend (journal.the_row T g)
 journal_send T g s =

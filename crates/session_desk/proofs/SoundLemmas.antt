@@ -26,8 +26,8 @@ use Rattle.session_saves.specs.Saves.{IsMissCounted, IsKeptUp, SavesState}
 use Rattle.session_desk.specs.declared.held.Held.{Held}
 use Rattle.session_desk.specs.declared.held.Held.TheVariants.{Nothing, Current}
 use Rattle.session_desk.specs.declared.refused.Refused.{Refused}
-use Rattle.session_desk.specs.declared.shared.mark.Mark.{Mark}
-use Rattle.session_desk.specs.declared.shared.mark.Mark.TheVariants as marks
+use Rattle.session_desk.specs.declared.shared_desk.mark.Mark.{Mark}
+use Rattle.session_desk.specs.declared.shared_desk.mark.Mark.TheVariants as marks
 use Rattle.session_desk.specs.declared.verdict.Verdict.TheVariants.{Fresh}
 use Rattle.session_desk.specs.Desk.{committed, DeskState, desk_emptied, game, HoldsOwnWorld}
 use Rattle.session_desk.specs.Desk.{cold_desk, ran}

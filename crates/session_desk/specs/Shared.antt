@@ -28,7 +28,7 @@ use Rattle.session_saves.specs.Saves.{SavesState}
 use Rattle.session_desk.specs.declared.refused.Refused.{Refused}
 use Rattle.session_desk.specs.declared.refused.Refused.TheVariants.{DiskFault, NoMemory}
 use Rattle.session_desk.specs.declared.turned.Turned.{Turned}
-use Rattle.session_desk.specs.declared.shared.mark.Mark.{Mark}
+use Rattle.session_desk.specs.declared.shared_desk.mark.Mark.{Mark}
 use Rattle.session_desk.specs.Desk.{DeskState, committed, cold_desk}
 use Rattle.session_desk.specs.Marks.{count_commands, commands_woven}
 use Rattle.session_desk.specs.Turn.{entries_added, history_in, IsSameDesk}

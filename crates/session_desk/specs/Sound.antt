@@ -14,7 +14,7 @@ use Rattle.snap_store.specs.Store.{Snapshots}
 use Rattle.session_saves.specs.Agreement.{IsAgreed, IsAgreedFile, last_row, opens_of}
 use Rattle.session_saves.specs.Game.{inputs_of}
 use Rattle.session_saves.specs.Saves.{IsKeptUp}
-use Rattle.session_desk.specs.declared.shared.mark.Mark.{Mark}
+use Rattle.session_desk.specs.declared.shared_desk.mark.Mark.{Mark}
 use Rattle.session_desk.specs.declared.turned.Turned.{Turned}
 use Rattle.session_desk.specs.Desk.{game, HoldsOwnWorld}
 use Rattle.session_desk.specs.Shared.{DeskTag, desk_tag, GoesOn, IsMarked, SharedState}

@@ -10,7 +10,7 @@ mod held;
 mod laws;
 mod refused;
 mod rows;
-mod shared;
+mod shared_desk;
 mod turned;
 mod verdict;
 mod wanted;
@@ -20,6 +20,6 @@ pub use laws::{
     stays_warm,
 };
 pub use refused::Refused;
-pub use shared::SharedDesk;
+pub use shared_desk::SharedDesk;
 pub use turned::Turned;
 pub use verdict::Verdict;

@@ -1,7 +1,7 @@
 -- What each script is, whatever its words (own).
 use Rattle.std.specs.Prelude.{◌≡◌, ℕ, ◌+◌, ◌-◌, ◌^◌, ◌<◌, ◌≤◌}
-use Rattle.std.specs.Prelude.{◌⊎◌, ◌==◌, if◌then◌else◌, List, []}
-use Rattle.std.specs.Prelude.{◌∷◌, ◌++◌, length, map, slice_index, codes, Some}
+use Rattle.std.specs.Prelude.{◌⊎◌, List, []}
+use Rattle.std.specs.Prelude.{◌∷◌, length, map, slice_index, codes, Some}
 use Rattle.std.specs.List.{All}
 use Rattle.rand_pcg.specs.Lcg.{advance}
 use Rattle.rand_pcg.specs.Pcg.{multiplier_64, output_xsh_rr}

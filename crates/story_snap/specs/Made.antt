@@ -1,5 +1,5 @@
 -- The world that fields make (own).
-use Rattle.std.specs.Prelude.{ℕ, List, Option, Some, None, option_map}
+use Rattle.std.specs.Prelude.{ℕ, List, Option, Some, option_map}
 use Rattle.glk_dispatch.specs.Glk.{no_prompt}
 use Rattle.glk_dispatch.specs.declared.glk.Glk.{Glk}
 use Rattle.glk_dispatch.specs.declared.glk.Prompt.{Prompt}

@@ -1,0 +1,34 @@
+use Rattle.std.proofs.Common.{◌≡◌, ◌∙◌, ap, ℕ, length, replicate, arith}
+use Rattle.session_desk.specs.declared.shared_desk.mark.Mark.TheVariants as marks
+use Rattle.session_desk.proofs.SoundLemmas.{whole-open}
+use Rattle.session_desk.proofs.shared_desk.SharedDesk.open.Goals as goal
+
+pub invariant_of-result : goal.invariant_of-result
+invariant_of-result g c =
+    let all : c.in_ok-marks.marks.items
+    ≡ replicate (length c.in_ok-desk.desk.commands) (marks.Accepted 0) =
+    c.in_ok-marks.ensures.items_if_clones_equal (λ y is. is)
+    ∙ ap (λ (n : ℕ). replicate n (marks.Accepted 0)) (omega (arith, c.len.ensures)) in
+    (whole-open g.D.Disk.tells g.D.Disk.seen g.D.Disk.room g.D.Disk.label g.D.Disk.faults
+    g.D.Disk.reach c.in_ok-marks.marks.items c.last_open-place.result
+    c.in_ok-desk.desk c.args.session c.args.stories.now c.args.budget c.args.rows.now
+    c.args.pass c.open-saves.result c.of-given.result.value c.of-first.result.value c.args.store
+    all c.in_ok-desk.ensures.value c.requires.pass c.requires.rows c.last_open-place.ensures
+    c.open-saves.ensures.value c.of-given.ensures c.of-first.ensures).0
+
+pub returns : goal.returns
+returns g c =
+    let all : c.in_ok-marks.marks.items
+    ≡ replicate (length c.in_ok-desk.desk.commands) (marks.Accepted 0) =
+    c.in_ok-marks.ensures.items_if_clones_equal (λ y is. is)
+    ∙ ap (λ (n : ℕ). replicate n (marks.Accepted 0)) (omega (arith, c.len.ensures)) in
+    record {
+      value =
+          (whole-open g.D.Disk.tells g.D.Disk.seen g.D.Disk.room g.D.Disk.label g.D.Disk.faults
+          g.D.Disk.reach c.in_ok-marks.marks.items c.last_open-place.result
+          c.in_ok-desk.desk c.args.session c.args.stories.now c.args.budget c.args.rows.now
+          c.args.pass c.open-saves.result c.of-given.result.value c.of-first.result.value
+          c.args.store
+          all c.in_ok-desk.ensures.value c.requires.pass c.requires.rows c.last_open-place.ensures
+          c.open-saves.ensures.value c.of-given.ensures c.of-first.ensures).1;
+    }

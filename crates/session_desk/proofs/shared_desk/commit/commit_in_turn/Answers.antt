@@ -1,0 +1,50 @@
+use Rattle.std.proofs.Common.{◌∙◌}
+use Rattle.turn_cell.specs.Passes.{seen}
+use Rattle.session_desk.specs.Shared.{met_by}
+use Rattle.session_desk.proofs.OpensLemmas.{opens_by}
+use Rattle.session_desk.proofs.SharedLemmas.{appended, history_in-behind, kept-since, others}
+use Rattle.session_desk.proofs.shared_desk.commit.commit_in_turn.Goals as goal
+
+pub commit-done-requires-clause-rows : goal.commit-done-requires-clause-rows
+commit-done-requires-clause-rows g c =
+    kept-since c.args.desk.now.session c.enter-journal.result.entries
+    (seen c.args.pass.now) c.args.desk.now.commands c.row_count-count.ensures.journal
+    (others c.args.pass.now c.args.desk.now.session c.enter-journal.result.entries
+    c.requires.pass c.enter-journal.ensures.value) c.requires.rows
+
+pub returns-clause-journal : goal.returns-clause-journal
+returns-clause-journal g c = λ command asked. record {
+  before = c.enter-journal.result.entries;
+  since =
+      others c.args.pass.now c.args.desk.now.session c.enter-journal.result.entries
+      c.requires.pass c.enter-journal.ensures.value;
+  adds = c.leave.ensures.seen
+      ∙ appended g.D.Disk.faults c.args.request.now c.args.desk.now c.commit-done.new.self
+      c.enter-journal.result c.commit-done.new.journal command c.commit-done.result
+      asked c.commit-done.ensures.ok c.commit-done.ensures.cause;
+}
+
+pub returns-clause-history : goal.returns-clause-history
+returns-clause-history g c = λ command asked.
+    history_in-behind c.args.desk.now.session c.enter-journal.result.entries (seen c.args.pass.now)
+    (seen c.leave.new.pass) command (met_by c.commit-done.result)
+    c.row_count-count.ensures.journal
+    (others c.args.pass.now c.args.desk.now.session c.enter-journal.result.entries
+    c.requires.pass c.enter-journal.ensures.value)
+    (c.leave.ensures.seen
+    ∙ appended g.D.Disk.faults c.args.request.now c.args.desk.now c.commit-done.new.self
+    c.enter-journal.result c.commit-done.new.journal command c.commit-done.result
+    asked c.commit-done.ensures.ok c.commit-done.ensures.cause)
+
+pub returns-clause-opens : goal.returns-clause-opens
+returns-clause-opens g c = λ command asked.
+    opens_by c.args.desk.now.session c.enter-journal.result.entries (seen c.args.pass.now)
+    (seen c.leave.new.pass) command c.commit-done.result
+    c.row_count-count.ensures.journal
+    (others c.args.pass.now c.args.desk.now.session c.enter-journal.result.entries
+    c.requires.pass c.enter-journal.ensures.value)
+    (c.leave.ensures.seen
+    ∙ appended g.D.Disk.faults c.args.request.now c.args.desk.now c.commit-done.new.self
+    c.enter-journal.result c.commit-done.new.journal command c.commit-done.result
+    asked c.commit-done.ensures.ok c.commit-done.ensures.cause)
+    c.commit-done.ensures.place
