@@ -16,7 +16,7 @@ use Rattle.host_top.specs.Begun.{LooksOnly, MakesAll, MakesStores, NotBegun, Say
 use Rattle.host_top.specs.Begun.{TriesStores, Unmade}
 use Rattle.host_top.specs.Borrowed.{AreNamed, Borrowed, CountsFaults, IsOther, Lending}
 use Rattle.host_top.specs.Borrowed.{NotLent, journal_in, loan_by, snap_in, snaps_below}
-use Rattle.host_top.specs.DiskWords.{DiskWords}
+use Rattle.disk_model.specs.declared.disk.Disk.{Ghosts as DiskWords}
 use Rattle.host_top.specs.Files.{IsLent, IsLentFrom, Lends, OutsideState, TakesDiskBack}
 use Rattle.host_top.specs.declared.loan.Loan.{Loan}
 use Rattle.host_top.specs.Status.{status_of_fetch}

@@ -10,7 +10,7 @@ use Rattle.turn_cell.specs.History.{Each}
 use Rattle.turn_cell.proofs.HistoryLemmas.{each_append, each_first, each_map}
 use Rattle.host_top.specs.Borrowed.{Borrowed, IsLending, IsOther}
 use Rattle.host_top.specs.Borrowed.{Lending, left_by, loan_by}
-use Rattle.host_top.specs.DiskWords.{DiskWords}
+use Rattle.disk_model.specs.declared.disk.Disk.{Ghosts as DiskWords}
 use Rattle.host_top.specs.Files.{HasOwnLabel, IsLent, IsLentFrom}
 use Rattle.host_top.specs.Files.{Lends, OutsideState, TakesDiskBack, Told}
 use Rattle.host_top.specs.Files.{Untold, Missing, There, told_now, returned}

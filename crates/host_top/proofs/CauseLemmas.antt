@@ -14,7 +14,7 @@ use Rattle.host_top.specs.Folder.{TakesDisks, back_at, folder_back}
 use Rattle.host_top.specs.declared.folder.Back.{Back}
 use Rattle.host_top.specs.declared.folder.Back.TheVariants as back
 use Rattle.line_talk.specs.Causes.{Rose}
-use Rattle.host_top.specs.DiskWords.{DiskWords}
+use Rattle.disk_model.specs.declared.disk.Disk.{Ghosts as DiskWords}
 use Rattle.host_top.specs.Files.{OutsideState}
 use Rattle.host_top.specs.Follows.{DoesTask, FollowsCommand}
 use Rattle.host_top.specs.LinksServed.{LinksServed, ServesOver}

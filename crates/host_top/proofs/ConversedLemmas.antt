@@ -31,7 +31,7 @@ use Rattle.session_desk.specs.Turn.{history_in}
 use Rattle.session_desk.proofs.HistoryLemmas.{commands_in-history}
 use Rattle.story_run.specs.declared.story.Story.{Story}
 use Rattle.host_top.specs.Between.{ServesBetween}
-use Rattle.host_top.specs.DiskWords.{DiskWords}
+use Rattle.disk_model.specs.declared.disk.Disk.{Ghosts as DiskWords}
 use Rattle.host_top.specs.Folder.{AreSame}
 use Rattle.host_top.specs.Piped.{Conversed, IsStoreBack, StoresBack}
 use Rattle.host_serve.proofs.AloneLemmas.{AreOwn, alone_there, many_histories, own_all, own_rows}

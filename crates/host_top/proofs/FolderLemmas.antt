@@ -9,7 +9,7 @@ use Rattle.turn_cell.proofs.HistoryLemmas.{each_map, nil_right}
 use Rattle.host_top.specs.Borrowed.{AreDifferentNames, AreAsGiven, AreNamed, Borrowed, CountsFaults}
 use Rattle.host_top.specs.Borrowed.{IsLending, IsOther, Lending, back_as}
 use Rattle.host_top.specs.Borrowed.{lent_as, loan_by}
-use Rattle.host_top.specs.DiskWords.{DiskWords}
+use Rattle.disk_model.specs.declared.disk.Disk.{Ghosts as DiskWords}
 use Rattle.host_top.specs.Files.{IsLent, IsLentFrom, Lends, OutsideState, TakesDiskBack}
 use Rattle.host_top.specs.Folder.{AreSame, IsSameBack, MayPutBack, PutsFolderBack}
 use Rattle.host_top.specs.Folder.{back_at, folder_back}

@@ -14,7 +14,7 @@ use Rattle.host_top.specs.Begun.{MakesStores}
 use Rattle.host_top.specs.Begun.{TriesStores}
 use Rattle.host_top.specs.Borrowed.{AreNamed, CountsFaults, HasFailed, IsOther, Lending}
 use Rattle.host_top.specs.Borrowed.{snap_in, snaps_below}
-use Rattle.host_top.specs.DiskWords.{DiskWords}
+use Rattle.disk_model.specs.declared.disk.Disk.{Ghosts as DiskWords}
 use Rattle.host_top.specs.Files.{IsLentFrom, Lends, OutsideState, TakesDiskBack}
 use Rattle.host_top.proofs.BorrowLemmas.{each_last, lent_loan}
 use Rattle.host_top.proofs.LoansLemmas.{counts_one, counts_out, lent_nothing}

@@ -15,7 +15,7 @@ use Rattle.turn_cell.specs.History.{Each}
 use Rattle.turn_cell.proofs.HistoryLemmas.{each_append, each_first, each_map}
 use Rattle.host_top.specs.Borrowed.{AreDifferentNames, AreAsGiven, AreNamed, Borrowed}
 use Rattle.host_top.specs.Borrowed.{IsLending, IsOther, Lending, PutsBack, back_as, lent_as}
-use Rattle.host_top.specs.DiskWords.{DiskWords}
+use Rattle.disk_model.specs.declared.disk.Disk.{Ghosts as DiskWords}
 use Rattle.host_top.specs.Files.{IsLent, IsLentFrom, Lends, OutsideState, RisesWith, TakesDiskBack}
 use Rattle.line_talk.specs.Causes.{Rose}
 use Rattle.host_top.specs.declared.loan.Loan.{Loan}

@@ -1,4 +1,3 @@
-pub mod WordsLemmas
 pub mod PlainLemmas
 pub mod SpeechLemmas
 pub mod StoriesLemmas

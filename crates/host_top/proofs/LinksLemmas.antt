@@ -18,7 +18,7 @@ use Rattle.line_talk.specs.declared.sink.Stop.TheVariants as stop
 use Rattle.line_talk.proofs.StreamsLemmas.{gave_none, wrote_none}
 use Rattle.host_serve.proofs.RootLemmas.{roots_alone}
 use Rattle.story_run.specs.declared.story.Story.{Story}
-use Rattle.host_top.specs.DiskWords.{DiskWords}
+use Rattle.disk_model.specs.declared.disk.Disk.{Ghosts as DiskWords}
 use Rattle.host_top.specs.Files.{OutsideState}
 use Rattle.host_top.specs.Piped.{StoresBack}
 use Rattle.host_top.specs.LinksServed.{DoorsBy, LinksServed}

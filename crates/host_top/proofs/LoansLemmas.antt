@@ -8,7 +8,7 @@ use Rattle.turn_cell.specs.History.{Each}
 use Rattle.turn_cell.proofs.HistoryLemmas.{each_append, each_first, each_map}
 use Rattle.host_top.specs.Borrowed.{AreDifferentNames, Borrowed, CountsFaults, HasFailed, IsLending}
 use Rattle.host_top.specs.Borrowed.{IsOther, Lending, PutsBack, back_as, lent_as, loan_by}
-use Rattle.host_top.specs.DiskWords.{DiskWords}
+use Rattle.disk_model.specs.declared.disk.Disk.{Ghosts as DiskWords}
 use Rattle.host_top.specs.Files.{KeepsDisks, KeepsDoors}
 use Rattle.host_top.specs.Files.{KeepsFiles, OutsideState, RisesWith, TakesDiskBack}
 use Rattle.host_top.specs.Folder.{AreSame}

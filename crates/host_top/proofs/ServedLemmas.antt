@@ -8,7 +8,8 @@ use Rattle.gate_journal.specs.declared.fault.JournalFault.{JournalFault}
 use Rattle.gate_journal.specs.declared.fault.JournalFault.TheVariants as fault
 use Rattle.story_run.specs.declared.story.Story.{Story}
 use Rattle.host_top.specs.Borrowed.{journal_in, snap_in}
-use Rattle.host_top.specs.DiskWords.{DiskWords, WhereTold}
+use Rattle.disk_model.specs.declared.disk.Disk.{Ghosts as DiskWords}
+use Rattle.host_top.specs.ToldBytes.{WhereTold}
 use Rattle.host_top.specs.Files.{IsLentFrom, Told, Untold, Missing, There}
 use Rattle.host_top.specs.declared.folder.Back.{Back}
 use Rattle.host_top.specs.declared.folder.Back.TheVariants as back

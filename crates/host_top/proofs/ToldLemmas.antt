@@ -23,7 +23,7 @@ use Rattle.host_top.specs.Served.{WritesServed}
 use Rattle.host_top.specs.Headline.{Speech, WritesOf, whole_text}
 use Rattle.command_words.specs.Help.{help_text, version_text}
 use Rattle.line_talk.specs.Lines.{lines, talk, IsWithinLimits}
-use Rattle.host_top.specs.DiskWords.{DiskWords}
+use Rattle.disk_model.specs.declared.disk.Disk.{Ghosts as DiskWords}
 use Rattle.host_top.specs.Speech.{Task, Says, Serves, ServesLinks, Begins, tasked}
 use Rattle.host_top.specs.Status.{status_of}
 use Rattle.host_top.specs.Spoken.{Spoken, SpeechLeaves}

@@ -9,7 +9,7 @@ use Rattle.turn_cell.proofs.HistoryLemmas.{each_map}
 use Rattle.host_top.specs.Borrowed.{AreDifferentNames, AreAsGiven, AreNamed, Borrowed}
 use Rattle.host_top.specs.Borrowed.{IsLending, Lending, NotLent, PutsBack, back_as}
 use Rattle.host_top.specs.Borrowed.{journal_in, lent_as, snap_in, snaps_below}
-use Rattle.host_top.specs.DiskWords.{DiskWords}
+use Rattle.disk_model.specs.declared.disk.Disk.{Ghosts as DiskWords}
 use Rattle.host_top.specs.Files.{IsLent, IsLentFrom, KeepsDisks, OutsideState}
 use Rattle.host_top.specs.Folder.{FitsNames, IsSameBack, MayPutBack, PutsFolderBack, TakesDisks}
 use Rattle.host_top.specs.Folder.{back_at, folder_back, stores_back}

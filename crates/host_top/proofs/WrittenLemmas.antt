@@ -11,7 +11,7 @@ use Rattle.story_run.specs.declared.story.Story.{Story}
 use Rattle.host_top.specs.Begun.{InitsOn, SaysRefusal, WritesBegun, ready, not_empty}
 use Rattle.host_top.specs.Borrowed.{journal_in}
 use Rattle.host_top.specs.LinksServed.{ServesOver, WritesLinks}
-use Rattle.host_top.specs.DiskWords.{DiskWords}
+use Rattle.disk_model.specs.declared.disk.Disk.{Ghosts as DiskWords}
 use Rattle.host_top.specs.Files.{IsLentFrom, OutsideState, Told}
 use Rattle.host_top.specs.declared.folder.Back.{Back}
 use Rattle.host_top.specs.declared.folder.Back.TheVariants as back

@@ -8,7 +8,8 @@ use Rattle.gate_journal.specs.declared.fault.InitFault.{InitFault}
 use Rattle.gate_journal.specs.declared.fault.InitFault.TheVariants as fault
 use Rattle.host_top.specs.Borrowed.{AreNamed, Borrowed, CountsFaults, Lending, NotLent}
 use Rattle.host_top.specs.Borrowed.{journal_in, snaps_below}
-use Rattle.host_top.specs.DiskWords.{DiskWords, WhereTold}
+use Rattle.disk_model.specs.declared.disk.Disk.{Ghosts as DiskWords}
+use Rattle.host_top.specs.ToldBytes.{WhereTold}
 use Rattle.host_top.specs.Files.{OutsideState, Told}
 use Rattle.host_top.specs.Said.{SaysLine}
 use Rattle.line_talk.specs.Causes.{Rose}

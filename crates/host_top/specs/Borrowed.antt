@@ -7,7 +7,7 @@ use Rattle.std.specs.Str.{bytes_eq}
 use Rattle.disk_model.specs.Disk.{SameDisk}
 use Rattle.line_talk.specs.Causes.{Rose}
 use Rattle.turn_cell.specs.History.{Each}
-use Rattle.host_top.specs.DiskWords.{DiskWords}
+use Rattle.disk_model.specs.declared.disk.Disk.{Ghosts as DiskWords}
 use Rattle.host_top.specs.Files.{OutsideState, HasOwnLabel, IsLentFrom, Told, Missing, There}
 use Rattle.host_top.specs.Files.{KeepsDisks, TakesDiskBack, told_now}
 use Rattle.line_talk.specs.Streams.{SourceState, SinkState, Gave, Wrote}

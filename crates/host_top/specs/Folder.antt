@@ -7,7 +7,7 @@ use Rattle.line_talk.specs.Causes.{Rose}
 use Rattle.line_talk.specs.Streams.{SourceState, SinkState, Gave, Wrote}
 use Rattle.host_top.specs.Borrowed.{Borrowed, CountsFaults, Lending, NotLent, PutsBack, back_as}
 use Rattle.host_top.specs.Borrowed.{journal_in, lent_as, snaps_below}
-use Rattle.host_top.specs.DiskWords.{DiskWords}
+use Rattle.disk_model.specs.declared.disk.Disk.{Ghosts as DiskWords}
 use Rattle.host_top.specs.Files.{IsLent, KeepsDisks, OutsideState, TakesDiskBack}
 use Rattle.host_top.specs.declared.folder.Back.{Back}
 use Rattle.host_top.specs.declared.folder.Back.TheVariants.{All, Journal, Snap, Nothing}

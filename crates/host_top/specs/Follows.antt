@@ -6,7 +6,7 @@ use Rattle.host_top.specs.Folder.{UsesFolder}
 use Rattle.line_talk.specs.Causes.{Rose}
 use Rattle.host_top.specs.Files.{OutsideState, KeepsDisks, KeepsDoors, Told, There}
 use Rattle.host_top.specs.Headline.{WritesOf}
-use Rattle.host_top.specs.DiskWords.{DiskWords}
+use Rattle.disk_model.specs.declared.disk.Disk.{Ghosts as DiskWords}
 use Rattle.host_top.specs.LinksServed.{DoorsBy, ServesOver, WritesLinks}
 use Rattle.host_top.specs.Piped.{PipesOver}
 use Rattle.host_top.specs.Served.{WritesServed}

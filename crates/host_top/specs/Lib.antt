@@ -8,7 +8,7 @@ pub mod Begun
 pub mod Borrowed
 pub mod Folder
 pub mod Said
-pub mod DiskWords
+pub mod ToldBytes
 pub mod CheckText
 pub mod Stories
 pub mod StoryFile

@@ -8,7 +8,7 @@ use Rattle.gate_journal.specs.Rows.{SpellsRows, IsJournal, journal_bytes}
 use Rattle.line_talk.specs.Causes.{Rose}
 use Rattle.story_run.specs.declared.story.Story.{Story}
 use Rattle.line_talk.specs.Streams.{SourceState, SinkState, Gave, Wrote}
-use Rattle.host_top.specs.DiskWords.{DiskWords}
+use Rattle.disk_model.specs.declared.disk.Disk.{Ghosts as DiskWords}
 use Rattle.host_top.specs.Files.{OutsideState, Told, after_call, after_one}
 use Rattle.host_top.specs.Piped.{HostedOver, StoresBack}
 use Rattle.host_top.specs.Served.{BeginsRefusal, RefusesJournal}

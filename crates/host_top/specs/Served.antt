@@ -7,7 +7,8 @@ use Rattle.session_core.specs.declared.entry.Entry.{Entry}
 use Rattle.session_saves.specs.Agreement.{IsAgreedFile, opens_of}
 use Rattle.story_run.specs.declared.story.Story.{Story}
 use Rattle.host_top.specs.Borrowed.{journal_in, snap_in}
-use Rattle.host_top.specs.DiskWords.{DiskWords, WhereTold}
+use Rattle.disk_model.specs.declared.disk.Disk.{Ghosts as DiskWords}
+use Rattle.host_top.specs.ToldBytes.{WhereTold}
 use Rattle.host_top.specs.Files.{Told, Untold, Missing, There}
 use Rattle.line_talk.specs.Lines.{lines, talk, IsWithinLimits, ReachesLimit}
 use Rattle.host_serve.specs.Opening.{histories_in_rows}

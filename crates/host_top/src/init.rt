@@ -23,17 +23,7 @@ use std::alloc::Global;
 fn is_empty<D: Disk>(disk: &mut D) -> Result<bool, Failed>
     ensures ok { IfOk result (λ empty. IsTrue (D.tells disk.old)
         → (empty ≡ true → D.seen disk.old ≡ []) × (empty ≡ false → 0 < length (D.seen disk.old))) }
-    ensures looks { IsLookedAt (record {
-      tells = D.tells;
-      seen = D.seen;
-      may_leave = D.may_leave;
-      moment = D.moment;
-      left_since = D.left_since;
-      faults = D.faults;
-      reach = D.reach;
-      room = D.room;
-      label = D.label;
-    }) disk.old disk.new }
+    ensures looks { IsLookedAt D.Disk disk.old disk.new }
     ensures seen { OnOk result (IsTrue (D.tells disk.old) → D.seen disk.new ≡ D.seen disk.old) }
     ensures cause { CountsErrors result (D.faults disk.old) (D.faults disk.new) }
     ensures kept { SameDisk D.tells D.room D.label disk.old disk.new }
@@ -44,17 +34,8 @@ fn is_empty<D: Disk>(disk: &mut D) -> Result<bool, Failed>
 
 /// Begins a journal on this disk.
 fn init_over<D: Disk, K: Sink>(disk: &mut D, output: &mut K) -> Status
-    ensures value { InitsOver (record {
-      tells = D.tells;
-      seen = D.seen;
-      may_leave = D.may_leave;
-      moment = D.moment;
-      left_since = D.left_since;
-      faults = D.faults;
-      reach = D.reach;
-      room = D.room;
-      label = D.label;
-    }) disk.old disk.new (K.sink output.old) (K.sink output.new) result }
+    ensures value { InitsOver D.Disk disk.old disk.new
+        (K.sink output.old) (K.sink output.new) result }
     ensures kept { SameDisk D.tells D.room D.label disk.old disk.new }
     ensures read_fault { ¬ (result ≡ Status.ReadFault) }
     ensures write_fault { result ≡ Status.WriteFault
@@ -74,28 +55,10 @@ fn make_store<O: Outside>(
     session: u8,
     outside: &mut O,
 ) -> Result<(), Fetch>
-    ensures ok { OnOk result (MakesStores (record {
-      tells = O.Disk.tells;
-      seen = O.Disk.seen;
-      may_leave = O.Disk.may_leave;
-      moment = O.Disk.moment;
-      left_since = O.Disk.left_since;
-      faults = O.Disk.faults;
-      reach = O.Disk.reach;
-      room = O.Disk.room;
-      label = O.Disk.label;
-    }) (snap_in folder.now session ∷ []) (O.outside outside.old) (O.outside outside.new)) }
-    ensures err { OnErr result (TriesStores (record {
-      tells = O.Disk.tells;
-      seen = O.Disk.seen;
-      may_leave = O.Disk.may_leave;
-      moment = O.Disk.moment;
-      left_since = O.Disk.left_since;
-      faults = O.Disk.faults;
-      reach = O.Disk.reach;
-      room = O.Disk.room;
-      label = O.Disk.label;
-    }) (snap_in folder.now session ∷ []) (O.outside outside.old) (O.outside outside.new)) }
+    ensures ok { OnOk result (MakesStores O.Disk.Disk (snap_in folder.now session ∷ [])
+        (O.outside outside.old) (O.outside outside.new)) }
+    ensures err { OnErr result (TriesStores O.Disk.Disk (snap_in folder.now session ∷ [])
+        (O.outside outside.old) (O.outside outside.new)) }
     ensures cause { IsErrOf result Fetch.Failed
         → Rose (O.outside outside.old).disk_faults (O.outside outside.new).disk_faults }
     ensures later { (O.outside outside.old).disk_faults ≤ (O.outside outside.new).disk_faults }
@@ -116,28 +79,10 @@ fn make_store<O: Outside>(
 
 /// Makes the stores of all sessions, each with its disk back before the next one's is lent.
 fn make_stores<O: Outside>(alloc: Global, folder: &str, outside: &mut O) -> Result<(), Fetch>
-    ensures ok { OnOk result (MakesStores (record {
-      tells = O.Disk.tells;
-      seen = O.Disk.seen;
-      may_leave = O.Disk.may_leave;
-      moment = O.Disk.moment;
-      left_since = O.Disk.left_since;
-      faults = O.Disk.faults;
-      reach = O.Disk.reach;
-      room = O.Disk.room;
-      label = O.Disk.label;
-    }) (snaps_below folder.now 64) (O.outside outside.old) (O.outside outside.new)) }
-    ensures err { OnErr result (TriesStores (record {
-      tells = O.Disk.tells;
-      seen = O.Disk.seen;
-      may_leave = O.Disk.may_leave;
-      moment = O.Disk.moment;
-      left_since = O.Disk.left_since;
-      faults = O.Disk.faults;
-      reach = O.Disk.reach;
-      room = O.Disk.room;
-      label = O.Disk.label;
-    }) (snaps_below folder.now 64) (O.outside outside.old) (O.outside outside.new)) }
+    ensures ok { OnOk result (MakesStores O.Disk.Disk (snaps_below folder.now 64)
+        (O.outside outside.old) (O.outside outside.new)) }
+    ensures err { OnErr result (TriesStores O.Disk.Disk (snaps_below folder.now 64)
+        (O.outside outside.old) (O.outside outside.new)) }
     ensures cause { IsErrOf result Fetch.Failed
         → Rose (O.outside outside.old).disk_faults (O.outside outside.new).disk_faults }
     ensures later { (O.outside outside.old).disk_faults ≤ (O.outside outside.new).disk_faults }
@@ -159,17 +104,8 @@ fn init_all<O: Outside, K: Sink>(
     outside: &mut O,
     output: &mut K,
 ) -> Status
-    ensures value { (stores : List (Lending O.Disk)) × Inits (record {
-      tells = O.Disk.tells;
-      seen = O.Disk.seen;
-      may_leave = O.Disk.may_leave;
-      moment = O.Disk.moment;
-      left_since = O.Disk.left_since;
-      faults = O.Disk.faults;
-      reach = O.Disk.reach;
-      room = O.Disk.room;
-      label = O.Disk.label;
-    }) folder.now disk.old disk.new stores stores (O.outside outside.old) (O.outside outside.new)
+    ensures value { (stores : List (Lending O.Disk)) × Inits O.Disk.Disk folder.now
+        disk.old disk.new stores stores (O.outside outside.old) (O.outside outside.new)
         (K.sink output.old) (K.sink output.new) result }
     ensures kept { SameDisk O.Disk.tells O.Disk.room O.Disk.label disk.old disk.new }
     ensures read_fault { ¬ (result ≡ Status.ReadFault) }
@@ -195,17 +131,8 @@ pub fn init_folder<O: Outside, K: Sink>(
     outside: &mut O,
     output: &mut K,
 ) -> Status
-    ensures value { (input : SourceState) → InitsOn (record {
-      tells = O.Disk.tells;
-      seen = O.Disk.seen;
-      may_leave = O.Disk.may_leave;
-      moment = O.Disk.moment;
-      left_since = O.Disk.left_since;
-      faults = O.Disk.faults;
-      reach = O.Disk.reach;
-      room = O.Disk.room;
-      label = O.Disk.label;
-    }) folder.now (O.outside outside.old) (O.outside outside.new) input input
+    ensures value { (input : SourceState) → InitsOn O.Disk.Disk folder.now
+        (O.outside outside.old) (O.outside outside.new) input input
         (K.sink output.old) (K.sink output.new) result }
     ensures read_fault { ¬ (result ≡ Status.ReadFault) }
     ensures write_fault { result ≡ Status.WriteFault

@@ -23,32 +23,13 @@ fn take_one<O: Outside>(
     outside: &mut O,
 ) -> Result<(), Fetch>
     ensures ok { OnOk result ((disk : O.Disk) × (disks.new.items ≡ disks.old.items ++ disk ∷ [])
-        × Borrowed (record {
-          tells = O.Disk.tells;
-          seen = O.Disk.seen;
-          may_leave = O.Disk.may_leave;
-          moment = O.Disk.moment;
-          left_since = O.Disk.left_since;
-          faults = O.Disk.faults;
-          reach = O.Disk.reach;
-          room = O.Disk.room;
-          label = O.Disk.label;
-        }) (O.outside outside.old) (O.outside outside.new) (lent_as (name.now ∷ []) (disk ∷ []))) }
+        × Borrowed O.Disk.Disk (O.outside outside.old) (O.outside outside.new)
+        (lent_as (name.now ∷ []) (disk ∷ []))) }
     ensures count { OnOk result
         ((O.outside outside.new).disk_faults ≡ (O.outside outside.old).disk_faults) }
     ensures err { OnErr result ((disks.new.items ≡ disks.old.items)
         × ((ls : List (Lending O.Disk)) × AreAsGiven ls × AreNamed (name.now ∷ []) ls
-        × Borrowed (record {
-          tells = O.Disk.tells;
-          seen = O.Disk.seen;
-          may_leave = O.Disk.may_leave;
-          moment = O.Disk.moment;
-          left_since = O.Disk.left_since;
-          faults = O.Disk.faults;
-          reach = O.Disk.reach;
-          room = O.Disk.room;
-          label = O.Disk.label;
-        }) (O.outside outside.old) (O.outside outside.new) ls)) }
+        × Borrowed O.Disk.Disk (O.outside outside.old) (O.outside outside.new) ls)) }
     ensures cause { IsErrOf result Fetch.Failed
         → Rose (O.outside outside.old).disk_faults (O.outside outside.new).disk_faults }
     ensures later { (O.outside outside.old).disk_faults ≤ (O.outside outside.new).disk_faults }
@@ -96,33 +77,13 @@ pub fn take_all<O: Outside>(
 ) -> Result<Vec<O::Disk>, Fetch>
     requires names { AreDifferentNames (map string_bytes names.now) }
     ensures ok { IfOk result (λ disks. (length disks.items ≡ length names.now)
-        × Borrowed (record {
-          tells = O.Disk.tells;
-          seen = O.Disk.seen;
-          may_leave = O.Disk.may_leave;
-          moment = O.Disk.moment;
-          left_since = O.Disk.left_since;
-          faults = O.Disk.faults;
-          reach = O.Disk.reach;
-          room = O.Disk.room;
-          label = O.Disk.label;
-        }) (O.outside outside.old) (O.outside outside.new)
+        × Borrowed O.Disk.Disk (O.outside outside.old) (O.outside outside.new)
         (lent_as (map string_bytes names.now) disks.items)) }
     ensures count { OnOk result
         ((O.outside outside.new).disk_faults ≡ (O.outside outside.old).disk_faults) }
     ensures err { OnErr result ((ls : List (Lending O.Disk)) × AreAsGiven ls
         × AreNamed (map string_bytes names.now) ls
-        × Borrowed (record {
-          tells = O.Disk.tells;
-          seen = O.Disk.seen;
-          may_leave = O.Disk.may_leave;
-          moment = O.Disk.moment;
-          left_since = O.Disk.left_since;
-          faults = O.Disk.faults;
-          reach = O.Disk.reach;
-          room = O.Disk.room;
-          label = O.Disk.label;
-        }) (O.outside outside.old) (O.outside outside.new) ls) }
+        × Borrowed O.Disk.Disk (O.outside outside.old) (O.outside outside.new) ls) }
     ensures cause { IsErrOf result Fetch.Failed
         → Rose (O.outside outside.old).disk_faults (O.outside outside.new).disk_faults }
     ensures later { (O.outside outside.old).disk_faults ≤ (O.outside outside.new).disk_faults }
@@ -153,34 +114,14 @@ pub fn take_folder<O: Outside>(
         (map string_bytes names.now.snaps.items) }
     ensures ok { IfOk result (λ disks.
         (length disks.snaps.items ≡ length names.now.snaps.items)
-        × Borrowed (record {
-          tells = O.Disk.tells;
-          seen = O.Disk.seen;
-          may_leave = O.Disk.may_leave;
-          moment = O.Disk.moment;
-          left_since = O.Disk.left_since;
-          faults = O.Disk.faults;
-          reach = O.Disk.reach;
-          room = O.Disk.room;
-          label = O.Disk.label;
-        }) (O.outside outside.old) (O.outside outside.new)
+        × Borrowed O.Disk.Disk (O.outside outside.old) (O.outside outside.new)
         (folder_back (string_bytes names.now.journal) (map string_bytes names.now.snaps.items)
         disks.journal disks.snaps.items Back.Nothing)) }
     ensures count { OnOk result
         ((O.outside outside.new).disk_faults ≡ (O.outside outside.old).disk_faults) }
     ensures err { OnErr result ((ls : List (Lending O.Disk)) × AreAsGiven ls
         × AreNamed (string_bytes names.now.journal ∷ map string_bytes names.now.snaps.items) ls
-        × Borrowed (record {
-          tells = O.Disk.tells;
-          seen = O.Disk.seen;
-          may_leave = O.Disk.may_leave;
-          moment = O.Disk.moment;
-          left_since = O.Disk.left_since;
-          faults = O.Disk.faults;
-          reach = O.Disk.reach;
-          room = O.Disk.room;
-          label = O.Disk.label;
-        }) (O.outside outside.old) (O.outside outside.new) ls) }
+        × Borrowed O.Disk.Disk (O.outside outside.old) (O.outside outside.new) ls) }
     ensures cause { IsErrOf result Fetch.Failed
         → Rose (O.outside outside.old).disk_faults (O.outside outside.new).disk_faults }
     ensures files { KeepsFiles (O.outside outside.old) (O.outside outside.new) }

@@ -42,29 +42,10 @@ pub fn open_host<'i, D: Disk + Drop, K: Sink>(
         (rows_at_opening pair.0) disks.snaps.items → IsSound D.tells D.seen pair.0) }
     ensures silent { IfOk result (λ _. K.sink output.new ≡ K.sink output.old) }
     ensures refused { IfErr result (λ refusal. (input : SourceState) → HostedOver (λ _ _. ⊥)
-        (record {
-          tells = D.tells;
-          seen = D.seen;
-          may_leave = D.may_leave;
-          moment = D.moment;
-          left_since = D.left_since;
-          faults = D.faults;
-          reach = D.reach;
-          room = D.room;
-          label = D.label;
-        }) disks.journal disks.snaps.items refusal.1 input input
+        D.Disk disks.journal disks.snaps.items refusal.1 input input
         (K.sink output.old) (K.sink output.new) refusal.0) }
-    ensures kept { IfErr result (λ refusal. IsSameBack (record {
-      tells = D.tells;
-      seen = D.seen;
-      may_leave = D.may_leave;
-      moment = D.moment;
-      left_since = D.left_since;
-      faults = D.faults;
-      reach = D.reach;
-      room = D.room;
-      label = D.label;
-    }) disks.journal disks.snaps.items refusal.1) }
+    ensures kept { IfErr result (λ refusal.
+        IsSameBack D.Disk disks.journal disks.snaps.items refusal.1) }
     ensures fits { IfErr result (λ refusal. FitsNames 64 refusal.1) }
     ensures status { IfErr result (λ refusal. ¬ (refusal.0 ≡ Status.Done)
         × ¬ (refusal.0 ≡ Status.DoorFault) × ¬ (refusal.0 ≡ Status.ReadFault)) }

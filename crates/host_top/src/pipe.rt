@@ -62,30 +62,10 @@ fn pipe_over<'i, R: Wait, D: Disk + Drop, S: Source, K: Sink>(
 ) -> (Status, Back<D>)
     requires budget { IsBudget budget }
     requires many { length disks.snaps.items ≡ 64 }
-    ensures value { PipesOver (record {
-      tells = D.tells;
-      seen = D.seen;
-      may_leave = D.may_leave;
-      moment = D.moment;
-      left_since = D.left_since;
-      faults = D.faults;
-      reach = D.reach;
-      room = D.room;
-      label = D.label;
-    }) stories.now budget disks.journal disks.snaps.items result.1
+    ensures value { PipesOver D.Disk stories.now budget disks.journal disks.snaps.items result.1
         (S.source input.old) (S.source input.new) (K.sink output.old) (K.sink output.new)
         result.0 }
-    ensures kept { IsSameBack (record {
-      tells = D.tells;
-      seen = D.seen;
-      may_leave = D.may_leave;
-      moment = D.moment;
-      left_since = D.left_since;
-      faults = D.faults;
-      reach = D.reach;
-      room = D.room;
-      label = D.label;
-    }) disks.journal disks.snaps.items result.1 }
+    ensures kept { IsSameBack D.Disk disks.journal disks.snaps.items result.1 }
     ensures fits { FitsNames 64 result.1 }
     ensures read_fault { result.0 ≡ Status.ReadFault
         → Rose (S.source input.old).faults (S.source input.new).faults }
@@ -113,28 +93,8 @@ pub fn pipe<'i, R: Wait, O: Outside, S: Source, K: Sink>(
     output: &mut K,
 ) -> Status
     requires budget { IsBudget budget }
-    ensures value { UsesFolder (record {
-      tells = O.Disk.tells;
-      seen = O.Disk.seen;
-      may_leave = O.Disk.may_leave;
-      moment = O.Disk.moment;
-      left_since = O.Disk.left_since;
-      faults = O.Disk.faults;
-      reach = O.Disk.reach;
-      room = O.Disk.room;
-      label = O.Disk.label;
-    }) folder.now
-        (λ given givens back. PipesOver (record {
-          tells = O.Disk.tells;
-          seen = O.Disk.seen;
-          may_leave = O.Disk.may_leave;
-          moment = O.Disk.moment;
-          left_since = O.Disk.left_since;
-          faults = O.Disk.faults;
-          reach = O.Disk.reach;
-          room = O.Disk.room;
-          label = O.Disk.label;
-        }) stories.now budget given givens back
+    ensures value { UsesFolder O.Disk.Disk folder.now
+        (λ given givens back. PipesOver O.Disk.Disk stories.now budget given givens back
         (S.source input.old) (S.source input.new) (K.sink output.old) (K.sink output.new) result)
         (O.outside outside.old) (O.outside outside.new) (S.source input.old) (S.source input.new)
         (K.sink output.old) (K.sink output.new) result }

@@ -39,17 +39,7 @@ fn act<R: Threads + Wait + Sync, O: Outside, S: Source, K: Sink>(
     input: &mut S,
     output: &mut K,
 ) -> Status
-    ensures value { DoesTask (record {
-      tells = O.Disk.tells;
-      seen = O.Disk.seen;
-      may_leave = O.Disk.may_leave;
-      moment = O.Disk.moment;
-      left_since = O.Disk.left_since;
-      faults = O.Disk.faults;
-      reach = O.Disk.reach;
-      room = O.Disk.room;
-      label = O.Disk.label;
-    })
+    ensures value { DoesTask O.Disk.Disk
         (tasked command.now.action (stories_of (map (λ f. f.items) files.now))
         command.now.budget command.now.folder.now)
         (O.outside outside.old) (O.outside outside.new) (S.source input.old) (S.source input.new)
@@ -98,17 +88,7 @@ fn follow<R: Threads + Wait + Sync, O: Outside, S: Source, K: Sink>(
     input: &mut S,
     output: &mut K,
 ) -> Status
-    ensures done { FollowsCommand (record {
-      tells = O.Disk.tells;
-      seen = O.Disk.seen;
-      may_leave = O.Disk.may_leave;
-      moment = O.Disk.moment;
-      left_since = O.Disk.left_since;
-      faults = O.Disk.faults;
-      reach = O.Disk.reach;
-      room = O.Disk.room;
-      label = O.Disk.label;
-    }) (command_asked command.entry) result
+    ensures done { FollowsCommand O.Disk.Disk (command_asked command.entry) result
         (O.outside outside.old) (O.outside outside.new) (S.source input.old) (S.source input.new)
         (K.sink output.old) (K.sink output.new) }
     ensures bad_words { ¬ (result ≡ Status.BadWords) }
@@ -147,34 +127,14 @@ pub fn top<R: Threads + Wait + Sync, O: Outside, S: Source, K: Sink>(
 
     // what was asked is done as far as the status says
     ensures done { IfSome (asked_by (map string_bytes words.now)) (λ asked.
-        IsSomeAnd (status_of result) (λ status. FollowsCommand (record {
-          tells = O.Disk.tells;
-          seen = O.Disk.seen;
-          may_leave = O.Disk.may_leave;
-          moment = O.Disk.moment;
-          left_since = O.Disk.left_since;
-          faults = O.Disk.faults;
-          reach = O.Disk.reach;
-          room = O.Disk.room;
-          label = O.Disk.label;
-        }) asked status
+        IsSomeAnd (status_of result) (λ status. FollowsCommand O.Disk.Disk asked status
         (O.outside outside.old) (O.outside outside.new) (S.source input.old) (S.source input.new)
         (K.sink output.old) (K.sink output.new))) }
 
     // and in plain words, for a caller who is told the files, the input and what the output holds
     ensures told { IfSome (asked_by (map string_bytes words.now)) (λ asked.
-        IsSomeAnd (status_of result) (λ status. TellsCaller (record {
-          tells = O.Disk.tells;
-          seen = O.Disk.seen;
-          may_leave = O.Disk.may_leave;
-          moment = O.Disk.moment;
-          left_since = O.Disk.left_since;
-          faults = O.Disk.faults;
-          reach = O.Disk.reach;
-          room = O.Disk.room;
-          label = O.Disk.label;
-        }) asked status (O.outside outside.old)
-        (S.source input.old) (K.sink output.old) (K.sink output.new))) }
+        IsSomeAnd (status_of result) (λ status. TellsCaller O.Disk.Disk asked status
+        (O.outside outside.old) (S.source input.old) (K.sink output.old) (K.sink output.new))) }
 
     // the causes of faults, and no file changes; nothing is written where a disk failed
     ensures read_fault { result ≡ 4

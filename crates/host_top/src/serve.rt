@@ -121,29 +121,9 @@ where
     requires budget { IsBudget budget }
     requires many { length disks.snaps.items ≡ 64 }
     requires workers { (0 < serving.workers) × (serving.workers ≤ 16) }
-    ensures value { (input : SourceState) → ServesOver (record {
-      tells = D.tells;
-      seen = D.seen;
-      may_leave = D.may_leave;
-      moment = D.moment;
-      left_since = D.left_since;
-      faults = D.faults;
-      reach = D.reach;
-      room = D.room;
-      label = D.label;
-    }) stories.now disks.journal
+    ensures value { (input : SourceState) → ServesOver D.Disk stories.now disks.journal
         disks.snaps.items result.1 input input (K.sink output.old) (K.sink output.new) result.0 }
-    ensures kept { IsSameBack (record {
-      tells = D.tells;
-      seen = D.seen;
-      may_leave = D.may_leave;
-      moment = D.moment;
-      left_since = D.left_since;
-      faults = D.faults;
-      reach = D.reach;
-      room = D.room;
-      label = D.label;
-    }) disks.journal disks.snaps.items result.1 }
+    ensures kept { IsSameBack D.Disk disks.journal disks.snaps.items result.1 }
     ensures fits { FitsNames 64 result.1 }
     ensures doors { DoorsBy (door_call serving) (O.outside outside.old) (O.outside outside.new)
         result.0 }
@@ -176,28 +156,8 @@ pub fn serve<'i, R: Threads + Wait + Sync, O: Outside, K: Sink>(
 ) -> Status
     requires budget { IsBudget budget }
     requires workers { (0 < serving.workers) × (serving.workers ≤ 16) }
-    ensures value { (input : SourceState) → UsesFolder (record {
-      tells = O.Disk.tells;
-      seen = O.Disk.seen;
-      may_leave = O.Disk.may_leave;
-      moment = O.Disk.moment;
-      left_since = O.Disk.left_since;
-      faults = O.Disk.faults;
-      reach = O.Disk.reach;
-      room = O.Disk.room;
-      label = O.Disk.label;
-    }) folder.now
-        (λ given givens back. ServesOver (record {
-          tells = O.Disk.tells;
-          seen = O.Disk.seen;
-          may_leave = O.Disk.may_leave;
-          moment = O.Disk.moment;
-          left_since = O.Disk.left_since;
-          faults = O.Disk.faults;
-          reach = O.Disk.reach;
-          room = O.Disk.room;
-          label = O.Disk.label;
-        }) stories.now given givens back input input
+    ensures value { (input : SourceState) → UsesFolder O.Disk.Disk folder.now
+        (λ given givens back. ServesOver O.Disk.Disk stories.now given givens back input input
         (K.sink output.old) (K.sink output.new) result)
         (O.outside outside.old) (O.outside outside.new) input input
         (K.sink output.old) (K.sink output.new) result }

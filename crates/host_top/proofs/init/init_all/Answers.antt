@@ -1,9 +1,8 @@
 use Rattle.host_top.proofs.BegunLemmas.{inits_over, inits_failed, inits_in_use, inits_unmade}
-use Rattle.host_top.proofs.WordsLemmas.{words_of}
 use Rattle.host_top.proofs.init.init_all.Goals as goal
 
 pub returns-in-Err-make_stores-clause-value : goal.returns-in-Err-make_stores-clause-value
-returns-in-Err-make_stores-clause-value g c = inits_unmade (words_of g.O.Disk.Disk) c.args.disk.now
+returns-in-Err-make_stores-clause-value g c = inits_unmade g.O.Disk.Disk c.args.disk.now
     c.is_empty.new.disk c.is_empty.ensures.looks c.is_empty.ensures.kept
     c.args.folder.now
     (g.O.Outside.outside c.args.outside.now) (g.O.Outside.outside c.make_stores.new.outside)
@@ -13,7 +12,7 @@ returns-in-Err-make_stores-clause-value g c = inits_unmade (words_of g.O.Disk.Di
     c.make_stores.ensures.later
 
 pub returns-in-Ok-clause-value : goal.returns-in-Ok-clause-value
-returns-in-Ok-clause-value g c = inits_over (words_of g.O.Disk.Disk) c.args.disk.now
+returns-in-Ok-clause-value g c = inits_over g.O.Disk.Disk c.args.disk.now
     c.is_empty.new.disk c.is_empty.ensures.looks c.is_empty.ensures.kept
     (λ told. (c.in-Ok-true.ensures.ok told).0 c.in-Ok-true.field-0-test) c.in-Ok-true.ensures.seen
     c.in-Ok-true.ensures.cause
@@ -21,7 +20,7 @@ returns-in-Ok-clause-value g c = inits_over (words_of g.O.Disk.Disk) c.args.disk
     (g.O.Outside.outside c.make_stores.new.outside) c.in-Ok.ensures.ok c.init_over.ensures.value
 
 pub returns-in-Ok-false-clause-value : goal.returns-in-Ok-false-clause-value
-returns-in-Ok-false-clause-value g c = inits_in_use (words_of g.O.Disk.Disk) c.args.disk.now
+returns-in-Ok-false-clause-value g c = inits_in_use g.O.Disk.Disk c.args.disk.now
     c.is_empty.new.disk c.is_empty.ensures.looks c.is_empty.ensures.kept
     c.args.folder.now
     (g.O.Outside.outside c.args.outside.now) _ _ _
@@ -29,7 +28,7 @@ returns-in-Ok-false-clause-value g c = inits_in_use (words_of g.O.Disk.Disk) c.a
     c.in-Ok-false.ensures.cause c.say_line.ensures.value
 
 pub returns-in-Err-clause-value : goal.returns-in-Err-clause-value
-returns-in-Err-clause-value g c = inits_failed (words_of g.O.Disk.Disk) c.args.disk.now
+returns-in-Err-clause-value g c = inits_failed g.O.Disk.Disk c.args.disk.now
     c.is_empty.new.disk c.is_empty.ensures.looks c.is_empty.ensures.kept
     c.args.folder.now
     (g.O.Outside.outside c.args.outside.now) _ c.in-Err.ensures.cause.0 c.in-Err.ensures.cause.1

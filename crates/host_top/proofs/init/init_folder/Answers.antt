@@ -1,22 +1,21 @@
 use Rattle.std.proofs.Common.{inl, inr, ◌∙◌, refl, [], ◌∷◌}
 use Rattle.host_top.specs.Borrowed.{journal_in}
 use Rattle.host_top.proofs.BegunLemmas.{fetch_cause, folder_inits, folder_lent, no_folder}
-use Rattle.host_top.proofs.WordsLemmas.{words_of}
 use Rattle.host_top.proofs.init.init_folder.Goals as goal
 
 pub returns-in_default-clause-value : goal.returns-in_default-clause-value
-returns-in_default-clause-value g c = λ input. inl (no_folder (words_of g.O.Disk.Disk) (journal_in
+returns-in_default-clause-value g c = λ input. inl (no_folder g.O.Disk.Disk (journal_in
     c.args.folder.now ∷ []) _ _ input _ _ (λ other. (refl, refl)) (inr refl))
 
 pub returns-in-Err-clause-value : goal.returns-in-Err-clause-value
-returns-in-Err-clause-value g c = λ input. inl (no_folder (words_of g.O.Disk.Disk) (journal_in
+returns-in-Err-clause-value g c = λ input. inl (no_folder g.O.Disk.Disk (journal_in
     c.args.folder.now ∷ []) (g.O.Outside.outside c.args.outside.now)
     (g.O.Outside.outside c.disk.new.self) input _ _
     c.in-Err.ensures.err (fetch_cause c.in-Err.why _ (g.O.Outside.outside c.args.outside.now)
     (g.O.Outside.outside c.disk.new.self) c.of_fetch.ensures c.in-Err.ensures.cause))
 
 pub returns-clause-value : goal.returns-clause-value
-returns-clause-value g c = λ input. inr (folder_inits (words_of g.O.Disk.Disk) c.args.folder.now
+returns-clause-value g c = λ input. inr (folder_inits g.O.Disk.Disk c.args.folder.now
     c.deref.result.now c.deref-2.result.now c.in-Ok-disk.disk
     c.init_all-status.new.disk
     (g.O.Outside.outside c.args.outside.now) (g.O.Outside.outside c.disk.new.self)
@@ -27,7 +26,7 @@ returns-clause-value g c = λ input. inr (folder_inits (words_of g.O.Disk.Disk) 
     c.init_all-status.ensures.value c.put_back.ensures.back)
 
 pub put_back-requires : goal.put_back-requires
-put_back-requires g c = folder_lent (words_of g.O.Disk.Disk) c.args.folder.now c.deref.result.now
+put_back-requires g c = folder_lent g.O.Disk.Disk c.args.folder.now c.deref.result.now
     c.deref-2.result.now c.in-Ok-disk.disk
     c.init_all-status.new.disk
     (g.O.Outside.outside c.args.outside.now) (g.O.Outside.outside c.disk.new.self)

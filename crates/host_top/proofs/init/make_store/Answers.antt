@@ -2,21 +2,19 @@ use Rattle.std.proofs.Common.{◌∙◌, [], ◌∷◌, refl}
 use Rattle.host_top.specs.Borrowed.{snap_in}
 use Rattle.host_top.proofs.InitLemmas.{no_stores, store_made, store_tried}
 use Rattle.host_top.proofs.LendingLemmas.{on_err}
-use Rattle.host_top.proofs.WordsLemmas.{words_of}
 use Rattle.host_top.proofs.init.make_store.Goals as goal
 
 pub returns-in_default-clause-err : goal.returns-in_default-clause-err
-returns-in_default-clause-err g c = no_stores (words_of g.O.Disk.Disk) (snap_in c.args.folder.now
+returns-in_default-clause-err g c = no_stores g.O.Disk.Disk (snap_in c.args.folder.now
     c.args.session ∷ []) _ _ (λ other. (refl, refl))
 
 pub returns-in_err-disk-clause-err : goal.returns-in_err-disk-clause-err
-returns-in_err-disk-clause-err g c = on_err c.from_residual.result _ (no_stores (words_of
-    g.O.Disk.Disk) (snap_in c.args.folder.now c.args.session ∷ []) (g.O.Outside.outside
-    c.args.outside.now)
+returns-in_err-disk-clause-err g c = on_err c.from_residual.result _ (no_stores g.O.Disk.Disk
+    (snap_in c.args.folder.now c.args.session ∷ []) (g.O.Outside.outside c.args.outside.now)
     (g.O.Outside.outside c.disk.new.self) c.in_err-disk.ensures.err)
 
 pub returns-clause-err : goal.returns-clause-err
-returns-clause-err g c = store_tried (words_of g.O.Disk.Disk) (snap_in c.args.folder.now
+returns-clause-err g c = store_tried g.O.Disk.Disk (snap_in c.args.folder.now
     c.args.session) c.deref.result.now c.deref-2.result.now
     c.in_ok-disk.disk c.make-made.new.disk
     (g.O.Outside.outside c.args.outside.now) (g.O.Outside.outside c.disk.new.self)
@@ -30,7 +28,7 @@ returns-clause-err g c = store_tried (words_of g.O.Disk.Disk) (snap_in c.args.fo
     })
 
 pub returns-in-Ok-made-clause-ok : goal.returns-in-Ok-made-clause-ok
-returns-in-Ok-made-clause-ok g c = store_made (words_of g.O.Disk.Disk) (snap_in c.args.folder.now
+returns-in-Ok-made-clause-ok g c = store_made g.O.Disk.Disk (snap_in c.args.folder.now
     c.args.session) c.deref.result.now c.deref-2.result.now
     c.in_ok-disk.disk c.make-made.new.disk
     (g.O.Outside.outside c.args.outside.now) (g.O.Outside.outside c.disk.new.self)

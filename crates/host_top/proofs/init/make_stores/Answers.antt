@@ -2,12 +2,11 @@ use Rattle.std.proofs.Common.{arith, refl}
 use Rattle.host_top.proofs.LoansLemmas.{doors_none, doors_then, files_then}
 use Rattle.host_top.proofs.InitLemmas.{stores_more, stores_none, stores_tried}
 use Rattle.host_top.proofs.LendingLemmas.{on_err}
-use Rattle.host_top.proofs.WordsLemmas.{words_of}
 use Rattle.host_top.proofs.init.make_stores.Goals as goal
 
 pub loop-session-init : goal.loop-session-init
 loop-session-init g c = record {
-  made = stores_none (words_of g.O.Disk.Disk) c.args.folder.now (g.O.Outside.outside
+  made = stores_none g.O.Disk.Disk c.args.folder.now (g.O.Outside.outside
       c.args.outside.now);
   later = omega arith;
   files = record { file = refl; faults = refl };
@@ -16,7 +15,7 @@ loop-session-init g c = record {
 
 pub loop-session-preserved : goal.loop-session-preserved
 loop-session-preserved g c = record {
-  made = stores_more (words_of g.O.Disk.Disk) c.args.folder.now c.loop-session.session
+  made = stores_more g.O.Disk.Disk c.args.folder.now c.loop-session.session
       (g.O.Outside.outside c.args.outside.now)
       (g.O.Outside.outside c.loop-session.outside) (g.O.Outside.outside c.make_store.new.outside)
       (omega (arith, c.loop-session-test.true)) c.loop-session.invariant.made
@@ -28,7 +27,7 @@ loop-session-preserved g c = record {
 
 pub returns-in_err-make_store-clause-err : goal.returns-in_err-make_store-clause-err
 returns-in_err-make_store-clause-err g c = on_err c.from_residual.result _
-    (stores_tried (words_of g.O.Disk.Disk) c.args.folder.now c.loop-session.session
+    (stores_tried g.O.Disk.Disk c.args.folder.now c.loop-session.session
     (g.O.Outside.outside c.args.outside.now)
     (g.O.Outside.outside c.loop-session.outside) (g.O.Outside.outside c.make_store.new.outside)
     (omega (arith, c.loop-session-test.true)) c.loop-session.invariant.made

@@ -5,7 +5,6 @@ use Rattle.host_top.specs.Borrowed.{Borrowed, lent_as}
 use Rattle.host_top.proofs.LoansLemmas.{doors_none, doors_then, files_then}
 use Rattle.host_top.proofs.LendingLemmas.{cause_failed, named_at, none_lent, puts_later, take_more}
 use Rattle.host_top.proofs.LendingLemmas.{take_not}
-use Rattle.host_top.proofs.WordsLemmas.{words_of}
 use Rattle.host_top.proofs.lending.take_all.Given.{Over}
 use Rattle.host_top.proofs.lending.take_all.Goals.{After-deref}
 use Rattle.host_top.proofs.lending.take_all.Goals as goal
@@ -34,7 +33,7 @@ pub put_all_back-requires-clause-lent : goal.put_all_back-requires-clause-lent
 put_all_back-requires-clause-lent g c = λ lifetimes within.
     let turn = (goal.at.put_all_back-requires-clause-lent g c).After-deref in
     let e = rw c.in-Err.is at c.take_one.ensures.err in
-    (take_not (words_of g.O.Disk.Disk) (g.O.Outside.outside c.args.outside.now)
+    (take_not g.O.Disk.Disk (g.O.Outside.outside c.args.outside.now)
     (g.O.Outside.outside c.loop-name.outside) (g.O.Outside.outside c.take_one.new.outside)
     (map string_bytes c.args.names.now) c.loop-name.disks.items c.take_one.new.disks.items
     c.deref.result.now c.requires.names (named g turn) c.loop-name.invariant.borrowed e).0
@@ -42,7 +41,7 @@ put_all_back-requires-clause-lent g c = λ lifetimes within.
 pub returns-in-Err-clause-err : goal.returns-in-Err-clause-err
 returns-in-Err-clause-err g c = let turn = (goal.at.returns-in-Err-clause-err g c).After-deref in
     let e = rw c.in-Err.is at c.take_one.ensures.err in
-    (take_not (words_of g.O.Disk.Disk) (g.O.Outside.outside c.args.outside.now)
+    (take_not g.O.Disk.Disk (g.O.Outside.outside c.args.outside.now)
     (g.O.Outside.outside c.loop-name.outside) (g.O.Outside.outside c.take_one.new.outside)
     (map string_bytes c.args.names.now) c.loop-name.disks.items c.take_one.new.disks.items
     c.deref.result.now c.requires.names (named g turn) c.loop-name.invariant.borrowed e).1
@@ -75,10 +74,10 @@ loop-name-preserved g c = let turn = (goal.at.loop-name-preserved g c).After-der
           ap length e.1 ∙ length-append old (e.0 ∷ [])
           ∙ ap (λ (n : ℕ). n + 1) c.loop-name.invariant.many;
       borrowed =
-          subst (λ (l : List g.row.O-Disk.Denot). Borrowed (words_of g.O.Disk.Disk)
+          subst (λ (l : List g.row.O-Disk.Denot). Borrowed g.O.Disk.Disk
           (g.O.Outside.outside c.args.outside.now) (g.O.Outside.outside c.take_one.new.outside)
           (lent_as ns l)) (sym e.1)
-          (take_more (words_of g.O.Disk.Disk) (g.O.Outside.outside c.args.outside.now)
+          (take_more g.O.Disk.Disk (g.O.Outside.outside c.args.outside.now)
           (g.O.Outside.outside c.loop-name.outside) (g.O.Outside.outside c.take_one.new.outside)
           ns old c.deref.result.now e.0 c.requires.names (named g turn)
           c.loop-name.invariant.borrowed e.2);

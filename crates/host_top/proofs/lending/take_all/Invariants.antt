@@ -1,13 +1,12 @@
 use Rattle.std.proofs.Common.{◌≡◌, length, map, string_bytes}
 use Rattle.host_top.specs.Borrowed.{Borrowed, lent_as}
 use Rattle.host_top.specs.Files.{KeepsDoors, KeepsFiles}
-use Rattle.host_top.proofs.WordsLemmas.{words_of}
 use Rattle.host_top.proofs.lending.take_all.Given as goal
 
 abbrev pub invariant-loop-name : goal.invariant-loop-name
 invariant-loop-name g l = record {
   many : length l.disks.items ≡ l.name-index;
-  borrowed : Borrowed (words_of g.O.Disk.Disk) (g.O.Outside.outside l.initial.outside)
+  borrowed : Borrowed g.O.Disk.Disk (g.O.Outside.outside l.initial.outside)
       (g.O.Outside.outside l.outside)
       (lent_as (map string_bytes l.names) l.disks.items);
   count : (g.O.Outside.outside l.outside).disk_faults

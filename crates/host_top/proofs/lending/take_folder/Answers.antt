@@ -2,7 +2,6 @@ use Rattle.std.proofs.Common.{[], map, string_bytes}
 use Rattle.host_top.proofs.LoansLemmas.{lent_nothing}
 use Rattle.host_top.proofs.FolderLemmas.{folder_taken, journal_alone, journal_lent}
 use Rattle.host_top.proofs.LendingLemmas.{on_err}
-use Rattle.host_top.proofs.WordsLemmas.{words_of}
 use Rattle.host_top.proofs.lending.take_folder.Goals as goal
 
 pub returns-in_err-journal-clause-err : goal.returns-in_err-journal-clause-err
@@ -10,7 +9,7 @@ returns-in_err-journal-clause-err g c = on_err c.from_residual.result _ (
   [],
   tt,
   (λ other away. tt),
-  lent_nothing (words_of g.O.Disk.Disk) _ _ c.in_err-journal.ensures.err,
+  lent_nothing g.O.Disk.Disk _ _ c.in_err-journal.ensures.err,
 )
 
 pub returns-in-Ok-clause-ok : goal.returns-in-Ok-clause-ok
@@ -19,7 +18,7 @@ returns-in-Ok-clause-ok g c =
     let lends = rw c.deref.ensures at c.in_ok-journal.ensures.ok in
     let given = rw c.deref.ensures at c.in_ok-journal.ensures.given in (
       taken.0,
-      folder_taken (words_of g.O.Disk.Disk) (string_bytes c.args.names.now.journal) (map
+      folder_taken g.O.Disk.Disk (string_bytes c.args.names.now.journal) (map
           string_bytes c.args.names.now.snaps.items)
           c.in_ok-journal.journal c.in-Ok.snaps.items
           (g.O.Outside.outside c.args.outside.now) (g.O.Outside.outside c.disk.new.self)
@@ -30,7 +29,7 @@ pub put_back-requires : goal.put_back-requires
 put_back-requires g c =
     let refused = rw c.deref-2.ensures.value at c.in-Err.ensures.err in
     let lends = rw c.deref.ensures at c.in_ok-journal.ensures.ok in
-    journal_lent (words_of g.O.Disk.Disk) (string_bytes c.args.names.now.journal)
+    journal_lent g.O.Disk.Disk (string_bytes c.args.names.now.journal)
     c.deref-in-Err.result.now
     (map string_bytes c.args.names.now.snaps.items) c.in_ok-journal.journal
     (g.O.Outside.outside c.args.outside.now) (g.O.Outside.outside c.disk.new.self)
@@ -43,7 +42,7 @@ returns-in-Err-clause-err g c =
     let refused = rw c.deref-2.ensures.value at c.in-Err.ensures.err in
     let lends = rw c.deref.ensures at c.in_ok-journal.ensures.ok in
     let given = rw c.deref.ensures at c.in_ok-journal.ensures.given in
-    journal_alone (words_of g.O.Disk.Disk) (string_bytes c.args.names.now.journal)
+    journal_alone g.O.Disk.Disk (string_bytes c.args.names.now.journal)
     c.deref-in-Err.result.now
     (map string_bytes c.args.names.now.snaps.items) c.in_ok-journal.journal
     (g.O.Outside.outside c.args.outside.now) (g.O.Outside.outside c.disk.new.self)

@@ -5,11 +5,10 @@ use Rattle.host_top.proofs.LoansLemmas.{keeps_none}
 use Rattle.host_top.proofs.UsedLemmas.{fits_so, folder_may, folder_names, folder_used, not_lent}
 use Rattle.host_top.proofs.UsedLemmas.{not_taken_as, sixty_four, short_names}
 use Rattle.host_top.proofs.BegunLemmas.{fetch_cause}
-use Rattle.host_top.proofs.WordsLemmas.{words_of}
 use Rattle.host_top.proofs.pipe.pipe.Goals as goal
 
 pub returns-in_default-clause-value : goal.returns-in_default-clause-value
-returns-in_default-clause-value g c = inl (not_lent (words_of g.O.Disk.Disk) (journal_in
+returns-in_default-clause-value g c = inl (not_lent g.O.Disk.Disk (journal_in
     c.args.folder.now ∷ snaps_below c.args.folder.now 64)
     (g.O.Outside.outside c.args.outside.now) (g.S.Source.source c.args.input.now) _)
 
@@ -23,10 +22,9 @@ take_folder-requires-clause-journal g c =
 
 pub returns-in-Err-clause-value : goal.returns-in-Err-clause-value
 returns-in-Err-clause-value g c =
-    inl (not_taken_as c.args.folder.now _ _ c.in-Ok.ensures.journal c.in-Ok.ensures.snaps (words_of
-    g.O.Disk.Disk) (g.O.Outside.outside c.args.outside.now) (g.O.Outside.outside
-    c.take_folder.new.outside)
-    (g.S.Source.source c.args.input.now) _ _
+    inl (not_taken_as c.args.folder.now _ _ c.in-Ok.ensures.journal c.in-Ok.ensures.snaps
+    g.O.Disk.Disk (g.O.Outside.outside c.args.outside.now)
+    (g.O.Outside.outside c.take_folder.new.outside) (g.S.Source.source c.args.input.now) _ _
     (fetch_cause c.in-Err.why _ (g.O.Outside.outside c.args.outside.now)
     (g.O.Outside.outside c.take_folder.new.outside) c.of_fetch.ensures c.in-Err.ensures.cause)
     c.in-Err.ensures.err)
@@ -54,7 +52,7 @@ put_folder_back-requires-clause-back g c =
 pub put_folder_back-requires-clause-lent : goal.put_folder_back-requires-clause-lent
 put_folder_back-requires-clause-lent g c =
     λ κ within. folder_may c.args.folder.now _ _ c.in-Ok.ensures.journal c.in-Ok.ensures.snaps
-    (words_of g.O.Disk.Disk) c.in-Ok-take_folder.disks.journal c.in-Ok-take_folder.disks.snaps.items
+    g.O.Disk.Disk c.in-Ok-take_folder.disks.journal c.in-Ok-take_folder.disks.snaps.items
     c.pipe_over-status.result.1 (g.O.Outside.outside c.args.outside.now)
     (g.O.Outside.outside c.take_folder.new.outside) (g.O.Outside.outside c.take_folder.new.outside)
     (c.in-Ok-take_folder.ensures.ok.0 ∙ short_names _) c.in-Ok-take_folder.ensures.ok.1
@@ -62,8 +60,8 @@ put_folder_back-requires-clause-lent g c =
 
 pub returns-clause-value : goal.returns-clause-value
 returns-clause-value g c =
-    inr (folder_used c.args.folder.now _ _ c.in-Ok.ensures.journal c.in-Ok.ensures.snaps (words_of
-    g.O.Disk.Disk) _ c.in-Ok-take_folder.disks.journal c.in-Ok-take_folder.disks.snaps.items
+    inr (folder_used c.args.folder.now _ _ c.in-Ok.ensures.journal c.in-Ok.ensures.snaps
+    g.O.Disk.Disk _ c.in-Ok-take_folder.disks.journal c.in-Ok-take_folder.disks.snaps.items
     c.pipe_over-status.result.1
     (g.O.Outside.outside c.args.outside.now) (g.O.Outside.outside c.take_folder.new.outside)
     (g.O.Outside.outside c.take_folder.new.outside)

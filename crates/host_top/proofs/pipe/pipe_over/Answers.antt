@@ -3,14 +3,13 @@ use Rattle.host_top.specs.Folder.{AreSame}
 use Rattle.host_top.proofs.ConversedLemmas.{conversed, same_back, same_stores, same_long}
 use Rattle.host_top.proofs.ConversedLemmas.{stores_back}
 use Rattle.host_top.proofs.UsedLemmas.{hosted_so}
-use Rattle.host_top.proofs.WordsLemmas.{words_of}
 use Rattle.host_top.proofs.pipe.pipe_over.Given.{Over}
 use Rattle.host_top.proofs.pipe.pipe_over.Goals.{After-end-journal}
 use Rattle.host_top.proofs.pipe.pipe_over.Goals as goal
 
 pub returns-in-Err-clause-value : goal.returns-in-Err-clause-value
 returns-in-Err-clause-value g c =
-    hosted_so (words_of g.D.Disk) _ _ c.args.disks.journal c.args.disks.snaps.items
+    hosted_so g.D.Disk _ _ c.args.disks.journal c.args.disks.snaps.items
     c.in-Err.refusal.1 _ _ _ _ _ (λ journal snaps none. absurd none)
     (c.in-Err.ensures.refused (g.S.Source.source c.args.input.now))
 
@@ -18,22 +17,22 @@ pub returns-clause-value : goal.returns-clause-value
 returns-clause-value g c = (
   c.answer_lines-served.result,
   c.of_served.ensures,
-  rw (← c.in-Ok.ensures.silent) (conversed (words_of g.D.Disk) _ _ _ _ _ _ _ _ _ _
+  rw (← c.in-Ok.ensures.silent) (conversed g.D.Disk _ _ _ _ _ _ _ _ _ _
       c.in-Ok.ensures.ok.2 c.end-journal.ensures.value c.answer_lines-served.ensures.holders _
       c.answer_lines-served.ensures.value c.in-Ok.ensures.ok.1 c.in-Ok.ensures.sound
-      (stores_back (words_of g.D.Disk) _ _ _ _ _ _ _ _ _ _ c.in-Ok.ensures.ok.2
+      (stores_back g.D.Disk _ _ _ _ _ _ _ _ _ _ c.in-Ok.ensures.ok.2
       c.end-journal.ensures.value c.in-Ok.ensures.stores c.end-journal.ensures.stores
       c.in-Ok.ensures.sound)),
 )
 
 stores_same : (g : Over) (c : After-end-journal g)
-    → AreSame (words_of g.D.Disk) c.args.disks.snaps.items c.end-journal.result.1.items
-stores_same g c = same_stores (words_of g.D.Disk) _ _ _ _ _ _ _ _ _ _ c.in-Ok.ensures.ok.2
+    → AreSame g.D.Disk c.args.disks.snaps.items c.end-journal.result.1.items
+stores_same g c = same_stores g.D.Disk _ _ _ _ _ _ _ _ _ _ c.in-Ok.ensures.ok.2
     c.end-journal.ensures.value c.in-Ok.ensures.stores c.end-journal.ensures.stores
 
 pub returns-clause-kept : goal.returns-clause-kept
 returns-clause-kept g c = (
-  same_back (words_of g.D.Disk) _ _ c.args.disks.snaps.items _ _ _ _ _ _ _
+  same_back g.D.Disk _ _ c.args.disks.snaps.items _ _ _ _ _ _ _
       c.in-Ok.ensures.ok.2 c.end-journal.ensures.value,
   stores_same g (goal.at.returns-clause-kept g c).After-end-journal,
 )
@@ -41,7 +40,7 @@ returns-clause-kept g c = (
 pub returns-clause-fits : goal.returns-clause-fits
 returns-clause-fits g c = omega (
   arith,
-  same_long (words_of g.D.Disk) c.args.disks.snaps.items c.end-journal.result.1.items
+  same_long g.D.Disk c.args.disks.snaps.items c.end-journal.result.1.items
       (stores_same g (goal.at.returns-clause-fits g c).After-end-journal),
   c.requires.many,
 )

@@ -1,18 +1,7 @@
--- The disks of a type, as clauses pass them on (own).
-use Rattle.std.specs.Prelude.{ℕ, Bool, IsTrue, List, []}
+-- What the bytes of a disk have, by what is told of it (own).
+use Rattle.std.specs.Prelude.{ℕ, IsTrue, List, []}
+use Rattle.disk_model.specs.declared.disk.Disk.{Ghosts as DiskWords}
 use Rattle.host_top.specs.Files.{Told, Untold, Missing, There}
-
--- what is known of the disks of a type
-pub record DiskWords (D : Type 0) : Type 1 where
-  pub tells : D → Bool
-  pub seen : D → List ℕ
-  pub may_leave : D → List ℕ → Type 0
-  pub moment : D → ℕ
-  pub left_since : D → ℕ → List ℕ → Type 0
-  pub faults : D → ℕ
-  pub reach : D → ℕ
-  pub room : D → ℕ
-  pub label : D → ℕ
 
 -- the bytes of a disk that is told have P; where there is told to be none, no bytes have
 abbrev pub BytesHave : {D : Type 0} → (D → List ℕ) → Told D → (List ℕ → Type 0) → Type 0
