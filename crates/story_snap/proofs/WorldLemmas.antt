@@ -18,7 +18,6 @@ use Rattle.snap_glk.specs.Told.{glk_fields}
 use Rattle.snap_glk.specs.declared.fields.GlkFields.{GlkFields}
 use Rattle.snap_glk.proofs.BackLemmas as glk
 use Rattle.snap_machine.specs.Fields.{fields_with}
-use Rattle.snap_machine.specs.Laws.{IsGivenBack}
 use Rattle.snap_machine.specs.Parts.{machine_parts, store}
 use Rattle.snap_machine.specs.declared.parts.MachineParts.{MachineParts}
 use Rattle.snap_machine.proofs.GiveLemmas as machine

@@ -3,12 +3,12 @@
 ghost use Rattle.std.specs.Prelude.{◌≡◌, IfOk, IfSome, IsSome, Some};
 ghost use Rattle.story_run.specs.World.{WorldState};
 ghost use Rattle.story_snap.specs.Bytes.{IsWorldOf};
-ghost use Rattle.story_snap.specs.Fields.{fields_of};
+ghost use Rattle.story_snap.specs.Fields.{all_fields, fields_of};
 ghost use Rattle.story_snap.specs.Made as spec;
 
 use glk_dispatch::Prompt;
 use glulx_image::Image;
-use snap_fields::{Fields, Waiting};
+use snap_fields::{Fields, Setup, Waiting};
 use snap_glk::{GlkFields, glk_of};
 use snap_machine::{MachineParts, machine_fields_of};
 use std::alloc::{AllocError, Global};
@@ -67,6 +67,40 @@ fn stage_made<'i>(
     }
 }
 
+// The world of the story that has these parts of fields.
+fn world_of_parts<'i>(
+    alloc: Global,
+    setup: Setup,
+    parts: &MachineParts,
+    waiting: Waiting,
+    glk_fields: &GlkFields,
+    last: Bytes,
+    story: &Story<'i>,
+) -> Result<Option<World<'i>>, AllocError>
+    ensures value { IfOk result (λ made. IfSome made (λ world.
+        spec.world_made story.now.image
+        (all_fields setup parts.now waiting glk_fields.now last) ≡ Some world)) }
+    ensures found { (w : WorldState) → IsWorldOf story.now.image w
+        → all_fields setup parts.now waiting glk_fields.now last ≡ fields_of w
+        → IfOk result (λ made. IsSome made) }
+{
+    let (event, prompt) = (event_in(waiting), prompt_in(waiting));
+    let Some(glk) = glk_of(alloc, setup.cols, setup.rows, event, prompt, glk_fields)? else {
+        return Ok(None);
+    };
+    let Some(stage) = stage_made(alloc, &story.image, setup.seed, parts, waiting)? else {
+        return Ok(None);
+    };
+    let fields = WorldFields {
+        seed: setup.seed,
+        budget: setup.budget,
+        glk,
+        stage,
+        last,
+    };
+    World::of_fields(alloc, story, fields)
+}
+
 /// The world of the story that has these fields. None where the story can have none. The error is
 /// want of memory.
 pub fn world_made<'i>(
@@ -79,46 +113,27 @@ pub fn world_made<'i>(
     ensures found { (w : WorldState) → IsWorldOf story.now.image w
         → fields ≡ fields_of w → IfOk result (λ made. IsSome made) }
 {
-    let Fields {
-        setup,
-        machine,
-        settings,
-        random,
-        undo,
-        waiting,
-        numbers,
-        windows,
-        streams,
-        filerefs,
-        files,
-        show,
-    } = fields;
     let parts = MachineParts {
-        machine,
-        settings,
-        random,
-        undo,
+        machine: fields.machine,
+        settings: fields.settings,
+        random: fields.random,
+        undo: fields.undo,
     };
-    let Some(stage) = stage_made(alloc, &story.image, setup.seed, &parts, waiting)? else {
-        return Ok(None);
+    let glk_fields = GlkFields {
+        numbers: fields.numbers,
+        windows: fields.windows,
+        streams: fields.streams,
+        filerefs: fields.filerefs,
+        files: fields.files,
     };
-    let fields = GlkFields {
-        numbers,
-        windows,
-        streams,
-        filerefs,
-        files,
-    };
-    let (event, prompt) = (event_in(waiting), prompt_in(waiting));
-    let Some(glk) = glk_of(alloc, setup.cols, setup.rows, event, prompt, &fields)? else {
-        return Ok(None);
-    };
-    let fields = WorldFields {
-        seed: setup.seed,
-        budget: setup.budget,
-        glk,
-        stage,
-        last: Bytes::of(show.into_vec()),
-    };
-    World::of_fields(alloc, story, fields)
+    let last = Bytes::of(fields.show.into_vec());
+    world_of_parts(
+        alloc,
+        fields.setup,
+        &parts,
+        fields.waiting,
+        &glk_fields,
+        last,
+        story,
+    )
 }

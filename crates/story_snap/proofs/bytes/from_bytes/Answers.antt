@@ -1,5 +1,4 @@
 use Rattle.std.proofs.Common.{◌≡◌, ◌∙◌, rules, subst, sym, true, false, List, ℕ, Some}
-use Rattle.story_run.specs.World.{WorldState}
 use Rattle.story_snap.specs.Bytes.{HasBytes}
 use Rattle.story_snap.specs.Made.{world_made}
 use Rattle.story_snap.proofs.WorldLemmas.{fields-of-bytes, made-is, same-bytes, over-image}
