@@ -27,6 +27,9 @@ pub fn machine_fields_of<'i>(
     ensures value { IfOk result (λ fields.
         fields ≡ spec.fields_with image.now seed parts.now store) }
 {
+    let Some(store) = dest_of(store) else {
+        return Ok(None);
+    };
     let place = &parts.machine;
     let Some(memory) = memory_of(alloc, place.memory.as_slice(), image)? else {
         return Ok(None);
@@ -38,9 +41,6 @@ pub fn machine_fields_of<'i>(
         return Ok(None);
     };
     let Some(undo) = undo_of(alloc, parts.undo.as_slice(), image)? else {
-        return Ok(None);
-    };
-    let Some(store) = dest_of(store) else {
         return Ok(None);
     };
     let (settings, random) = (parts.settings, parts.random);
