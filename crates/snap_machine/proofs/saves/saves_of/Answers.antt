@@ -1,4 +1,4 @@
-use Rattle.std.proofs.Common.{rules}
+use Rattle.std.proofs.Common.{rules, ◌∙◌, ◌++◌, ◌∷◌, [], ap}
 use Rattle.quetzal.specs.Save.{canon}
 use Rattle.snap_machine.specs.Laws.{StateHasRom}
 use Rattle.snap_machine.proofs.SaveLemmas.{all_more, all_same, saved_more, saved_same}
@@ -14,7 +14,10 @@ loop-index-preserved c =
         sofar =
             saved_more (canon c.args.image.now)
             states at w.in-Some.state.now c.loop-index.saves.items c.match-state.saves.items
-            (search rules) (search rules) c.loop-index.invariant.sofar;
+            (search rules)
+            (ap (λ v. v.items) w.saves-is ∙ w.in_ok-push.ensures.items
+            ∙ ap (λ s. c.loop-index.saves.items ++ s ∷ []) w.in_ok-save_of.ensures.value)
+            c.loop-index.invariant.sofar;
         kept =
             all_more StateHasRom states at w.in-Some.state.now
             (search rules) w.save_of.ensures.kept c.loop-index.invariant.kept;
