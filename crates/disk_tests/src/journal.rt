@@ -109,14 +109,19 @@ fn gate_left(alloc: Global, fails: u64, choice: u64) -> Result<u8, Fail> {
     Ok(tail(&mut left, 76)?[0])
 }
 
+// The refusal of the journal on a disk.
+fn refused(alloc: Global, disk: MemDisk) -> Option<JournalFault> {
+    match Journal::open(alloc, disk) {
+        Ok(_) => None,
+        Err((fault, _)) => Some(fault),
+    }
+}
+
 // The refusal of the journal of two rows, after this byte is put at this place.
 fn spoiled(alloc: Global, place: u64, byte: u8) -> Result<Option<JournalFault>, Fail> {
     let mut disk = Box::into_inner(two_rows(alloc, 1000)?).into_disk();
     disk.write_at(place, &[byte]).ok().ok_or("write")?;
-    Ok(match Journal::open(alloc, disk) {
-        Ok(_) => None,
-        Err((fault, _)) => Some(fault),
-    })
+    Ok(refused(alloc, disk))
 }
 
 #[test]
@@ -141,25 +146,38 @@ fn a_line_is_copied(rt: HostRuntime) -> Result<(), Fail> {
     Ok(())
 }
 
+// The disk of a journal whose LINE ends at 76.
+fn with_line(alloc: Global) -> Result<MemDisk, Fail> {
+    let mut journal = begun(alloc, 1000)?;
+    if line_added(alloc, &mut journal)? != Ok(76) {
+        return Err("the LINE".into());
+    }
+    Ok(Box::into_inner(journal).into_disk())
+}
+
+const LINE: [u8; 16] = [1, 0, 2, 0, 10, 0, 0, 0, 1, 0, 0, 0, 0, 0x67, 0x6F, 0];
+
+// Whether the LINE is the last of 92 bytes.
+fn has_line(disk: &mut MemDisk) -> Result<bool, Fail> {
+    Ok(disk.size() == Ok(92) && tail(disk, 76)? == LINE)
+}
+
 #[test]
 fn a_journal_of_two_rows_has_these_bytes(rt: HostRuntime) -> Result<(), Fail> {
-    let mut journal = begun(rt.alloc(), 1000)?;
-    assert_eq!(rt; line_added(rt.alloc(), &mut journal)?, Ok(76));
-    let mut disk = Box::into_inner(journal).into_disk();
-    assert_eq!(rt; disk.size(), Ok(92));
-    assert_eq!(rt;
-        tail(&mut disk, 76)?,
-        [1, 0, 2, 0, 10, 0, 0, 0, 1, 0, 0, 0, 0, 0x67, 0x6F, 0]
-    );
+    let mut disk = with_line(rt.alloc())?;
+    assert!(rt; has_line(&mut disk)?);
     Ok(())
+}
+
+// Whether an empty disk is begun with 17 bytes, once.
+fn begins_once(disk: &mut MemDisk) -> bool {
+    init(disk) == Ok(()) && disk.size() == Ok(17) && init(disk) == Err(InitFault::NotEmpty)
 }
 
 #[test]
 fn a_new_journal_has_17_bytes(rt: HostRuntime) {
     let mut disk = MemDisk::new(rt.alloc());
-    assert_eq!(rt; init(&mut disk), Ok(()));
-    assert_eq!(rt; disk.size(), Ok(17));
-    assert_eq!(rt; init(&mut disk), Err(InitFault::NotEmpty));
+    assert!(rt; begins_once(&mut disk));
 }
 
 // A byte put at a place, and the refusal that follows.
@@ -188,37 +206,56 @@ const LEFT: [(u64, Option<u64>); 5] = [
     (1000, Some(2)),
 ];
 
+// Whether a stop leaves so many rows, or as many as the gate says.
+fn leaves(alloc: Global, fails: u64, rows: Option<u64>, choice: u64) -> Result<bool, Fail> {
+    let by_gate = if gate_left(alloc, fails, choice)? == 1 {
+        2
+    } else {
+        1
+    };
+    Ok(rows_left(alloc, fails, choice)? == rows.unwrap_or(by_gate))
+}
+
 #[test]
 fn a_stop_in_an_append_leaves_the_rows_before_or_one_more(rt: HostRuntime) -> Result<(), Fail> {
     for choice in 0..32 {
         for (fails, rows) in LEFT {
-            let by_gate = if gate_left(rt.alloc(), fails, choice)? == 1 {
-                2
-            } else {
-                1
-            };
-            assert_eq!(rt;
-                rows_left(rt.alloc(), fails, choice)?,
-                rows.unwrap_or(by_gate)
-            );
+            assert!(rt; leaves(rt.alloc(), fails, rows, choice)?);
         }
     }
     Ok(())
+}
+
+// Whether the LINE's append tells of a fault, and an OPEN behind it takes its place.
+fn takes_its_place(alloc: Global, journal: &mut Journal<MemDisk>) -> Result<bool, Fail> {
+    let line = line_added(alloc, journal)?;
+    let command = opening(alloc)?;
+    let opened = added(alloc, journal, 1, &command)?;
+    Ok(line == Err(DiskFault { from: 0, to: 1 }) && opened == Ok(76))
+}
+
+// Whether it has two rows, of the sessions 0 and 1.
+fn has_both(journal: &Journal<MemDisk>) -> bool {
+    journal.row_count() == 2
+        && matches!(journal.row(0), Some(row) if row.session == 0)
+        && matches!(journal.row(1), Some(row) if row.session == 1)
+}
+
+// Whether that is so, and a stop leaves both rows.
+fn leaves_both(alloc: Global, choice: u64) -> Result<bool, Fail> {
+    let mut journal = begun(alloc, 13)?;
+    if !takes_its_place(alloc, &mut journal)? {
+        return Ok(false);
+    }
+    let journal = stopped(alloc, journal, choice)?;
+    Ok(has_both(&journal))
 }
 
 // The LINE's second sync failed, then session 1 is opened, then the journal stops.
 #[test]
 fn a_fault_of_the_second_sync_is_repaired(rt: HostRuntime) -> Result<(), Fail> {
     for choice in 0..32 {
-        let mut journal = begun(rt.alloc(), 13)?;
-        let line = line_added(rt.alloc(), &mut journal)?;
-        assert_eq!(rt; line, Err(DiskFault { from: 0, to: 1 }));
-        let command = opening(rt.alloc())?;
-        assert_eq!(rt; added(rt.alloc(), &mut journal, 1, &command)?, Ok(76));
-        let journal = stopped(rt.alloc(), journal, choice)?;
-        assert_eq!(rt; journal.row_count(), 2);
-        assert!(rt; matches!(journal.row(0), Some(row) if row.session == 0));
-        assert!(rt; matches!(journal.row(1), Some(row) if row.session == 1));
+        assert!(rt; leaves_both(rt.alloc(), choice)?);
     }
     Ok(())
 }

@@ -4,6 +4,7 @@ ghost use Rattle.std.specs.Prelude.{◌≡◌, ◌<◌};
 
 use glk_dispatch::{Called, Glk, answer, call};
 use glk_input::Input;
+use glk_streams::FileRef;
 use std::alloc::Global;
 use std::test::Fail;
 use story_text::read_escaped;
@@ -13,18 +14,41 @@ use vm_stack::Stack;
 // 1,024 bytes, of which those from 256 on can be written.
 const ROM: [u8; 256] = [0; 256];
 
-fn memory_of(alloc: Global) -> Result<Memory<'static>, Fail> {
-    let mut memory = Memory::new(alloc, &ROM, 256, 1024)?;
-    // the string `ab` at 512, and the Unicode string `c` at 520
+// Whether the string `ab` is written at 512, and the Unicode string `c` at 520.
+fn takes_strings(memory: &mut Memory<'_>) -> bool {
     for (at, word) in [
         (512, 0xE061_6200),
         (520, 0xE200_0000),
         (524, 0x63),
         (528, 0),
     ] {
-        memory.write4(at, word).ok().ok_or("RAM")?;
+        if memory.write4(at, word).is_err() {
+            return false;
+        }
+    }
+    true
+}
+
+fn memory_of(alloc: Global) -> Result<Memory<'static>, Fail> {
+    let mut memory = Memory::new(alloc, &ROM, 256, 1024)?;
+    if !takes_strings(&mut memory) {
+        return Err("RAM".into());
     }
     Ok(memory)
+}
+
+// A stack with a frame.
+fn stack_of(alloc: Global) -> Result<Stack, Fail> {
+    let mut stack = Stack::with_size(alloc, 512)?;
+    stack.enter(&[0, 0]).ok().ok_or("a frame")?;
+    Ok(stack)
+}
+
+fn held_of(alloc: Global) -> Result<Held, Fail> {
+    let stack = stack_of(alloc)?;
+    let memory = memory_of(alloc)?;
+    let glk = Glk::new(alloc, 80, 24)?;
+    Ok(Held { glk, memory, stack })
 }
 
 /// A Glk state with its story's memory and stack, in one box: a test has one thing to let go.
@@ -42,13 +66,7 @@ struct Held {
 
 impl Desk {
     fn new(alloc: Global) -> Result<Desk, Fail> {
-        let mut stack = Stack::with_size(alloc, 512)?;
-        stack.enter(&[0, 0]).ok().ok_or("a frame")?;
-        let held = Held {
-            glk: Glk::new(alloc, 80, 24)?,
-            memory: memory_of(alloc)?,
-            stack,
-        };
+        let held = held_of(alloc)?;
         Ok(Desk {
             held: Box::new(alloc, held)?,
         })
@@ -226,97 +244,128 @@ const EACH: &[(u32, &[u32], Result<Called, Trap>)] = &[
     (0x01, &[], Ok(Called::Exit)),
 ];
 
+// The first of these calls, on a new desk, that is answered otherwise.
+fn first_of(
+    alloc: Global,
+    rows: &[(u32, &[u32], Result<Called, Trap>)],
+) -> Result<Option<usize>, Fail> {
+    let mut desk = Desk::new(alloc)?;
+    desk.first_unwanted(alloc, rows)
+}
+
 #[test]
 fn each_selector_does_its_work(rt: HostRuntime) -> Result<(), Fail> {
-    let alloc = rt.alloc();
-    let mut desk = Desk::new(alloc)?;
-    let unwanted = desk.first_unwanted(alloc, EACH)?;
+    let unwanted = first_of(rt.alloc(), EACH)?;
     assert_eq!(rt; unwanted, None);
     Ok(())
+}
+
+const FAULTS: &[(u32, &[u32], Result<Called, Trap>)] = &[
+    (0x22, &[0], Err(Trap::Fault(22))),
+    (0x21, &[1], Err(Trap::Fault(21))),
+    (0x23, &[1, 0, 0, 3, 0], Err(Trap::Fault(21))),
+    (0x24, &[1, 1], Err(Trap::Fault(21))),
+    (0x84, &[1024, 1], Err(Trap::Fault(1))),
+    (0x82, &[513], Err(Trap::Fault(15))),
+    (0x43, &[256, 4, 5, 0], Err(Trap::Fault(22))),
+    (0x61, &[0, 520, 0], Err(Trap::Fault(15))),
+    (0x151, &[1, 0, 14], Err(Trap::Fault(21))),
+    (0x120, &[524, 1, 2], Err(Trap::Fault(22))),
+];
+
+// Whether no selector is told though nothing is there, and too few values before a wrong count.
+fn are_early(alloc: Global, desk: &mut Desk) -> bool {
+    desk.call(alloc, 0x99, 7) == Err(Trap::Fault(20))
+        && desk.call(alloc, 0x21, 2) == Err(Trap::Fault(4))
+        && desk.call(alloc, 0xE0, 1) == Err(Trap::Fault(4))
+}
+
+// The first of the other faults that is another, where these are told.
+fn first_other(alloc: Global) -> Result<Option<usize>, Fail> {
+    let mut desk = Desk::new(alloc)?;
+    if !are_early(alloc, &mut desk) {
+        return Err("the early faults".into());
+    }
+    desk.first_unwanted(alloc, FAULTS)
 }
 
 #[test]
 fn faults_come_in_their_order(rt: HostRuntime) -> Result<(), Fail> {
-    let alloc = rt.alloc();
-    let mut desk = Desk::new(alloc)?;
-    // no selector, though nothing is there; too few values before a wrong count
-    let early = [
-        desk.call(alloc, 0x99, 7),
-        desk.call(alloc, 0x21, 2),
-        desk.call(alloc, 0xE0, 1),
-    ];
-    assert!(rt;
-        early
-            == [
-                Err(Trap::Fault(20)),
-                Err(Trap::Fault(4)),
-                Err(Trap::Fault(4))
-            ]
-    );
-    let rows: &[(u32, &[u32], Result<Called, Trap>)] = &[
-        (0x22, &[0], Err(Trap::Fault(22))),
-        (0x21, &[1], Err(Trap::Fault(21))),
-        (0x23, &[1, 0, 0, 3, 0], Err(Trap::Fault(21))),
-        (0x24, &[1, 1], Err(Trap::Fault(21))),
-        (0x84, &[1024, 1], Err(Trap::Fault(1))),
-        (0x82, &[513], Err(Trap::Fault(15))),
-        (0x43, &[256, 4, 5, 0], Err(Trap::Fault(22))),
-        (0x61, &[0, 520, 0], Err(Trap::Fault(15))),
-        (0x151, &[1, 0, 14], Err(Trap::Fault(21))),
-        (0x120, &[524, 1, 2], Err(Trap::Fault(22))),
-    ];
-    let unwanted = desk.first_unwanted(alloc, rows)?;
+    let unwanted = first_other(rt.alloc())?;
     assert_eq!(rt; unwanted, None);
     Ok(())
 }
 
-#[test]
-fn a_memory_stream_counts_what_it_drops(rt: HostRuntime) -> Result<(), Fail> {
-    let alloc = rt.alloc();
-    let mut desk = Desk::new(alloc)?;
-    desk.held.memory.write4(600, 0x6162_6364).ok().ok_or("RAM")?;
-    let rows: &[(u32, &[u32], Result<Called, Trap>)] = &[
-        (0x43, &[0x100, 3, 1, 0], Ok(Called::Value(1))),
-        (0x85, &[1, 600, 4], Ok(Called::Value(0))),
-    ];
-    let unwanted = desk.first_unwanted(alloc, rows)?;
-    assert_eq!(rt; unwanted, None);
-    // counts 0 and 4 on the stack, the last on top; `abc` in the array
+const WRITTEN: &[(u32, &[u32], Result<Called, Trap>)] = &[
+    (0x43, &[0x100, 3, 1, 0], Ok(Called::Value(1))),
+    (0x85, &[1, 600, 4], Ok(Called::Value(0))),
+];
+
+// Whether the stream's counts are 0 and 4, on the stack with the last on top, and `abc` is in the
+// array.
+fn counts_four(alloc: Global, desk: &mut Desk) -> Result<bool, Fail> {
     let closed = desk.run(alloc, 0x44, &[1, 0xFFFF_FFFF])?;
     let held = &desk.held;
-    assert!(rt;
+    Ok(
         closed == Ok(Called::Value(0))
             && held.stack.peek(0) == Ok(4)
             && held.stack.peek(1) == Ok(0)
             && held.memory.read4(0x100) == Ok(0x6162_6300)
-            && held.glk.chars() == 4
-    );
+            && held.glk.chars() == 4,
+    )
+}
+
+// The same of a stream to which `abcd` is written.
+fn drops_and_counts(alloc: Global, desk: &mut Desk) -> Result<bool, Fail> {
+    let is_put = desk.held.memory.write4(600, 0x6162_6364).is_ok();
+    let unwanted = desk.first_unwanted(alloc, WRITTEN)?;
+    Ok(is_put && unwanted.is_none() && counts_four(alloc, desk)?)
+}
+
+#[test]
+fn a_memory_stream_counts_what_it_drops(rt: HostRuntime) -> Result<(), Fail> {
+    let mut desk = Desk::new(rt.alloc())?;
+    assert!(rt; drops_and_counts(rt.alloc(), &mut desk)?);
     Ok(())
+}
+
+const ASKED: &[(u32, &[u32], Result<Called, Trap>)] = &[
+    (0x23, &[0, 0, 0, 3, 0], Ok(Called::Value(1))),
+    (0xD0, &[1, 700, 2, 0], Ok(Called::Value(0))),
+    (0xC0, &[256], Ok(Called::Wait)),
+];
+
+// The line `abc` for the first window.
+fn line_of(alloc: Global) -> Result<Input, Fail> {
+    let text = read_escaped(alloc, b"=abc").ok().ok_or("a text")?;
+    Ok(Input::Line {
+        win: 1,
+        text,
+        key: 0,
+    })
+}
+
+// Whether the line is told by an event and in its array, and shown.
+fn takes_line(alloc: Global, desk: &mut Desk, line: &Input) -> bool {
+    desk.held.glk.begin_turn();
+    // the event: 3, the window, the length, and no terminator; and what is shown of the line
+    desk.answer(alloc, line) == Some(Ok(0))
+        && desk.has(&[(256, 3), (260, 1), (264, 2), (268, 0), (700, 0x6162_0000)])
+        && is_shown(&desk.held.glk)
+        && desk.held.glk.chars() == 0
+}
+
+// The same where a line of two characters is asked for.
+fn takes_line_asked(alloc: Global, desk: &mut Desk) -> Result<bool, Fail> {
+    let unwanted = desk.first_unwanted(alloc, ASKED)?;
+    let line = line_of(alloc)?;
+    Ok(unwanted.is_none() && takes_line(alloc, desk, &line))
 }
 
 #[test]
 fn a_line_is_shown_and_told(rt: HostRuntime) -> Result<(), Fail> {
-    let alloc = rt.alloc();
-    let mut desk = Desk::new(alloc)?;
-    let rows: &[(u32, &[u32], Result<Called, Trap>)] = &[
-        (0x23, &[0, 0, 0, 3, 0], Ok(Called::Value(1))),
-        (0xD0, &[1, 700, 2, 0], Ok(Called::Value(0))),
-        (0xC0, &[256], Ok(Called::Wait)),
-    ];
-    let unwanted = desk.first_unwanted(alloc, rows)?;
-    assert_eq!(rt; unwanted, None);
-    desk.held.glk.begin_turn();
-    let text = read_escaped(alloc, b"=abc").ok().ok_or("a text")?;
-    let line = Input::Line {
-        win: 1,
-        text,
-        key: 0,
-    };
-    let given = desk.answer(alloc, &line);
-    assert!(rt; given == Some(Ok(0)));
-    // the event: 3, the window, the length, and no terminator; and what is shown of the line
-    let is_told = desk.has(&[(256, 3), (260, 1), (264, 2), (268, 0), (700, 0x6162_0000)]);
-    assert!(rt; is_told && is_shown(&desk.held.glk) && desk.held.glk.chars() == 0);
+    let mut desk = Desk::new(rt.alloc())?;
+    assert!(rt; takes_line_asked(rt.alloc(), &mut desk)?);
     Ok(())
 }
 
@@ -328,20 +377,52 @@ fn is_shown(glk: &Glk) -> bool {
     }
 }
 
+// The file that these words name.
+fn named(alloc: Global, word: &[u8]) -> Result<Input, Fail> {
+    let name = read_escaped(alloc, word).ok().ok_or("a text")?;
+    Ok(Input::File { name })
+}
+
+// Whether a prompt in this mode, of which the word is the answer, gives this reference.
+fn takes_name(
+    alloc: Global,
+    desk: &mut Desk,
+    mode: u32,
+    word: &[u8],
+    fref: u32,
+) -> Result<bool, Fail> {
+    let asked = desk.run(alloc, 0x62, &[1, mode, 0])?;
+    let name = named(alloc, word)?;
+    let given = desk.answer(alloc, &name);
+    Ok(asked == Ok(Called::Prompt) && given == Some(Ok(fref)))
+}
+
+// Whether each reference is to the file `ab`.
+fn are_ab(refs: &[FileRef]) -> bool {
+    for fref in refs {
+        if fref.name.as_str() != "ab" {
+            return false;
+        }
+    }
+    true
+}
+
+// Modes, names and references. An empty name cancels; a file that is to be read must be there.
+const NAMES: &[(u32, &[u8], u32)] = &[(1, b"=", 0), (2, b"=x", 0), (1, b"=a/b.c", 1)];
+
+// Whether each name is taken so.
+fn takes_names(alloc: Global, desk: &mut Desk) -> Result<bool, Fail> {
+    for (mode, word, fref) in NAMES {
+        if !takes_name(alloc, desk, *mode, word, *fref)? {
+            return Ok(false);
+        }
+    }
+    Ok(are_ab(desk.held.glk.streams.refs()))
+}
+
 #[test]
 fn a_prompt_takes_a_name(rt: HostRuntime) -> Result<(), Fail> {
-    let alloc = rt.alloc();
-    let mut desk = Desk::new(alloc)?;
-    // an empty name cancels; a file that is to be read must be there
-    let rows: &[(u32, &[u8], u32)] = &[(1, b"=", 0), (2, b"=x", 0), (1, b"=a/b.c", 1)];
-    for (mode, name, fref) in rows {
-        let asked = desk.run(alloc, 0x62, &[1, *mode, 0])?;
-        let name = read_escaped(alloc, name).ok().ok_or("a text")?;
-        let given = desk.answer(alloc, &Input::File { name });
-        assert!(rt; asked == Ok(Called::Prompt) && given == Some(Ok(*fref)));
-    }
-    for fref in desk.held.glk.streams.refs() {
-        assert!(rt; fref.name.as_str() == "ab");
-    }
+    let mut desk = Desk::new(rt.alloc())?;
+    assert!(rt; takes_names(rt.alloc(), &mut desk)?);
     Ok(())
 }

@@ -12,15 +12,20 @@ impl Numbered for Item {
     }
 }
 
+// Whether 1, 4 and 9 are found, and other numbers aren't.
+fn are_found(items: &[Item]) -> bool {
+    is_live(items, 4)
+        && !is_live(items, 5)
+        && next_above(items, 0) == 1
+        && next_above(items, 4) == 9
+        && next_above(items, 9) == 0
+        && place_of(items, 9) == Some(2)
+        && place_of(items, 2) == None
+}
+
 #[test]
 fn values_are_found_by_number(rt: HostRuntime) {
     let items = [Item(1), Item(4), Item(9)];
-    assert!(rt; is_live(&items, 4));
-    assert!(rt; !is_live(&items, 5));
-    assert!(rt; next_above(&items, 0) == 1);
-    assert!(rt; next_above(&items, 4) == 9);
-    assert!(rt; next_above(&items, 9) == 0);
-    assert!(rt; place_of(&items, 9) == Some(2));
-    assert!(rt; place_of(&items, 2) == None);
+    assert!(rt; are_found(&items));
     next_is_least(&items, 4);
 }

@@ -79,6 +79,17 @@ fn talk(
     Ok((ended, written, lengths))
 }
 
+// The same of four lines, the last without an end, where these reads and writes fail.
+fn left_of(
+    alloc: Global,
+    reads: &[u64],
+    writes: &[u64],
+) -> Result<(Ended, Vec<u8>, Vec<usize>), AllocError> {
+    let reads = reads.to_vec(alloc)?;
+    let writes = writes.to_vec(alloc)?;
+    talk(alloc, b"one\n\nand\nmore", 2, reads, writes)
+}
+
 #[test]
 fn each_line_of_a_link_is_answered_in_its_order(rt: HostRuntime) -> Result<(), Fail> {
     let alloc = rt.alloc();
@@ -89,12 +100,10 @@ fn each_line_of_a_link_is_answered_in_its_order(rt: HostRuntime) -> Result<(), F
         (&[], &[1], Ended::WriteFault, b"on", &[3]),
     ];
     for (reads, writes, ended, written, lengths) in rows {
-        let reads = reads.to_vec(alloc)?;
-        let writes = writes.to_vec(alloc)?;
-        let left = talk(alloc, b"one\n\nand\nmore", 2, reads, writes)?;
-        assert!(rt; left.0 == ended);
-        assert!(rt; left.1.as_slice() == written);
-        assert!(rt; left.2.as_slice() == lengths);
+        let left = left_of(alloc, reads, writes)?;
+        assert!(rt;
+            left.0 == ended && left.1.as_slice() == written && left.2.as_slice() == lengths
+        );
     }
     Ok(())
 }

@@ -3,7 +3,7 @@
 use crate::memory::filled;
 use crate::stack;
 use crate::stack::{Answer, answers, sized};
-use std::alloc::Global;
+use std::alloc::{AllocError, Global};
 use std::test::Fail;
 use vm_flow::{FlowStop, call, catch, give_back, tail_call, throw};
 use vm_memory::{MemFault, Memory};
@@ -53,6 +53,17 @@ fn plays(alloc: Global, stack: &mut Stack, file: &[u8], rows: &[Row]) -> Result<
     Ok(runs(alloc, &memory, stack, rows))
 }
 
+// Whether they are, and those of the stack then.
+fn plays_and_answers(
+    alloc: Global,
+    stack: &mut Stack,
+    file: &[u8],
+    rows: &[Row],
+    then: &[stack::Row],
+) -> Result<bool, Fail> {
+    Ok(plays(alloc, stack, file, rows)? && answers(stack, then))
+}
+
 const LOCALS: &[stack::Row] = &[
     (stack::Call::Byte(0), Ok(Answer::Number(0xFF))),
     (stack::Call::Byte(1), Ok(Answer::Number(2))),
@@ -69,8 +80,8 @@ fn arguments_are_cut_to_their_locals(rt: HostRuntime) -> Result<(), Fail> {
         Call::Call(0, &[0x1FF, 2, 3, 0x12345, 9]),
         Ok(Answer::Number(7)),
     )];
-    assert!(rt; plays(rt.alloc(), &mut stack, &[0xC1, 1, 3, 2, 1, 0, 0], rows)?);
-    assert!(rt; answers(&mut stack, LOCALS));
+    let file = &[0xC1, 1, 3, 2, 1, 0, 0];
+    assert!(rt; plays_and_answers(rt.alloc(), &mut stack, file, rows, LOCALS)?);
     Ok(())
 }
 
@@ -84,8 +95,7 @@ const PUSHED: &[stack::Row] = &[
 fn a_c0_gets_its_arguments_pushed(rt: HostRuntime) -> Result<(), Fail> {
     let mut stack = sized(rt.alloc(), 256)?;
     let rows: &[Row] = &[(Call::Call(0, &[7, 8]), Ok(Answer::Number(3)))];
-    assert!(rt; plays(rt.alloc(), &mut stack, &[0xC0, 0, 0], rows)?);
-    assert!(rt; answers(&mut stack, PUSHED));
+    assert!(rt; plays_and_answers(rt.alloc(), &mut stack, &[0xC0, 0, 0], rows, PUSHED)?);
     Ok(())
 }
 
@@ -103,6 +113,12 @@ const REFUSED: &[Row] = &[
     ),
 ];
 
+// Whether calls are refused so over memory without a function.
+fn are_refused(alloc: Global, memory: &Memory<'_>) -> Result<bool, AllocError> {
+    let mut stack = sized(alloc, 256)?;
+    Ok(runs(alloc, memory, &mut stack, REFUSED))
+}
+
 #[test]
 fn what_is_no_function_is_refused(rt: HostRuntime) -> Result<(), Fail> {
     // a C2 at 0, a local of 3 bytes at 4, a pair 5,0 at 8, a list that runs off at 251
@@ -111,8 +127,7 @@ fn what_is_no_function_is_refused(rt: HostRuntime) -> Result<(), Fail> {
         (251, &[0xC0, 1, 1, 1, 1]),
     ];
     let memory = filled(rt.alloc(), 256, parts)?;
-    let mut stack = sized(rt.alloc(), 256)?;
-    assert!(rt; runs(rt.alloc(), &memory, &mut stack, REFUSED));
+    assert!(rt; are_refused(rt.alloc(), &memory)?);
     Ok(())
 }
 
@@ -132,12 +147,19 @@ const THROWN: &[Row] = &[
     ),
 ];
 
+// Whether a throw goes back so, to a frame of 12 bytes in which 4 is no token.
+fn goes_back(alloc: Global, stack: &mut Stack) -> Result<bool, Fail> {
+    Ok(
+        plays(alloc, stack, &[0xC1, 0, 0], THROWN)?
+            && stack.length() == 12
+            && throw(stack, 4) == Err(FlowStop::BadToken(4)),
+    )
+}
+
 #[test]
 fn a_throw_goes_back_to_its_catch(rt: HostRuntime) -> Result<(), Fail> {
     let mut stack = sized(rt.alloc(), 256)?;
-    assert!(rt; plays(rt.alloc(), &mut stack, &[0xC1, 0, 0], THROWN)?);
-    assert_eq!(rt; stack.length(), 12);
-    assert!(rt; throw(&mut stack, 4) == Err(FlowStop::BadToken(4)));
+    assert!(rt; goes_back(rt.alloc(), &mut stack)?);
     Ok(())
 }
 
@@ -162,15 +184,23 @@ const BACK: &[Row] = &[
     (Call::GiveBack, Ok(Answer::Done)),
 ];
 
+const FIRST: &[stack::Row] = &[(stack::Call::Word(0), Ok(Answer::Number(5)))];
+
+// Whether a tail call has its argument as its first local, and returns so.
+fn returns(alloc: Global, stack: &mut Stack) -> Result<bool, Fail> {
+    let file = &[0xC1, 0, 0, 0xC1, 4, 9, 0, 0];
+    Ok(
+        plays(alloc, stack, file, TAIL)?
+            && stack.length() == 76
+            && answers(stack, FIRST)
+            && plays(alloc, stack, file, BACK)?,
+    )
+}
+
 #[test]
 fn a_tail_call_returns_to_the_caller_of_its_caller(rt: HostRuntime) -> Result<(), Fail> {
-    let file = &[0xC1, 0, 0, 0xC1, 4, 9, 0, 0];
     let mut stack = sized(rt.alloc(), 96)?;
-    assert!(rt; plays(rt.alloc(), &mut stack, file, TAIL)?);
-    assert_eq!(rt; stack.length(), 76);
-    let first: stack::Row = (stack::Call::Word(0), Ok(Answer::Number(5)));
-    assert!(rt; answers(&mut stack, &[first]));
-    assert!(rt; plays(rt.alloc(), &mut stack, file, BACK)?);
+    assert!(rt; returns(rt.alloc(), &mut stack)?);
     Ok(())
 }
 

@@ -1,11 +1,12 @@
 //! Addresses that the standard's words and this project's choice of them give, as built.
 
+use std::alloc::{AllocError, Global};
 use std::test::Fail;
 use vm_heap::{Block, Call, Heap, HeapFault, held_after, is_heap};
 
 // Whether a heap behind 0x1000 answers each call so: the address of a new block, if there is room,
 // and 0 for one that is freed.
-fn answers(heap: &mut Heap, rows: &[(Call, Option<u32>)]) -> Result<bool, Fail> {
+fn answers(heap: &mut Heap, rows: &[(Call, Option<u32>)]) -> Result<bool, AllocError> {
     for (call, wanted) in rows {
         let answer = match call {
             Call::Malloc(size) if *size > 0 => heap.malloc(*size, 0x1000)?,
@@ -34,14 +35,23 @@ const MORE: &[(Call, Option<u32>)] = &[
     (Call::Free(0x1010), Some(0)),
 ];
 
+// Whether blocks stand so in a new heap, which has none in the end.
+fn are_least(heap: &mut Heap) -> Result<bool, AllocError> {
+    Ok(
+        answers(heap, TWO)?
+            && heap.end() == 0x1100
+            && answers(heap, MORE)?
+            && heap.start() == 0
+            && !heap.active()
+            && heap.end() == 0
+            && heap.free(0x1000) == Err(HeapFault::BadBlock(0x1000)),
+    )
+}
+
 #[test]
 fn blocks_stand_at_the_least_addresses(rt: HostRuntime) -> Result<(), Fail> {
     let mut heap = Heap::new(rt.alloc());
-    assert!(rt; answers(&mut heap, TWO)?);
-    assert_eq!(rt; heap.end(), 0x1100);
-    assert!(rt; answers(&mut heap, MORE)?);
-    assert!(rt; heap.start() == 0 && !heap.active() && heap.end() == 0);
-    assert!(rt; heap.free(0x1000) == Err(HeapFault::BadBlock(0x1000)));
+    assert!(rt; are_least(&mut heap)?);
     Ok(())
 }
 
@@ -56,14 +66,19 @@ const LOADED: [Block; 2] = [
     },
 ];
 
+// Whether the two blocks are a heap's, and one that has them puts a third in front.
+fn goes_on(alloc: Global, heap: &mut Heap) -> Result<bool, AllocError> {
+    if !is_heap(0x100, &LOADED) {
+        return Ok(false);
+    }
+    heap.load(alloc, 0x100, &LOADED)?;
+    Ok(answers(heap, &[(Call::Malloc(16), Some(0x100))])? && heap.blocks().len() == 3)
+}
+
 #[test]
 fn a_heap_is_loaded_and_goes_on(rt: HostRuntime) -> Result<(), Fail> {
-    let alloc = rt.alloc();
-    assert!(rt; is_heap(0x100, &LOADED));
-    let mut heap = Heap::new(alloc);
-    heap.load(alloc, 0x100, &LOADED)?;
-    assert!(rt; answers(&mut heap, &[(Call::Malloc(16), Some(0x100))])?);
-    assert_eq!(rt; heap.blocks().len(), 3);
+    let mut heap = Heap::new(rt.alloc());
+    assert!(rt; goes_on(rt.alloc(), &mut heap)?);
     Ok(())
 }
 
@@ -88,6 +103,6 @@ fn what_is_held_was_handed_out_and_not_freed(rt: HostRuntime) -> Result<(), Fail
             length: 2,
         },
     ];
-    assert_eq!(rt; held.as_slice(), want.as_slice());
+    assert!(rt; held.as_slice() == want.as_slice());
     Ok(())
 }

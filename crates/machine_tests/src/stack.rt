@@ -116,26 +116,41 @@ const TURNED: &[Row] = &[
     (Call::Peek(9), Err(StackFault::Underflow)),
 ];
 
+const BACK: &[Row] = &[(Call::Roll(9, 0xFFFF_FFFD), DONE)];
+
+// Whether a new stack's values turn so.
+fn turns(stack: &mut Stack) -> bool {
+    answers(stack, NINE)
+        && has(stack, &[8, 7, 6, 5, 0, 4, 3, 2, 1])
+        && answers(stack, BACK)
+        && has(stack, &[5, 0, 4, 3, 2, 1, 8, 7, 6])
+        && answers(stack, TURNED)
+}
+
 #[test]
 fn values_turn_towards_the_top(rt: HostRuntime) -> Result<(), Fail> {
     let mut stack = sized(rt.alloc(), 256)?;
-    assert!(rt; answers(&mut stack, NINE));
-    assert!(rt; has(&stack, &[8, 7, 6, 5, 0, 4, 3, 2, 1]));
-    assert!(rt; answers(&mut stack, &[(Call::Roll(9, 0xFFFF_FFFD), DONE)]));
-    assert!(rt; has(&stack, &[5, 0, 4, 3, 2, 1, 8, 7, 6]));
-    assert!(rt; answers(&mut stack, TURNED));
+    assert!(rt; turns(&mut stack));
     Ok(())
+}
+
+// Whether a new stack takes a frame and 61 values, and no more.
+fn takes_61(stack: &mut Stack) -> bool {
+    if !answers(stack, &[FRAME]) {
+        return false;
+    }
+    for _ in 0..61 {
+        if stack.push(1).is_err() {
+            return false;
+        }
+    }
+    stack.push(1) == Err(StackFault::Overflow) && stack.length() == 256
 }
 
 #[test]
 fn a_small_stack_takes_61_values(rt: HostRuntime) -> Result<(), Fail> {
     let mut stack = sized(rt.alloc(), 256)?;
-    assert!(rt; answers(&mut stack, &[FRAME]));
-    for _ in 0..61 {
-        assert!(rt; stack.push(1).is_ok());
-    }
-    assert!(rt; stack.push(1) == Err(StackFault::Overflow));
-    assert_eq!(rt; stack.length(), 256);
+    assert!(rt; takes_61(&mut stack));
     Ok(())
 }
 
@@ -151,12 +166,21 @@ const LOCALS: &[Row] = &[
     (Call::Word(0), Ok(Answer::Number(0))),
 ];
 
+const LOCALS_ENTERED: &[Row] = &[(Call::Enter(&[1, 3, 2, 1, 0, 0]), DONE)];
+
+// Whether a new stack has that frame, and its locals are read and set so.
+fn is_aligned(alloc: Global, stack: &mut Stack) -> Result<bool, AllocError> {
+    Ok(
+        answers(stack, LOCALS_ENTERED)
+            && stack.copy_bytes(alloc)?.as_slice() == FRESH.as_slice()
+            && answers(stack, LOCALS),
+    )
+}
+
 #[test]
 fn a_frame_has_aligned_locals(rt: HostRuntime) -> Result<(), Fail> {
     let mut stack = sized(rt.alloc(), 256)?;
-    assert!(rt; answers(&mut stack, &[(Call::Enter(&[1, 3, 2, 1, 0, 0]), DONE)]));
-    assert!(rt; stack.copy_bytes(rt.alloc())?.as_slice() == FRESH.as_slice());
-    assert!(rt; answers(&mut stack, LOCALS));
+    assert!(rt; is_aligned(rt.alloc(), &mut stack)?);
     Ok(())
 }
 
@@ -204,37 +228,57 @@ fn with_byte(at: usize, value: u8) -> bool {
     is_chain(&bytes)
 }
 
+// Whether they are one, or none, with each of these bytes.
+fn with_each(changes: &[(usize, u8)], is: bool) -> bool {
+    for (at, value) in changes {
+        if with_byte(*at, *value) != is {
+            return false;
+        }
+    }
+    true
+}
+
+// Whether so many of their bytes are one, or none.
+fn cut_to_each(rows: &[(usize, bool)]) -> bool {
+    for (length, is) in rows {
+        match TWO.get(..*length) {
+            Some(front) if is_chain(front) == *is => {}
+            _ => return false,
+        }
+    }
+    true
+}
+
+// Locals, their padding, DestType, the padding of a head, and a FramePtr that makes all from 16 on
+// values of one frame.
+const FREE: &[(usize, u8)] = &[(13, 5), (15, 1), (19, 9), (42, 1), (59, 0)];
+
+// FramePtr, FrameLen, LocalsPos, a local's type, their count, the pair 0,0.
+const BOUND: &[(usize, u8)] = &[
+    (59, 31),
+    (31, 32),
+    (3, 12),
+    (7, 16),
+    (8, 3),
+    (9, 5),
+    (10, 2),
+    (11, 1),
+];
+
+const LENGTHS: &[(usize, bool)] = &[
+    (60, true),
+    (56, false),
+    (44, true),
+    (32, true),
+    (28, false),
+    (0, false),
+];
+
 #[test]
-fn saved_frames_are_told_from_other_bytes(rt: HostRuntime) -> Result<(), Fail> {
-    // locals, their padding, DestType, the padding of a head, and a FramePtr that makes all from
-    // 16 on values of one frame
-    for (at, value) in [(13, 5), (15, 1), (19, 9), (42, 1), (59, 0)] {
-        assert!(rt; with_byte(at, value));
-    }
-    // FramePtr, FrameLen, LocalsPos, a local's type, their count, the pair 0,0
-    for (at, value) in [
-        (59, 31),
-        (31, 32),
-        (3, 12),
-        (7, 16),
-        (8, 3),
-        (9, 5),
-        (10, 2),
-        (11, 1),
-    ] {
-        assert!(rt; !with_byte(at, value));
-    }
-    for (length, is) in [
-        (60, true),
-        (56, false),
-        (44, true),
-        (32, true),
-        (28, false),
-        (0, false),
-    ] {
-        assert_eq!(rt; is_chain(TWO.get(..length).ok_or("a length")?), is);
-    }
-    Ok(())
+fn saved_frames_are_told_from_other_bytes(rt: HostRuntime) {
+    assert!(rt; with_each(FREE, true));
+    assert!(rt; with_each(BOUND, false));
+    assert!(rt; cut_to_each(LENGTHS));
 }
 
 #[test]
@@ -256,18 +300,43 @@ const ZERO: Stub = Stub {
     frame: 0,
 };
 
+// Whether a new stack takes a frame, with which its bytes are no chain, and a stub.
+fn takes_stub(alloc: Global, stack: &mut Stack) -> Result<bool, AllocError> {
+    if !answers(stack, &[FRAME]) {
+        return Ok(false);
+    }
+    let _size = stack.size();
+    Ok(!is_chain(&stack.copy_bytes(alloc)?) && answers(stack, &[(Call::PushStub(ZERO), DONE)]))
+}
+
+// Whether a stack of the same size loads these bytes, and gives the stub.
+fn is_loaded(alloc: Global, saved: &[u8]) -> Result<bool, AllocError> {
+    let mut other = sized(alloc, 256)?;
+    Ok(
+        other.load(saved).is_ok()
+            && answers(&mut other, &[(Call::TakeStub, Ok(Answer::Stub(ZERO)))]),
+    )
+}
+
+// Whether a stack of 24 bytes has no room for these.
+fn is_too_long(alloc: Global, saved: &[u8]) -> Result<bool, AllocError> {
+    let mut small = sized(alloc, 24)?;
+    Ok(small.load(saved) == Err(StackFault::Overflow))
+}
+
+// Whether its bytes are a chain then, and are loaded where there is room.
+fn goes_on_elsewhere(alloc: Global, stack: &mut Stack) -> Result<bool, AllocError> {
+    if !takes_stub(alloc, stack)? {
+        return Ok(false);
+    }
+    let _size = stack.size();
+    let saved = stack.copy_bytes(alloc)?;
+    Ok(is_chain(&saved) && is_loaded(alloc, &saved)? && is_too_long(alloc, &saved)?)
+}
+
 #[test]
 fn a_stack_that_was_copied_is_loaded(rt: HostRuntime) -> Result<(), Fail> {
     let mut stack = sized(rt.alloc(), 256)?;
-    assert!(rt; answers(&mut stack, &[FRAME]));
-    assert!(rt; !is_chain(&stack.copy_bytes(rt.alloc())?));
-    assert!(rt; answers(&mut stack, &[(Call::PushStub(ZERO), DONE)]));
-    let saved = stack.copy_bytes(rt.alloc())?;
-    assert!(rt; is_chain(&saved));
-    let mut other = sized(rt.alloc(), 256)?;
-    assert!(rt; other.load(&saved).is_ok());
-    assert!(rt; answers(&mut other, &[(Call::TakeStub, Ok(Answer::Stub(ZERO)))]));
-    let mut small = sized(rt.alloc(), 24)?;
-    assert!(rt; small.load(&saved) == Err(StackFault::Overflow));
+    assert!(rt; goes_on_elsewhere(rt.alloc(), &mut stack)?);
     Ok(())
 }

@@ -1,7 +1,7 @@
 ghost use Rattle.std.specs.Prelude.{◌≡◌, []};
 
 use crate::memory::{filled, holds};
-use std::alloc::Global;
+use std::alloc::{AllocError, Global};
 use std::test::Fail;
 use vm_memory::Memory;
 use vm_undo::{Blocks, Saved, StackBytes, Undo};
@@ -27,23 +27,47 @@ fn over(alloc: Global, memory: Memory<'static>) -> Saved<'static>
     }
 }
 
-// What undo keeps once states were kept whose byte 256 is 1 and 2, and the newest was dropped.
-fn kept_once(alloc: Global) -> Result<Undo<'static>, Fail> {
-    let mut undo = Undo::new();
-    let first = over(alloc, filled(alloc, 512, &[(256, &[1])])?);
-    undo.save(alloc, &first)?;
-    let second = over(alloc, filled(alloc, 512, &[(256, &[2])])?);
-    undo.keep(second);
+// Keeps a copy of the state of this memory.
+fn save_copy(
+    alloc: Global,
+    undo: &mut Undo<'static>,
+    memory: Memory<'static>,
+) -> Result<(), AllocError> {
+    let state = over(alloc, memory);
+    undo.save(alloc, &state)
+}
+
+// Keeps states whose byte 256 is 1, by a copy, and 2, and drops the newest.
+fn keep_once(alloc: Global, undo: &mut Undo<'static>) -> Result<(), Fail> {
+    save_copy(alloc, undo, filled(alloc, 512, &[(256, &[1])])?)?;
+    let second = filled(alloc, 512, &[(256, &[2])])?;
+    undo.keep(over(alloc, second));
     undo.discard();
-    Ok(undo)
+    Ok(())
+}
+
+// Whether the newest state is one whose byte 256 is 1.
+fn gives_first(undo: &mut Undo<'_>) -> bool {
+    match undo.restore() {
+        Some(back) => holds(&back.memory, &[(256, 1)]),
+        None => false,
+    }
+}
+
+// Whether that state is kept, and comes back once.
+fn is_kept_once(alloc: Global, undo: &mut Undo<'static>) -> Result<bool, Fail> {
+    keep_once(alloc, undo)?;
+    Ok(undo.has() && gives_first(undo) && !undo.has())
+}
+
+// The same where no state was kept before.
+fn comes_back_once(alloc: Global) -> Result<bool, Fail> {
+    let mut undo = Undo::new();
+    is_kept_once(alloc, &mut undo)
 }
 
 #[test]
 fn a_copy_is_kept_and_comes_back_once(rt: HostRuntime) -> Result<(), Fail> {
-    let mut undo = kept_once(rt.alloc())?;
-    assert!(rt; undo.has());
-    let back = undo.restore().ok_or("a state")?;
-    assert!(rt; holds(&back.memory, &[(256, 1)]));
-    assert!(rt; !undo.has());
+    assert!(rt; comes_back_once(rt.alloc())?);
     Ok(())
 }
