@@ -96,3 +96,9 @@ FailsOnFields NoMemory read = Unit {0}
 abbrev pub ReadsFront : {A : Type 0} → Reader A → List ℕ → List ℕ → Result A SnapFault → Type 0
 ReadsFront read old new (Ok x) = read old ≡ Some (x, new)
 ReadsFront read old new (Err e) = FailsOnFields e (read old)
+
+-- the same of a function that returns a value with these parts
+abbrev pub ReadsParts
+    : {A B : Type 0} → (B → A) → Reader A → List ℕ → List ℕ → Result B SnapFault → Type 0
+ReadsParts parts read old new (Ok x) = read old ≡ Some (parts x, new)
+ReadsParts parts read old new (Err e) = FailsOnFields e (read old)

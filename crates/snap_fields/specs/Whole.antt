@@ -18,17 +18,41 @@ use Rattle.snap_fields.specs.declared.glk.File.{File}
 use Rattle.snap_fields.specs.declared.glk.FileRef.{FileRef}
 use Rattle.snap_fields.specs.declared.glk.Stream.{Stream}
 use Rattle.snap_fields.specs.declared.glk.Window.{Window}
+use Rattle.snap_fields.specs.declared.read.Objects.{Objects}
+use Rattle.snap_fields.specs.declared.read.Play.{Play}
+
+-- the objects of Glk, and what was shown last
+abbrev pub ObjectParts : Type 0
+ObjectParts = List Window × (List Stream × (List FileRef × (List File × List ℕ)))
+
+unfoldable pub objects_at : Reader ObjectParts
+objects_at =
+    list_at window_item_at then list_at stream_item_at then list_at fileref_at
+    then list_at file_at then bytes_at
+
+abbrev pub object_parts : Objects → ObjectParts
+object_parts o = (o.windows, (o.streams, (o.filerefs, (o.files, o.show))))
+
+-- the items behind the machine
+abbrev pub PlayParts : Type 0
+PlayParts =
+    Settings × (Random × (List (List ℕ) × (Waiting × (Numbers × ObjectParts))))
+
+unfoldable pub play_at : Reader PlayParts
+play_at =
+    settings_at then random_at then list_at bytes_at then waiting_at then numbers_at
+    then objects_at
+
+abbrev pub play_parts : Play → PlayParts
+play_parts p =
+    (p.settings, (p.random, (p.undo, (p.waiting, (p.numbers, object_parts p.objects)))))
 
 -- the items behind the signature
 abbrev pub Parts : Type 0
-Parts = Setup × (Machine × (Settings × (Random × (List (List ℕ) × (Waiting × (Numbers
-    × (List Window × (List Stream × (List FileRef × (List File × List ℕ))))))))))
+Parts = Setup × (Machine × PlayParts)
 
 abbrev pub parts_at : Reader Parts
-parts_at =
-    setup_at then machine_at then settings_at then random_at then list_at bytes_at
-    then waiting_at then numbers_at then list_at window_item_at then list_at stream_item_at
-    then list_at fileref_at then list_at file_at then bytes_at
+parts_at = setup_at then machine_at then play_at
 
 abbrev pub fields_of_parts : Parts → Fields
 fields_of_parts (

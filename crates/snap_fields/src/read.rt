@@ -2,18 +2,71 @@
 
 ghost use Rattle.std.specs.Prelude.{IfErr, IfOk};
 ghost use Rattle.snap_fields.specs.Laws.{RefusesFields, SpellsFields};
-ghost use Rattle.snap_fields.specs.Reading.{ReadsFront};
-ghost use Rattle.snap_fields.specs.Whole.{FindsWhole, fields_at, if_all_read};
+ghost use Rattle.snap_fields.specs.Reading.{ReadsFront, ReadsParts};
+ghost use Rattle.snap_fields.specs.Whole.{FindsWhole, fields_at, if_all_read, object_parts};
+ghost use Rattle.snap_fields.specs.Whole.{objects_at, play_at, play_parts};
 
 use crate::cursor::Cursor;
 use crate::fault::SnapFault;
-use crate::fields::Fields;
+use crate::fields::{Fields, Numbers, Random, Settings, Waiting};
+use crate::glk::{File, FileRef, Stream, Window};
 use crate::item::list;
+use crate::items::Items;
 use crate::reading::{machine, numbers, random, settings, setup, waiting};
 use std::alloc::Global;
 
 /// `STW1`.
 pub(crate) const SIGNATURE: u32 = 0x5354_5731;
+
+/// The objects of Glk, and what was shown last.
+#[derive(Drop)]
+struct Objects {
+    windows: Items<Window>,
+    streams: Items<Stream>,
+    filerefs: Items<FileRef>,
+    files: Items<File>,
+    show: Items<u8>,
+}
+
+/// What stands behind the machine.
+#[derive(Drop)]
+struct Play {
+    settings: Settings,
+    random: Random,
+    undo: Items<Items<u8>>,
+    waiting: Waiting,
+    numbers: Numbers,
+    objects: Objects,
+}
+
+/// Reads the objects in their order.
+#[tactic(auto, unfolding(crate::specs::Whole::objects_at))]
+fn read_objects(alloc: Global, from: &mut Cursor<'_>) -> Result<Objects, SnapFault>
+    ensures { ReadsParts object_parts objects_at from.old from.new result }
+{
+    Ok(Objects {
+        windows: list(alloc, from)?,
+        streams: list(alloc, from)?,
+        filerefs: list(alloc, from)?,
+        files: list(alloc, from)?,
+        show: from.bytes(alloc)?,
+    })
+}
+
+/// Reads what stands behind the machine.
+#[tactic(auto, unfolding(crate::specs::Whole::play_at))]
+fn read_play(alloc: Global, from: &mut Cursor<'_>) -> Result<Play, SnapFault>
+    ensures { ReadsParts play_parts play_at from.old from.new result }
+{
+    Ok(Play {
+        settings: settings(from)?,
+        random: random(from)?,
+        undo: list(alloc, from)?,
+        waiting: waiting(from)?,
+        numbers: numbers(from)?,
+        objects: read_objects(alloc, from)?,
+    })
+}
 
 #[tactic(auto, unfolding(crate::specs::Whole::fields_at))]
 fn fields(alloc: Global, from: &mut Cursor<'_>) -> Result<Fields, SnapFault>
@@ -22,19 +75,22 @@ fn fields(alloc: Global, from: &mut Cursor<'_>) -> Result<Fields, SnapFault>
     if from.n4()? != SIGNATURE {
         return Err(SnapFault::BadSnap);
     }
+    let setup = setup(from)?;
+    let machine = machine(alloc, from)?;
+    let play = read_play(alloc, from)?;
     Ok(Fields {
-        setup: setup(from)?,
-        machine: machine(alloc, from)?,
-        settings: settings(from)?,
-        random: random(from)?,
-        undo: list(alloc, from)?,
-        waiting: waiting(from)?,
-        numbers: numbers(from)?,
-        windows: list(alloc, from)?,
-        streams: list(alloc, from)?,
-        filerefs: list(alloc, from)?,
-        files: list(alloc, from)?,
-        show: from.bytes(alloc)?,
+        setup,
+        machine,
+        settings: play.settings,
+        random: play.random,
+        undo: play.undo,
+        waiting: play.waiting,
+        numbers: play.numbers,
+        windows: play.objects.windows,
+        streams: play.objects.streams,
+        filerefs: play.objects.filerefs,
+        files: play.objects.files,
+        show: play.objects.show,
     })
 }
 
