@@ -1,6 +1,6 @@
 //! What a desk answers, and which snapshots it missed meanwhile.
 
-ghost use Rattle.std.specs.Prelude.{IfOk};
+ghost use Rattle.std.specs.Prelude.{IfSome};
 ghost use Rattle.session_desk.specs.Commit.{IsInRange};
 ghost use Rattle.turn_cell.specs.Passes.{IsOf};
 
@@ -27,78 +27,168 @@ fn desk_over<'i>(
     alloc: Global,
     stories: &'i [Story<'i>],
     snaps: MemDisk,
-) -> Result<(Cell<Journal<MemDisk>>, SharedDesk<'i, MemDisk>), Fail>
-    ensures { IfOk result (λ pair. IsOf pair.0 pair.1.pass) }
+) -> Option<(Cell<Journal<MemDisk>>, SharedDesk<'i, MemDisk>)>
+    ensures { IfSome result (λ pair. IsOf pair.0 pair.1.pass) }
 {
     let mut disk = MemDisk::new(alloc);
     let Ok(()) = init(&mut disk) else {
-        return Err("a journal".into());
+        return None;
     };
     let Ok(journal) = Journal::open(alloc, disk) else {
-        return Err("a journal".into());
+        return None;
     };
     if journal.row_count() > 0 {
-        return Err("a journal without rows".into());
+        return None;
     }
     let Ok(store) = Store::open(snaps) else {
-        return Err("a store".into());
+        return None;
     };
-    let (cell, mut root) = Cell::new(alloc, journal)?;
-    let pass = cell.split(alloc, &mut root)?;
-    let desk = SharedDesk::open(alloc, 0, stories, BUDGET, &[], pass, store)?;
-    Ok((cell, desk))
+    let Ok((cell, mut root)) = Cell::new(alloc, journal) else {
+        return None;
+    };
+    let Ok(pass) = cell.split(alloc, &mut root) else {
+        return None;
+    };
+    match SharedDesk::open(alloc, 0, stories, BUDGET, &[], pass, store) {
+        Ok(desk) => Some((cell, desk)),
+        Err(_) => None,
+    }
 }
 
 /// The request of a line.
-fn requested(alloc: Global, line: &[u8]) -> Result<Request, Fail>
-    ensures { IfOk result (λ request. IsInRange request) }
+fn requested(alloc: Global, line: &[u8]) -> Option<Request>
+    ensures { IfSome result (λ request. IsInRange request) }
 {
     reads_in_range();
     match read_request(alloc, line) {
-        Ok(request) => Ok(request),
-        Err(_) => Err("a request".into()),
+        Ok(request) => Some(request),
+        Err(_) => None,
     }
 }
 
-/// What a desk over these snapshots answers to a game of so many inputs, and what it missed.
+/// A request of a game by its number: the opening is 0.
+fn request_of(alloc: Global, n: u32) -> Option<Request>
+    ensures { IfSome result (λ request. IsInRange request) }
+{
+    let line = if n == 0 {
+        String::from_str(alloc, "OPEN 0 k1 0 7 80 24").ok()?
+    } else {
+        format!(in alloc; "LINE 0 k1 {n} 1 =a").ok()?
+    };
+    requested(alloc, line.as_bytes())
+}
+
+/// What a desk answers to a request.
+fn answered<'i, R: Wait>(
+    rt: &R,
+    alloc: Global,
+    cell: &Cell<Journal<MemDisk>>,
+    desk: &mut SharedDesk<'i, MemDisk>,
+    request: &Request,
+) -> Option<Vec<u8>>
+    requires cell { IsOf cell.now desk.old.pass }
+    requires request { IsInRange request.now }
+    ensures { IsOf cell.now desk.new.pass }
+{
+    let turned = desk.answer(rt, alloc, 1, cell, request);
+    write_reply(alloc, &turned.reply).ok()
+}
+
+/// Adds what a desk answers to a request of a game. False is want of memory.
+fn add_reply<'i, R: Wait>(
+    rt: &R,
+    alloc: Global,
+    cell: &Cell<Journal<MemDisk>>,
+    desk: &mut SharedDesk<'i, MemDisk>,
+    n: u32,
+    text: &mut Vec<u8>,
+) -> bool
+    requires cell { IsOf cell.now desk.old.pass }
+    ensures { IsOf cell.now desk.new.pass }
+{
+    let Some(request) = request_of(alloc, n) else {
+        return false;
+    };
+    match answered(rt, alloc, cell, desk, &request) {
+        Some(reply) => text.extend_from_slice(&reply).is_ok(),
+        None => false,
+    }
+}
+
+/// What a desk answers to a game of so many inputs.
+fn replies<'i, R: Wait>(
+    rt: &R,
+    alloc: Global,
+    cell: &Cell<Journal<MemDisk>>,
+    desk: &mut SharedDesk<'i, MemDisk>,
+    count: u32,
+) -> Option<Vec<u8>>
+    requires cell { IsOf cell.now desk.old.pass }
+{
+    let mut text = Vec::new(alloc);
+    for n in 0..=count {
+        if !add_reply(rt, alloc, cell, desk, n, &mut text) {
+            return None;
+        }
+    }
+    Some(text)
+}
+
+/// What a desk over these snapshots answers to a game of 17 inputs, and what it missed.
 fn played<'i, R: Wait>(
     rt: &R,
     alloc: Global,
     stories: &'i [Story<'i>],
     snaps: MemDisk,
-    count: u32,
-) -> Result<(Vec<u8>, Missed), Fail> {
+) -> Option<(Vec<u8>, Missed)> {
     let (cell, mut desk) = desk_over(alloc, stories, snaps)?;
-    let mut text = Vec::new(alloc);
-    for n in 0..=count {
-        let line = if n == 0 {
-            String::from_str(alloc, "OPEN 0 k1 0 7 80 24")?
-        } else {
-            format!(in alloc; "LINE 0 k1 {n} 1 =a")?
-        };
-        let request = requested(alloc, line.as_bytes())?;
-        let turned = desk.answer(rt, alloc, 1, &cell, &request);
-        text.extend_from_slice(&write_reply(alloc, &turned.reply)?)?;
+    let text = replies(rt, alloc, &cell, &mut desk, 17);
+    let missed = desk.missed();
+    match text {
+        Some(text) => Some((text, missed)),
+        None => None,
     }
-    Ok((text, desk.missed()))
+}
+
+/// The same over a new file, of which one call is to fail.
+fn played_over_file<'i, R: Wait>(
+    rt: &R,
+    alloc: Global,
+    stories: &'i [Story<'i>],
+    fails: u64,
+) -> Option<(Vec<u8>, Missed)> {
+    let file = new_file(alloc, fails)?;
+    played(rt, alloc, stories, file)
+}
+
+/// Whether a game was answered this, and so much was missed.
+fn is_played(told: &Option<(Vec<u8>, Missed)>, wanted: &[u8], missed: Missed) -> bool {
+    match told {
+        Some((text, told)) => text.as_slice() == wanted && *told == missed,
+        None => false,
+    }
+}
+
+/// Whether desks that miss a snapshot answer as one that misses none.
+fn are_alike<'i, R: Wait>(rt: &R, alloc: Global, stories: &'i [Story<'i>]) -> bool {
+    let Some((wanted, nothing)) = played_over_file(rt, alloc, stories, 99) else {
+        return false;
+    };
+    let unmade = played(rt, alloc, stories, MemDisk::new(alloc));
+    let without = is_played(&unmade, &wanted, Missed { none: 1, ..NOTHING });
+    let failing = played_over_file(rt, alloc, stories, 7);
+    let one = Missed {
+        fault: 1,
+        ..NOTHING
+    };
+    nothing == NOTHING && without && is_played(&failing, &wanted, one)
 }
 
 #[test]
 fn a_snapshot_that_is_missed_is_counted_and_changes_no_reply(rt: HostRuntime) -> Result<(), Fail> {
     let alloc = rt.alloc();
-    let file = echo_story(alloc)?;
-    let stories = [Story::of(&file).ok().ok_or("a story")?];
-    let (wanted, nothing) = played(&rt, alloc, &stories, new_file(alloc, 99)?, 17)?;
-    assert!(rt; nothing == NOTHING);
-    let (text, unmade) = played(&rt, alloc, &stories, MemDisk::new(alloc), 17)?;
-    assert!(rt; text.as_slice() == wanted.as_slice());
-    assert!(rt; unmade == Missed { none: 1, ..NOTHING });
-    let (text, failing) = played(&rt, alloc, &stories, new_file(alloc, 7)?, 17)?;
-    assert!(rt; text.as_slice() == wanted.as_slice());
-    let one = Missed {
-        fault: 1,
-        ..NOTHING
-    };
-    assert!(rt; failing == one);
+    let bytes = echo_story(alloc)?;
+    let stories = [Story::of(&bytes).ok().ok_or("a story")?];
+    assert!(rt; are_alike(&rt, alloc, &stories));
     Ok(())
 }

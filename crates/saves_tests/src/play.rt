@@ -8,10 +8,11 @@ use line_words::Key;
 use session_core::world_of;
 use session_saves::{Missed, Saves};
 use snap_store::{Store, make};
-use std::alloc::Global;
+use std::alloc::{AllocError, Global};
 use std::marker::Brand;
 use std::sync::ledger::{Blank, Ledger};
-use std::test::Fail;
+use std::test::*;
+use story_make::echo_story;
 use story_run::{Steps, Story};
 use story_text::Text;
 
@@ -29,13 +30,26 @@ pub const NOTHING: Missed = Missed {
 /// The snapshots of a session, in a box: a test lets go of one thing then.
 pub type Boxed = Box<Saves<MemDisk>>;
 
+/// Whether there is an Echo story, and it passes this check.
+pub fn passes<F: FnOnce(Global, &[Story<'_>; 1]) -> bool>(alloc: Global, check: F) -> bool
+    requires { F.IsAlwaysCallable check }
+{
+    let Ok(file) = echo_story(alloc) else {
+        return false;
+    };
+    match Story::of(&file) {
+        Ok(story) => check(alloc, &[story]),
+        Err(_) => false,
+    }
+}
+
 /// A game that was opened, and then given the first letters of this word, one a line.
 pub fn game(
     alloc: Global,
     story: &Story<'_>,
     word: &[u8],
     count: usize,
-) -> Result<Vec<Command>, Fail> {
+) -> Result<Vec<Command>, AllocError> {
     let mut game = Vec::new(alloc);
     game.push(Command::Open {
         key: Key::of(alloc, b"k1")?,
@@ -57,70 +71,109 @@ pub fn game(
     Ok(game)
 }
 
-/// The snapshots of a disk.
-pub fn opened(alloc: Global, disk: MemDisk) -> Result<Boxed, Fail> {
-    let store = Store::open(disk).ok().ok_or("open")?;
-    Ok(Box::new(alloc, Saves::open(store))?)
+/// The snapshots of a disk. `None` where it can't be opened.
+pub fn opened(alloc: Global, disk: MemDisk) -> Option<Boxed> {
+    let store = Store::open(disk).ok()?;
+    Box::new(alloc, Saves::open(store)).ok()
 }
 
 /// A new disk, of which one call is to fail. Its making takes two calls, its opening five.
-pub fn new_file(alloc: Global, fails: u64) -> Result<MemDisk, Fail> {
+pub fn new_file(alloc: Global, fails: u64) -> Option<MemDisk> {
     let mut disk = MemDisk::new(alloc);
-    disk.fail_at(fails)?;
-    make(&mut disk).ok().ok_or("make")?;
-    Ok(disk)
+    disk.fail_at(fails).ok()?;
+    make(&mut disk).ok()?;
+    Some(disk)
 }
 
 /// The snapshots of such a disk.
-pub fn made(alloc: Global, fails: u64) -> Result<Boxed, Fail> {
+pub fn made(alloc: Global, fails: u64) -> Option<Boxed> {
     opened(alloc, new_file(alloc, fails)?)
 }
 
-/// Keeps the snapshot of a game's world, as of this OPEN row and after so many inputs.
-pub fn keep(
-    alloc: Global,
-    saves: &mut Boxed,
-    stories: &[Story<'_>],
-    game: &[Command],
-    place: u64,
-    count: u32,
-) -> Result<(), Fail> {
-    let world = world_of(alloc, stories, game)?.ok_or("a world")?;
-    saves.keep(alloc, &world, place, count);
-    Ok(())
+/// The disk of these snapshots.
+pub fn disk_of(saves: Boxed) -> MemDisk {
+    Box::into_inner(saves).into_store().into_disk()
 }
 
-fn warmed_counted<L: Ledger>(
+/// Whether the snapshot of a game of so many inputs is given to be kept, as of the first OPEN row.
+pub fn keeps(
+    alloc: Global,
+    saves: &mut Boxed,
+    stories: &[Story<'_>; 1],
+    word: &[u8],
+    count: u32,
+) -> bool {
+    match game(alloc, &stories[0], word, count as usize) {
+        Ok(game) => keeps_world(alloc, saves, stories, &game, count),
+        Err(_) => false,
+    }
+}
+
+// The same of a game's world.
+fn keeps_world(
+    alloc: Global,
+    saves: &mut Boxed,
+    stories: &[Story<'_>],
+    game: &[Command],
+    count: u32,
+) -> bool {
+    match world_of(alloc, stories, game) {
+        Ok(Some(world)) => {
+            saves.keep(alloc, &world, ROW, count);
+            true
+        }
+        _ => false,
+    }
+}
+
+fn shows_counted<L: Ledger>(
     alloc: Global,
     saves: &mut Boxed,
     stories: &[Story<'_>],
     game: &[Command],
     place: u64,
+    wanted: &[u8],
     blank: Blank,
-) -> Result<Vec<u8>, Fail>
+) -> bool
     requires name { blank.name ≡ L.name }
     requires parts { blank.parts ≡ L.parts }
     requires one { L.parts ≡ 1 }
     requires within { length game.now ≤ 8192 }
 {
     let mut steps = Steps::<L>::new(blank);
-    let world = saves.warm(alloc, stories, place, game, &mut steps)?;
-    let world = world.ok_or("a world")?;
-    let mut show = Vec::new(alloc);
-    show.extend_from_slice(world.last())?;
-    Ok(show)
+    match saves.warm(alloc, stories, place, game, &mut steps) {
+        Ok(Some(world)) => world.last() == wanted,
+        _ => false,
+    }
 }
 
-/// What a game shows once it is warmed.
-pub fn warmed(
+// Whether a game shows this once it is warmed.
+fn shows(
     alloc: Global,
     saves: &mut Boxed,
     stories: &[Story<'_>],
     game: &[Command],
     place: u64,
-) -> Result<Vec<u8>, Fail> {
+    wanted: &[u8],
+) -> bool {
     if game.len() > 8192 {
-        return Err("a long game".into());
+        return false;
     }
-    warmed_counted::<Brand>(alloc, saves, stories, game, place, Blank::new(1))
+    shows_counted::<Brand>(alloc, saves, stories, game, place, wanted, Blank::new(1))
+}
+
+/// Whether a game of so many inputs, of this OPEN row, shows this once it is warmed.
+pub fn warms_to(
+    alloc: Global,
+    saves: &mut Boxed,
+    stories: &[Story<'_>; 1],
+    word: &[u8],
+    count: usize,
+    place: u64,
+    wanted: &[u8],
+) -> bool {
+    match game(alloc, &stories[0], word, count) {
+        Ok(game) => shows(alloc, saves, stories, &game, place, wanted),
+        Err(_) => false,
+    }
 }

@@ -1,4 +1,4 @@
-use snap_fields::{SnapFault, Waiting, read_fields, write_fields};
+use snap_fields::{Fields, SnapFault, Waiting, read_fields, write_fields};
 use std::alloc::{AllocError, Global};
 use std::test::{Fail, *};
 
@@ -46,7 +46,7 @@ fn waiting(alloc: Global) -> Result<Vec<u8>, AllocError> {
 }
 
 // The bytes with the one at this place all ones.
-fn with_ones(alloc: Global, bytes: &[u8], at: usize) -> Result<Vec<u8>, Fail> {
+fn with_ones(alloc: Global, bytes: &[u8], at: usize) -> Result<Vec<u8>, AllocError> {
     let mut changed = Vec::new(alloc);
     for (i, byte) in bytes.iter().enumerate() {
         changed.push(if i == at { 255 } else { *byte })?;
@@ -59,46 +59,66 @@ fn are_refused(alloc: Global, bytes: &[u8]) -> bool {
     matches!(read_fields(alloc, bytes), Err(SnapFault::BadSnap))
 }
 
+// Whether these bytes are what is written of the fields.
+fn are_written(alloc: Global, fields: &Fields, bytes: &[u8]) -> Result<bool, AllocError> {
+    match write_fields(alloc, fields)? {
+        Some(again) => Ok(again.as_slice() == bytes),
+        None => Ok(false),
+    }
+}
+
 // Whether they are refused, or are those of the fields that are read.
-fn are_one_to_one(alloc: Global, bytes: &[u8]) -> Result<bool, Fail> {
+fn are_one_to_one(alloc: Global, bytes: &[u8]) -> Result<bool, AllocError> {
     match read_fields(alloc, bytes) {
-        Ok(fields) => match write_fields(alloc, &fields)? {
-            Some(again) => Ok(again.as_slice() == bytes),
-            None => Ok(false),
-        },
+        Ok(fields) => are_written(alloc, &fields, bytes),
         Err(SnapFault::BadSnap) => Ok(true),
         Err(SnapFault::NoMemory) => Ok(false),
     }
 }
 
+// Whether the bytes are read as fields that pass this check.
+fn read_as<F: FnOnce(&Fields) -> bool>(alloc: Global, bytes: &[u8], check: F) -> bool
+    requires { F.IsAlwaysCallable check }
+{
+    match read_fields(alloc, bytes) {
+        Ok(fields) => check(&fields),
+        Err(_) => false,
+    }
+}
+
+fn are_of_quit(fields: &Fields) -> bool {
+    fields.setup.seed == 1
+        && fields.setup.budget == 50_000_000
+        && matches!(fields.waiting, Waiting::Quit)
+        && fields.numbers.window == 1
+        && fields.show.as_slice() == b"E quit\n".as_slice()
+}
+
 #[test]
 fn a_story_that_has_quit_is_read(rt: HostRuntime) -> Result<(), Fail> {
     let bytes = quit(rt.alloc())?;
-    let fields = read_fields(rt.alloc(), &bytes).ok().ok_or("it is refused")?;
-    assert_eq!(rt; fields.setup.seed, 1);
-    assert_eq!(rt; fields.setup.budget, 50_000_000);
-    assert!(rt; matches!(fields.waiting, Waiting::Quit));
-    assert_eq!(rt; fields.numbers.window, 1);
-    assert_eq!(rt; fields.show.as_slice(), b"E quit\n".as_slice());
+    assert!(rt; read_as(rt.alloc(), &bytes, are_of_quit));
     Ok(())
+}
+
+fn are_of_waiting(fields: &Fields) -> bool {
+    let selects = matches!(
+        fields.waiting,
+        Waiting::Select {
+            reference: 0x130,
+            ..
+        }
+    );
+    selects
+        && fields.random.taken == 13
+        && fields.windows.as_slice().len() == 3
+        && fields.streams.as_slice().len() == 4
 }
 
 #[test]
 fn what_is_read_is_written_again(rt: HostRuntime) -> Result<(), Fail> {
     let bytes = waiting(rt.alloc())?;
-    let fields = read_fields(rt.alloc(), &bytes).ok().ok_or("it is refused")?;
-    assert_eq!(rt; fields.random.taken, 13);
-    assert_eq!(rt; fields.windows.as_slice().len(), 3);
-    assert_eq!(rt; fields.streams.as_slice().len(), 4);
-    assert!(rt;
-        matches!(
-            fields.waiting,
-            Waiting::Select {
-                reference: 0x130,
-                ..
-            }
-        )
-    );
+    assert!(rt; read_as(rt.alloc(), &bytes, are_of_waiting));
     assert!(rt; are_one_to_one(rt.alloc(), &bytes)?);
     Ok(())
 }

@@ -130,12 +130,16 @@ fn streams(alloc: Global, name: &[u32]) -> Result<Items<Stream>, AllocError> {
     Ok(Items::of(list))
 }
 
-/// A pair of a buffer and a grid, streams of each kind, a file reference and a file.
-fn fields(alloc: Global, terminators: &[u32], name: &[u32]) -> Result<GlkFields, AllocError> {
+/// The pair and its two windows.
+fn windows(alloc: Global, terminators: &[u32]) -> Result<Items<Window>, AllocError> {
     let mut windows = Vec::new(alloc);
     windows.push(buffer(alloc, terminators)?)?;
     windows.push(grid(alloc)?)?;
     windows.push(pair(alloc))?;
+    Ok(Items::of(windows))
+}
+
+fn filerefs(alloc: Global) -> Result<Items<FileRef>, AllocError> {
     let mut filerefs = Vec::new(alloc);
     filerefs.push(FileRef {
         number: 1,
@@ -143,12 +147,21 @@ fn fields(alloc: Global, terminators: &[u32], name: &[u32]) -> Result<GlkFields,
         rock: 3,
         name: items(alloc, &NAME)?,
     })?;
+    Ok(Items::of(filerefs))
+}
+
+fn files(alloc: Global) -> Result<Items<File>, AllocError> {
     let mut files = Vec::new(alloc);
     files.push(File {
         usage: 0,
         name: items(alloc, &NAME)?,
         bytes: Items::of(Vec::from_slice(alloc, b"xy")?),
     })?;
+    Ok(Items::of(files))
+}
+
+/// A pair of a buffer and a grid, streams of each kind, a file reference and a file.
+fn fields(alloc: Global, terminators: &[u32], name: &[u32]) -> Result<GlkFields, AllocError> {
     Ok(GlkFields {
         numbers: Numbers {
             window: 4,
@@ -157,15 +170,30 @@ fn fields(alloc: Global, terminators: &[u32], name: &[u32]) -> Result<GlkFields,
             root: 3,
             current: 4,
         },
-        windows: Items::of(windows),
+        windows: windows(alloc, terminators)?,
         streams: streams(alloc, name)?,
-        filerefs: Items::of(filerefs),
-        files: Items::of(files),
+        filerefs: filerefs(alloc)?,
+        files: files(alloc)?,
     })
 }
 
 fn made(alloc: Global, fields: &GlkFields) -> Result<Option<Glk>, AllocError> {
     glk_of(alloc, 2, 4, 304, NO_PROMPT, fields)
+}
+
+fn is_made(alloc: Global, fields: &GlkFields) -> Result<bool, AllocError> {
+    Ok(made(alloc, fields)?.is_some())
+}
+
+/// Whether a session on a screen that is a column wider may have these fields.
+fn is_made_wider(alloc: Global, fields: &GlkFields) -> Result<bool, AllocError> {
+    Ok(glk_of(alloc, 3, 4, 0, NO_PROMPT, fields)?.is_some())
+}
+
+/// Whether a session may have fields with these terminators and this name.
+fn may_have(alloc: Global, terminators: &[u32], name: &[u32]) -> Result<bool, AllocError> {
+    let given = fields(alloc, terminators, name)?;
+    is_made(alloc, &given)
 }
 
 /// The windows as they were given.
@@ -201,40 +229,54 @@ fn are_files(filerefs: &[FileRef], files: &[File]) -> bool {
     fileref.name.as_slice() == NAME.as_slice() && file.bytes.as_slice() == b"xy".as_slice()
 }
 
+/// The fields as they were given.
+fn are_given(told: &GlkFields) -> bool {
+    told.numbers.current == 4
+        && are_windows(told.windows.as_slice())
+        && are_streams(told.streams.as_slice())
+        && are_files(told.filerefs.as_slice(), told.files.as_slice())
+}
+
+/// Whether the given fields are told, and may be made again.
+fn is_told_and_made_again(alloc: Global, glk: &Glk) -> Result<bool, AllocError> {
+    let told = fields_of(alloc, glk)?;
+    let given = are_given(&told);
+    Ok(is_made(alloc, &told)? && given)
+}
+
+/// Whether the given fields are made, with their event and a stream of each window, and told.
+fn is_made_and_told(alloc: Global, given: &GlkFields) -> Result<bool, AllocError> {
+    match made(alloc, given)? {
+        Some(glk) if glk.event() == 304 && glk.windows.stream(2) == 2 => {
+            is_told_and_made_again(alloc, &glk)
+        }
+        _ => Ok(false),
+    }
+}
+
 #[test]
 fn what_is_made_is_told_and_made_again(rt: HostRuntime) -> Result<(), Fail> {
     let given = fields(rt.alloc(), &[0xFFFF_FFEF], &NAME)?;
-    let glk = made(rt.alloc(), &given)?.ok_or("no session may have it")?;
-    assert_eq!(rt; glk.event(), 304);
-    assert_eq!(rt; glk.windows.stream(2), 2);
-    let told = fields_of(rt.alloc(), &glk)?;
-    assert_eq!(rt; told.numbers.current, 4);
-    assert!(rt; are_windows(told.windows.as_slice()));
-    assert!(rt; are_streams(told.streams.as_slice()));
-    assert!(rt; are_files(told.filerefs.as_slice(), told.files.as_slice()));
-    assert!(rt; made(rt.alloc(), &told)?.is_some());
+    assert!(rt; is_made_and_told(rt.alloc(), &given)?);
     Ok(())
 }
 
 #[test]
 fn a_name_with_half_a_character_is_refused(rt: HostRuntime) -> Result<(), Fail> {
-    let given = fields(rt.alloc(), &[], &[0xD800])?;
-    assert!(rt; made(rt.alloc(), &given)?.is_none());
+    assert!(rt; !may_have(rt.alloc(), &[], &[0xD800])?);
     Ok(())
 }
 
 #[test]
 fn a_fourteenth_terminator_is_refused(rt: HostRuntime) -> Result<(), Fail> {
-    let thirteen = fields(rt.alloc(), &[1; 13], &NAME)?;
-    assert!(rt; made(rt.alloc(), &thirteen)?.is_some());
-    let fourteen = fields(rt.alloc(), &[1; 14], &NAME)?;
-    assert!(rt; made(rt.alloc(), &fourteen)?.is_none());
+    assert!(rt; may_have(rt.alloc(), &[1; 13], &NAME)?);
+    assert!(rt; !may_have(rt.alloc(), &[1; 14], &NAME)?);
     Ok(())
 }
 
 #[test]
 fn another_screen_is_refused(rt: HostRuntime) -> Result<(), Fail> {
     let given = fields(rt.alloc(), &[], &NAME)?;
-    assert!(rt; glk_of(rt.alloc(), 3, 4, 0, NO_PROMPT, &given)?.is_none());
+    assert!(rt; !is_made_wider(rt.alloc(), &given)?);
     Ok(())
 }

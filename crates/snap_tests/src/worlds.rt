@@ -5,7 +5,7 @@ use glk_input::Input;
 use std::alloc::{AllocError, Global};
 use std::marker::Brand;
 use std::sync::ledger::{Blank, Ledger};
-use std::test::{Fail, *};
+use std::test::*;
 use story_make::echo_story;
 use story_run::{Setup, Steps, Story, World};
 use story_snap::{SnapFault, from_bytes, to_bytes};
@@ -22,7 +22,7 @@ fn setup(budget: u64) -> Setup {
 }
 
 // The line that the player gives.
-fn line(alloc: Global, text: &str) -> Result<Input, Fail> {
+fn line(alloc: Global, text: &str) -> Result<Input, AllocError> {
     Ok(Input::Line {
         win: 1,
         text: Text::of(String::from_str(alloc, text)?),
@@ -52,21 +52,48 @@ fn turn<'i>(alloc: Global, world: World<'i>, input: &Input) -> Result<World<'i>,
     turn_counted::<Brand>(alloc, world, input, Blank::new(1))
 }
 
-// The world after a line.
-fn turned<'i>(alloc: Global, world: World<'i>, text: &str) -> Result<World<'i>, Fail> {
-    let input = line(alloc, text)?;
-    if !world.wants(&input) {
-        return Err(Fail::from("the line isn't wanted"));
+// The world after a line. `None` is want of memory, or that the line isn't wanted.
+fn turned<'i>(alloc: Global, world: World<'i>, text: &str) -> Option<World<'i>> {
+    let input = line(alloc, text).ok()?;
+    if world.wants(&input) {
+        turn(alloc, world, &input).ok()
+    } else {
+        None
     }
-    let world = turn(alloc, world, &input)?;
-    Ok(world)
 }
 
 // The bytes of the Echo story's world after the line `go`.
-fn after_go(alloc: Global, story: &Story<'_>) -> Result<Vec<u8>, Fail> {
-    let world = World::start(alloc, story, setup(50_000_000))?;
+fn after_go(alloc: Global, story: &Story<'_>) -> Option<Vec<u8>> {
+    let world = World::start(alloc, story, setup(50_000_000)).ok()?;
     let world = turned(alloc, world, "go")?;
-    Ok(to_bytes(alloc, &world)?)
+    to_bytes(alloc, &world).ok()
+}
+
+// Whether there is an Echo story, and it passes this check.
+fn passes<F: FnOnce(Global, &Story<'_>) -> bool>(alloc: Global, check: F) -> bool
+    requires { F.IsAlwaysCallable check }
+{
+    let Ok(file) = echo_story(alloc) else {
+        return false;
+    };
+    match Story::of(&file) {
+        Ok(story) => check(alloc, &story),
+        Err(_) => false,
+    }
+}
+
+// Whether the bytes of its world after the line `go` are there, and they pass this check.
+fn bytes_pass<F: FnOnce(Global, &Story<'_>, Vec<u8>) -> bool>(
+    alloc: Global,
+    story: &Story<'_>,
+    check: F,
+) -> bool
+    requires { F.IsAlwaysCallable check }
+{
+    match after_go(alloc, story) {
+        Some(bytes) => check(alloc, story, bytes),
+        None => false,
+    }
 }
 
 fn is_refused(read: &Result<World<'_>, SnapFault>) -> bool {
@@ -90,62 +117,95 @@ fn stand_at(bytes: &[u8], at: usize, wanted: &[u8]) -> bool {
     rest.starts_with(wanted)
 }
 
-#[test]
-fn a_world_begins_with_its_setup_and_the_memory_of_its_saves(rt: HostRuntime) -> Result<(), Fail> {
-    let file = echo_story(rt.alloc())?;
-    let story = Story::of(&file).ok().ok_or("a story")?;
-    let bytes = after_go(rt.alloc(), &story)?;
-    assert!(rt; stand_at(&bytes, 0, &BEGINS));
-    assert!(rt; stand_at(&bytes, 30, &MEMORY));
-    Ok(())
+fn begins_with_its_setup(_alloc: Global, _story: &Story<'_>, bytes: Vec<u8>) -> bool {
+    stand_at(&bytes, 0, &BEGINS) && stand_at(&bytes, 30, &MEMORY)
 }
 
 #[test]
-fn a_world_goes_on_from_its_bytes_as_it_would_have(rt: HostRuntime) -> Result<(), Fail> {
-    let file = echo_story(rt.alloc())?;
-    let story = Story::of(&file).ok().ok_or("a story")?;
-    let world = World::start(rt.alloc(), &story, setup(50_000_000))?;
-    let bytes = to_bytes(rt.alloc(), &world)?;
-    let again = from_bytes(rt.alloc(), &bytes, &story)
-        .ok()
-        .ok_or("it is refused")?;
-    assert_eq!(rt; again.last(), world.last());
-    let world = turned(rt.alloc(), world, "up")?;
-    let again = turned(rt.alloc(), again, "up")?;
-    assert_eq!(rt; again.last(), world.last());
-    Ok(())
+fn a_world_begins_with_its_setup_and_the_memory_of_its_saves(rt: HostRuntime) {
+    assert!(rt;
+        passes(
+            rt.alloc(),
+            |alloc, story| bytes_pass(alloc, story, begins_with_its_setup)
+        )
+    );
 }
 
-#[test]
-fn a_story_that_is_over_is_read_again(rt: HostRuntime) -> Result<(), Fail> {
-    let file = echo_story(rt.alloc())?;
-    let story = Story::of(&file).ok().ok_or("a story")?;
-    let world = World::start(rt.alloc(), &story, setup(15))?;
-    assert!(rt; world.is_over());
-    let bytes = to_bytes(rt.alloc(), &world)?;
-    let again = from_bytes(rt.alloc(), &bytes, &story)
-        .ok()
-        .ok_or("it is refused")?;
-    assert!(rt; again.is_over());
-    assert_eq!(rt; again.last(), world.last());
-    Ok(())
+// The world that is read from what was written of it.
+fn read_back<'i>(alloc: Global, world: &World<'_>, story: &Story<'i>) -> Option<World<'i>> {
+    let bytes = to_bytes(alloc, world).ok()?;
+    from_bytes(alloc, &bytes, story).ok()
 }
 
-#[test]
-fn a_byte_short_is_refused_and_so_is_one_more(rt: HostRuntime) -> Result<(), Fail> {
-    let file = echo_story(rt.alloc())?;
-    let story = Story::of(&file).ok().ok_or("a story")?;
-    let mut bytes = after_go(rt.alloc(), &story)?;
-    for end in 0..bytes.len() {
-        assert!(rt; is_refused(&from_bytes(rt.alloc(), &bytes[..end], &story)));
+// What the world shows after the line `up`.
+fn shown_after_up(alloc: Global, world: World<'_>) -> Option<Vec<u8>> {
+    let world = turned(alloc, world, "up")?;
+    Vec::from_slice(alloc, world.last()).ok()
+}
+
+// Whether both worlds show the same after the line `up`.
+fn go_on_alike(alloc: Global, world: World<'_>, again: World<'_>) -> bool {
+    let shown = shown_after_up(alloc, world);
+    match (shown, shown_after_up(alloc, again)) {
+        (Some(shown), Some(again)) => shown.as_slice() == again.as_slice(),
+        _ => false,
     }
-    bytes.push(0)?;
-    assert!(rt; is_refused(&from_bytes(rt.alloc(), &bytes, &story)));
-    Ok(())
+}
+
+// Whether a new world shows what it is read back with, and goes on alike.
+fn goes_on(alloc: Global, story: &Story<'_>) -> bool {
+    let Ok(world) = World::start(alloc, story, setup(50_000_000)) else {
+        return false;
+    };
+    match read_back(alloc, &world, story) {
+        Some(again) if again.last() == world.last() => go_on_alike(alloc, world, again),
+        _ => false,
+    }
+}
+
+#[test]
+fn a_world_goes_on_from_its_bytes_as_it_would_have(rt: HostRuntime) {
+    assert!(rt; passes(rt.alloc(), goes_on));
+}
+
+// Whether a story is over at once, and so is its world that is read back, with the same show.
+fn is_over_again(alloc: Global, story: &Story<'_>) -> bool {
+    let Ok(world) = World::start(alloc, story, setup(15)) else {
+        return false;
+    };
+    match read_back(alloc, &world, story) {
+        Some(again) => world.is_over() && again.is_over() && again.last() == world.last(),
+        None => false,
+    }
+}
+
+#[test]
+fn a_story_that_is_over_is_read_again(rt: HostRuntime) {
+    assert!(rt; passes(rt.alloc(), is_over_again));
+}
+
+// Whether each beginning of the bytes is refused, and so are they with one more.
+fn others_are_refused(alloc: Global, story: &Story<'_>, mut bytes: Vec<u8>) -> bool {
+    for end in 0..bytes.len() {
+        if !is_refused(&from_bytes(alloc, &bytes[..end], story)) {
+            return false;
+        }
+    }
+    bytes.push(0).is_ok() && is_refused(&from_bytes(alloc, &bytes, story))
+}
+
+#[test]
+fn a_byte_short_is_refused_and_so_is_one_more(rt: HostRuntime) {
+    assert!(rt;
+        passes(
+            rt.alloc(),
+            |alloc, story| bytes_pass(alloc, story, others_are_refused)
+        )
+    );
 }
 
 // The bytes with so many of them, from a place on, all ones.
-fn with_ones(alloc: Global, bytes: &[u8], at: usize, count: usize) -> Result<Vec<u8>, Fail> {
+fn with_ones(alloc: Global, bytes: &[u8], at: usize, count: usize) -> Result<Vec<u8>, AllocError> {
     let mut changed = Vec::new(alloc);
     for (i, byte) in bytes.iter().enumerate() {
         let is_changed = i >= at && i - at < count;
@@ -155,7 +215,7 @@ fn with_ones(alloc: Global, bytes: &[u8], at: usize, count: usize) -> Result<Vec
 }
 
 // The bytes with one of them changed in its lowest bit.
-fn with_bit(alloc: Global, bytes: &[u8], at: usize) -> Result<Vec<u8>, Fail> {
+fn with_bit(alloc: Global, bytes: &[u8], at: usize) -> Result<Vec<u8>, AllocError> {
     let mut changed = Vec::new(alloc);
     for (i, byte) in bytes.iter().enumerate() {
         changed.push(if i == at { *byte ^ 1 } else { *byte })?;
@@ -163,35 +223,61 @@ fn with_bit(alloc: Global, bytes: &[u8], at: usize) -> Result<Vec<u8>, Fail> {
     Ok(changed)
 }
 
+// Whether these bytes are what is written of the world.
+fn are_written(alloc: Global, world: &World<'_>, bytes: &[u8]) -> bool {
+    match to_bytes(alloc, world) {
+        Ok(again) => again.as_slice() == bytes,
+        Err(_) => false,
+    }
+}
+
 // Whether the bytes are refused, or are those of a world.
-fn are_one_to_one(alloc: Global, bytes: &[u8], story: &Story<'_>) -> Result<bool, Fail> {
+fn are_one_to_one(alloc: Global, bytes: &[u8], story: &Story<'_>) -> bool {
     match from_bytes(alloc, bytes, story) {
-        Ok(world) => Ok(to_bytes(alloc, &world)?.as_slice() == bytes),
-        Err(SnapFault::BadSnap) => Ok(true),
-        Err(SnapFault::NoMemory) => Ok(false),
+        Ok(world) => are_written(alloc, &world, bytes),
+        Err(SnapFault::BadSnap) => true,
+        Err(SnapFault::NoMemory) => false,
     }
 }
 
-#[test]
-fn a_changed_byte_is_refused_or_tells_another_world(rt: HostRuntime) -> Result<(), Fail> {
-    let file = echo_story(rt.alloc())?;
-    let story = Story::of(&file).ok().ok_or("a story")?;
-    let bytes = after_go(rt.alloc(), &story)?;
+// Whether the bytes with a changed bit, wherever it is, are refused or those of another world.
+fn are_one_to_one_with_a_bit(alloc: Global, story: &Story<'_>, bytes: Vec<u8>) -> bool {
     for at in 0..bytes.len() {
-        let changed = with_bit(rt.alloc(), &bytes, at)?;
-        assert!(rt; are_one_to_one(rt.alloc(), &changed, &story)?);
+        match with_bit(alloc, &bytes, at) {
+            Ok(changed) if are_one_to_one(alloc, &changed, story) => {}
+            _ => return false,
+        }
     }
-    Ok(())
+    true
 }
 
 #[test]
-fn counts_of_all_ones_take_no_memory(rt: HostRuntime) -> Result<(), Fail> {
-    let file = echo_story(rt.alloc())?;
-    let story = Story::of(&file).ok().ok_or("a story")?;
-    let bytes = after_go(rt.alloc(), &story)?;
+fn a_changed_byte_is_refused_or_tells_another_world(rt: HostRuntime) {
+    assert!(rt;
+        passes(
+            rt.alloc(),
+            |alloc, story| bytes_pass(alloc, story, are_one_to_one_with_a_bit)
+        )
+    );
+}
+
+// Whether the bytes with four ones, wherever they are, are refused or those of another world.
+fn are_one_to_one_with_ones(alloc: Global, story: &Story<'_>, bytes: Vec<u8>) -> bool {
     for at in 0..bytes.len() {
-        let changed = with_ones(rt.alloc(), &bytes, at, 4)?;
-        assert!(rt; are_one_to_one(rt.alloc(), &changed, &story)?);
+        match with_ones(alloc, &bytes, at, 4) {
+            Ok(changed) if are_one_to_one(alloc, &changed, story) => {}
+            _ => return false,
+        }
     }
-    Ok(())
+    true
+}
+
+#[test]
+fn counts_of_all_ones_take_no_memory(rt: HostRuntime) {
+    assert!(rt;
+        passes(
+            rt.alloc(),
+            |alloc, story| bytes_pass(alloc, story, are_one_to_one_with_ones)
+        )
+    );
 }

@@ -1,9 +1,7 @@
 //! Strings, numbers and the I/O systems, step by step.
 
-use crate::machine::{started, story};
-use glulx_image::Image;
+use crate::machine::{passes, story};
 use std::alloc::Global;
-use std::test::Fail;
 use vm_exec::{Machine, Step};
 use vm_memory::Trap;
 
@@ -66,84 +64,96 @@ const FUNCTION: [u8; 8] = *b"\xC1\x00\x00\x70\x01\x62\x31\x00";
 
 const OBJECT: [u8; 8] = *b"\xE0\x62\x00\x00\x00\x00\x00\x00";
 
+const RAN: Step = Step::Ran(1);
+
+// Whether -12 goes out, and then the least number, and the story quits.
+fn prints_two_numbers(alloc: Global, machine: &mut Machine<'_>) -> bool {
+    if !tells(
+        alloc,
+        machine,
+        &[RAN, RAN, Step::Out(45, 1), Step::Out(49, 1)],
+    ) || machine.step(alloc, 1) != Ok(Step::Out(50, 1))
+        || machine.step(alloc, 1) != Ok(RAN)
+    {
+        return false;
+    }
+    for character in *b"-2147483648" {
+        if machine.step(alloc, 9) != Ok(Step::Out(u32::from(character), 1)) {
+            return false;
+        }
+    }
+    machine.step(alloc, 9) == Ok(Step::Quit)
+}
+
 // The system is set, and then a number is printed: -12 and the least one.
 #[test]
-fn a_number_goes_out_digit_by_digit(rt: HostRuntime) -> Result<(), Fail> {
+fn a_number_goes_out_digit_by_digit(rt: HostRuntime) {
     let code = b"\xC1\0\0\x81\x49\x01\x02\x71\x01\xF4\x71\x03\x80\0\0\0\x81\x20";
-    let file = file(code, &OBJECT);
-    let image = Image::parse(&file).ok().ok_or("an image")?;
-    let mut machine = started(rt.alloc(), &image)?;
-    let ran = Step::Ran(1);
-    let want = [ran, ran, Step::Out(45, 1), Step::Out(49, 1)];
-    assert!(rt; tells(rt.alloc(), &mut machine, &want));
-    assert!(rt; machine.step(rt.alloc(), 1) == Ok(Step::Out(50, 1)));
-    assert!(rt; machine.step(rt.alloc(), 1) == Ok(ran));
-    for character in *b"-2147483648" {
-        let step = Step::Out(u32::from(character), 1);
-        assert!(rt; machine.step(rt.alloc(), 9) == Ok(step));
-    }
-    assert!(rt; machine.step(rt.alloc(), 9) == Ok(Step::Quit));
-    Ok(())
+    assert!(rt; passes(rt.alloc(), &file(code, &OBJECT), prints_two_numbers));
+}
+
+// Whether -12 and then H are filtered, and the story quits with nothing but its result on top.
+fn filters_a_number(alloc: Global, machine: &mut Machine<'_>) -> bool {
+    tells(alloc, machine, &[RAN, RAN])
+        && filters(alloc, machine, &[45, 49, 50])
+        && filters(alloc, machine, &[72])
+        && machine.step(alloc, 1) == Ok(RAN)
+        && machine.stack.peek(0) == Ok(0)
+        && machine.step(alloc, 1) == Ok(Step::Quit)
 }
 
 // Under the filter each character is a call; behind the last the code goes on with no stub left.
 #[test]
-fn a_number_is_filtered(rt: HostRuntime) -> Result<(), Fail> {
+fn a_number_is_filtered(rt: HostRuntime) {
     let code = b"\xC1\0\0\x81\x49\x11\x01\x50\x71\x01\xF4\x70\x01\x48\x50\x08\x81\x20";
-    let file = file(code, &OBJECT);
-    let image = Image::parse(&file).ok().ok_or("an image")?;
-    let mut machine = started(rt.alloc(), &image)?;
-    let ran = Step::Ran(1);
-    assert!(rt; tells(rt.alloc(), &mut machine, &[ran, ran]));
-    assert!(rt; filters(rt.alloc(), &mut machine, &[45, 49, 50]));
-    assert!(rt; filters(rt.alloc(), &mut machine, &[72]));
-    assert!(rt; machine.step(rt.alloc(), 1) == Ok(ran));
-    assert!(rt; machine.stack.peek(0) == Ok(0));
-    assert!(rt; machine.step(rt.alloc(), 1) == Ok(Step::Quit));
-    Ok(())
+    assert!(rt; passes(rt.alloc(), &file(code, &OBJECT), filters_a_number));
 }
 
-#[test]
-fn a_string_prints_what_it_refers_to(rt: HostRuntime) -> Result<(), Fail> {
-    let code = b"\xC1\0\0\x81\x41\x02\0\x80\x81\x49\x01\x02\x72\x02\0\xB0\x81\x20";
-    let ran = Step::Ran(1);
+// Whether an a and a b go out, each behind a step of its string or function, and two steps later
+// the story quits.
+fn prints_both(alloc: Global, machine: &mut Machine<'_>) -> bool {
     let (a, b) = (Step::Out(97, 1), Step::Out(98, 1));
-    let called = file(code, &FUNCTION);
-    let image = Image::parse(&called).ok().ok_or("an image")?;
-    let mut machine = started(rt.alloc(), &image)?;
-    // the function is called, prints and returns, and the string ends
-    let want = [ran, ran, ran, a, ran, b, ran, ran, Step::Quit];
-    assert!(rt; tells(rt.alloc(), &mut machine, &want));
-    let nested = file(code, &OBJECT);
-    let image = Image::parse(&nested).ok().ok_or("an image")?;
-    let mut machine = started(rt.alloc(), &image)?;
-    // the string begins and prints, and both strings end
-    let want = [ran, ran, ran, a, ran, b, ran, ran, Step::Quit];
-    assert!(rt; tells(rt.alloc(), &mut machine, &want));
-    Ok(())
+    tells(
+        alloc,
+        machine,
+        &[RAN, RAN, RAN, a, RAN, b, RAN, RAN, Step::Quit],
+    )
 }
 
 #[test]
-fn a_string_is_filtered(rt: HostRuntime) -> Result<(), Fail> {
+fn a_string_prints_what_it_refers_to(rt: HostRuntime) {
+    let code = b"\xC1\0\0\x81\x41\x02\0\x80\x81\x49\x01\x02\x72\x02\0\xB0\x81\x20";
+    // the function is called, prints and returns, and the string ends
+    assert!(rt; passes(rt.alloc(), &file(code, &FUNCTION), prints_both));
+    // the string begins and prints, and both strings end
+    assert!(rt; passes(rt.alloc(), &file(code, &OBJECT), prints_both));
+}
+
+// Whether an a is filtered, the function that the string refers to begins, its b is filtered, it
+// returns, and the string ends.
+fn filters_a_string(alloc: Global, machine: &mut Machine<'_>) -> bool {
+    tells(alloc, machine, &[RAN, RAN, RAN])
+        && filters(alloc, machine, &[97])
+        && machine.step(alloc, 1) == Ok(RAN)
+        && filters(alloc, machine, &[98])
+        && tells(alloc, machine, &[RAN, RAN, Step::Quit])
+}
+
+#[test]
+fn a_string_is_filtered(rt: HostRuntime) {
     let code = b"\xC1\0\0\x81\x41\x02\0\x80\x81\x49\x11\x01\x50\x72\x02\0\xB0\x81\x20";
-    let ran = Step::Ran(1);
-    let file = file(code, &FUNCTION);
-    let image = Image::parse(&file).ok().ok_or("an image")?;
-    let mut machine = started(rt.alloc(), &image)?;
-    assert!(rt; tells(rt.alloc(), &mut machine, &[ran, ran, ran]));
-    assert!(rt; filters(rt.alloc(), &mut machine, &[97]));
-    // the function that the string refers to begins
-    assert!(rt; machine.step(rt.alloc(), 1) == Ok(ran));
-    assert!(rt; filters(rt.alloc(), &mut machine, &[98]));
-    // it returns, and the string ends
-    assert!(rt; tells(rt.alloc(), &mut machine, &[ran, ran, Step::Quit]));
-    Ok(())
+    assert!(rt; passes(rt.alloc(), &file(code, &FUNCTION), filters_a_string));
+}
+
+// Whether the third step, within so many ticks, ends in this fault.
+fn faults_at_its_third(alloc: Global, machine: &mut Machine<'_>, left: u64, fault: u8) -> bool {
+    tells(alloc, machine, &[RAN, RAN]) && machine.step(alloc, left) == Err(Trap::Fault(fault))
 }
 
 // Behind setiosys and streamstr comes the fault: of no table, of a bad filter function at the first
 // character, of the budget before the object is read, and of an object that is no string.
 #[test]
-fn a_string_ends_in_its_fault(rt: HostRuntime) -> Result<(), Fail> {
+fn a_string_ends_in_its_fault(rt: HostRuntime) {
     let rows = [
         (*b"\xC1\0\0\x81\x49\x01\x02\x72\x02\0\xB0", 1, 16),
         (*b"\xC1\0\0\x81\x49\x11\x01\x05\x72\x01\x60", 1, 12),
@@ -154,11 +164,10 @@ fn a_string_ends_in_its_fault(rt: HostRuntime) -> Result<(), Fail> {
         let mut file = file(&code, &FUNCTION);
         file[0x60] = 0xE0;
         file[0x61] = 0x61;
-        let image = Image::parse(&file).ok().ok_or("an image")?;
-        let mut machine = started(rt.alloc(), &image)?;
-        let ran = Step::Ran(1);
-        assert!(rt; tells(rt.alloc(), &mut machine, &[ran, ran]));
-        assert!(rt; machine.step(rt.alloc(), left) == Err(Trap::Fault(fault)));
+        assert!(rt;
+            passes(rt.alloc(), &file, |alloc, machine| {
+                faults_at_its_third(alloc, machine, left, fault)
+            })
+        );
     }
-    Ok(())
 }

@@ -1,15 +1,18 @@
 //! Numbers of passes, and turns on real threads: what no clause says, or only a run shows.
+ghost use Rattle.std.specs.Prelude.{◌≡◌, ◌∷◌, [], IfOk};
+ghost use Rattle.turn_cell.specs.Passes.{pass_number, pass_numbers, seen};
 ghost use Rattle.turn_cell_uses.specs.Turns.{IsReadyPass};
 ghost use Rattle.turn_cell_uses.specs.DeskTag.{IsDeskOfBook};
 
 use crate::{
-    Book, Desk, Disk, Event, Log, Tally, accept, add, add_both, add_times, end, open_desk, request,
-    serve,
+    Answer, Book, Desk, Disk, Event, Log, Note, Tally, accept, add, add_both, add_times, end,
+    open_desk, request, serve,
 };
+use std::alloc::{AllocError, Global};
 use std::sync::Wait;
 use std::test::Fail;
 use std::thread::{Threads, join};
-use turn_cell::{Cell, Pass};
+use turn_cell::{Cell, Pass, Told};
 
 fn empty_log(rt: &HostRuntime) -> Log {
     Log {
@@ -18,37 +21,92 @@ fn empty_log(rt: &HostRuntime) -> Log {
     }
 }
 
+// A cell, its root, and two passes that were split from it.
+type SplitCell<T> = (Cell<T>, Pass<T>, Pass<T>, Pass<T>);
+
+// A cell with this value, whose root was split twice.
+fn split_twice<T: Told + Drop>(alloc: Global, value: T) -> Result<SplitCell<T>, AllocError>
+    ensures root { IfOk result (λ r. IsReadyPass r.0 r.1) }
+    ensures first { IfOk result (λ r. IsReadyPass r.0 r.2 × (pass_number r.2 ≡ 1)
+        × (pass_numbers r.2 ≡ 1 ∷ []) × (seen r.2 ≡ T.entries value)) }
+    ensures second { IfOk result (λ r. IsReadyPass r.0 r.3 × (pass_number r.3 ≡ 2)
+        × (pass_numbers r.3 ≡ 2 ∷ []) × (seen r.3 ≡ T.entries value)) }
+{
+    let (cell, mut root) = Cell::new(alloc, value)?;
+    let one = cell.split(alloc, &mut root)?;
+    let two = cell.split(alloc, &mut root)?;
+    Ok((cell, root, one, two))
+}
+
+// Whether these are a root and its two splits, by their numbers.
+fn are_numbered(root: &Pass<Log>, one: &Pass<Log>, two: &Pass<Log>) -> bool {
+    root.number() == 0
+        && one.number() == 1
+        && two.number() == 2
+        && root.made() == 2
+        && one.made() == 0
+        && two.made() == 0
+}
+
+// The places of a root's note, of its second split's, and of another of the root's once the first
+// split was joined into it.
+fn noted<R: Wait>(
+    rt: &R,
+    cell: &Cell<Log>,
+    root: &mut Pass<Log>,
+    one: Pass<Log>,
+    two: &mut Pass<Log>,
+) -> [Option<u64>; 3]
+    requires root { IsReadyPass cell.now root.old }
+    requires first { IsReadyPass cell.now one × (pass_number one ≡ 1) }
+    requires second { IsReadyPass cell.now two.old }
+    ensures kept { IsReadyPass cell.now root.new }
+{
+    let first = add(rt, cell, root, 9);
+    let second = add(rt, cell, two, 9);
+    cell.join(root, one);
+    let third = add(rt, cell, root, 9);
+    [first, second, third]
+}
+
+// Whether three notes stand at these places, the last two of the second split and of the root.
+fn are_three(places: &[Option<u64>; 3], notes: &[Note]) -> bool {
+    *places == [Some(0), Some(1), Some(2)]
+        && notes.len() == 3
+        && notes[1].by == 2
+        && notes[2].by == 0
+}
+
 #[test]
 fn two_splits_of_a_root_have_the_numbers_1_and_2(rt: HostRuntime) -> Result<(), Fail> {
-    let (cell, mut root) = Cell::new(rt.alloc(), empty_log(&rt))?;
-    let one = cell.split(rt.alloc(), &mut root)?;
-    let mut two = cell.split(rt.alloc(), &mut root)?;
-    assert!(rt; root.number() == 0 && one.number() == 1 && two.number() == 2);
-    assert!(rt; root.made() == 2 && one.made() == 0 && two.made() == 0);
-    assert!(rt; add(&rt, &cell, &mut root, 9) == Some(0));
-    assert!(rt; add(&rt, &cell, &mut two, 9) == Some(1));
-    cell.join(&mut root, one);
-    assert!(rt; add(&rt, &cell, &mut root, 9) == Some(2));
+    let (cell, mut root, one, mut two) = split_twice(rt.alloc(), empty_log(&rt))?;
+    let numbered = are_numbered(&root, &one, &two);
+    let places = noted(&rt, &cell, &mut root, one, &mut two);
     let log = end(&rt, cell, root);
-    assert!(rt; log.notes.len() == 3 && log.notes[1].by == 2 && log.notes[2].by == 0);
+    assert!(rt; numbered && are_three(&places, &log.notes));
     Ok(())
+}
+
+// Whether the notes have the first two places, and the pass that is left is the first split.
+fn are_first_and_second(added: &Option<(Pass<Log>, u64, u64)>) -> bool {
+    let Some((pass, a, b)) = added else {
+        return false;
+    };
+    let in_order = (*a, *b) == (0, 1);
+    let turned = (*a, *b) == (1, 0);
+    (in_order || turned) && pass.number() == 1 && pass.made() == 0
 }
 
 #[test]
 fn two_threads_note_in_one_history(rt: HostRuntime) -> Result<(), Fail> {
-    let Some((pass, a, b)) = add_both(&rt, rt.alloc(), 5, 6)? else {
-        panic!(rt; "no memory")
-    };
-    assert!(rt; (a, b) == (0, 1) || (a, b) == (1, 0));
-    assert!(rt; pass.number() == 1 && pass.made() == 0);
+    let added = add_both(&rt, rt.alloc(), 5, 6)?;
+    assert!(rt; are_first_and_second(&added));
     Ok(())
 }
 
 #[test]
 fn two_threads_take_10_000_turns_each(rt: HostRuntime) -> Result<(), Fail> {
-    let (cell, mut root) = Cell::new(rt.alloc(), empty_log(&rt))?;
-    let mut one = cell.split(rt.alloc(), &mut root)?;
-    let mut two = cell.split(rt.alloc(), &mut root)?;
+    let (cell, root, mut one, mut two) = split_twice(rt.alloc(), empty_log(&rt))?;
     join(
         &rt,
         || -> ()
@@ -81,16 +139,39 @@ impl Disk for Short {
     }
 }
 
+// What the desk of session 0 answers to three texts.
+fn served<R: Wait>(
+    rt: &R,
+    alloc: Global,
+    book: &Cell<Book<Short>>,
+    first: Pass<Book<Short>>,
+) -> Result<Vec<Answer>, AllocError>
+    requires pass { IsReadyPass book.now first × (pass_number first ≡ 1) }
+    requires none { (pass_numbers first ≡ 1 ∷ []) × (seen first ≡ []) }
+{
+    let (desk, mut pass) = open_desk(alloc, &[1, 2], 0, book, first)?;
+    serve(rt, alloc, book, &desk, &mut pass, &[7, 9, 10])
+}
+
+// Whether each answer has its place as its mark, and all but the third were accepted.
+fn are_two_accepted_of_three(answers: &[Answer]) -> bool {
+    let [first, second, third] = answers else {
+        return false;
+    };
+    first.mark == 0
+        && first.accepted
+        && second.mark == 1
+        && second.accepted
+        && third.mark == 2
+        && !third.accepted
+}
+
 #[test]
 fn a_refused_row_is_no_entry(rt: HostRuntime) -> Result<(), Fail> {
-    let (book, mut root) = Cell::new(rt.alloc(), Book::new(rt.alloc(), Short { left: 2 }))?;
-    let first = book.split(rt.alloc(), &mut root)?;
-    let (desk, mut pass) = open_desk(rt.alloc(), &[1, 2], 0, &book, first)?;
-    let answers = serve(&rt, rt.alloc(), &book, &desk, &mut pass, &[7, 9, 10])?;
-    assert!(rt; answers.len() == 3);
-    assert!(rt; answers[0].mark == 0 && answers[0].accepted);
-    assert!(rt; answers[1].mark == 1 && answers[1].accepted);
-    assert!(rt; answers[2].mark == 2 && !answers[2].accepted);
+    let value = Book::new(rt.alloc(), Short { left: 2 });
+    let (book, _root, first, _second) = split_twice(rt.alloc(), value)?;
+    let answers = served(&rt, rt.alloc(), &book, first)?;
+    assert!(rt; are_two_accepted_of_three(&answers));
     Ok(())
 }
 
@@ -117,25 +198,45 @@ fn two_requests<'i, D: Disk + Drop + Send, R: Threads + Wait + Sync>(
     )
 }
 
+// Whether a text is accepted at the desks of sessions 0 and 1, on a thread each.
+fn both_accepted<R: Threads + Wait + Sync>(
+    rt: &R,
+    alloc: Global,
+    book: &Cell<Book<Short>>,
+    first: Pass<Book<Short>>,
+    second: Pass<Book<Short>>,
+) -> Result<(bool, bool), AllocError>
+    requires first { IsReadyPass book.now first × (pass_number first ≡ 1)
+        × (pass_numbers first ≡ 1 ∷ []) × (seen first ≡ []) }
+    requires second { IsReadyPass book.now second × (pass_number second ≡ 2)
+        × (pass_numbers second ≡ 2 ∷ []) × (seen second ≡ []) }
+{
+    let (desk, pass) = open_desk(alloc, &[1, 2], 0, book, first)?;
+    let (other, other_pass) = open_desk(alloc, &[1, 2], 1, book, second)?;
+    Ok(two_requests(rt, book, &desk, &other, pass, other_pass, 8))
+}
+
 #[test]
 fn two_threads_turn_on_two_desks_of_one_book(rt: HostRuntime) -> Result<(), Fail> {
-    let (book, mut root) = Cell::new(rt.alloc(), Book::new(rt.alloc(), Short { left: 2 }))?;
-    let first = book.split(rt.alloc(), &mut root)?;
-    let second = book.split(rt.alloc(), &mut root)?;
-    let (desk, pass) = open_desk(rt.alloc(), &[1, 2], 0, &book, first)?;
-    let (other, other_pass) = open_desk(rt.alloc(), &[1, 2], 1, &book, second)?;
-    let both = two_requests(&rt, &book, &desk, &other, pass, other_pass, 8);
+    let value = Book::new(rt.alloc(), Short { left: 2 });
+    let (book, _root, first, second) = split_twice(rt.alloc(), value)?;
+    let both = both_accepted(&rt, rt.alloc(), &book, first, second)?;
     assert!(rt; both == (true, true));
     Ok(())
 }
 
+// Whether the root's text of two bytes is all that was accepted.
+fn is_one_text_of_two_bytes(tally: &Tally) -> bool {
+    tally.events.len() == 1
+        && matches!(&tally.events[0], Event::Accepted { by: 0, text } if text.len() == 2)
+}
+
 #[test]
 fn an_event_owns_its_text(rt: HostRuntime) -> Result<(), Fail> {
-    let (cell, mut root) = Cell::new(rt.alloc(), Tally::new(rt.alloc()))?;
     let text = vec![in rt.alloc(); 72u8, 105]?;
-    assert!(rt; accept(&rt, &cell, &mut root, text));
+    let (cell, mut root) = Cell::new(rt.alloc(), Tally::new(rt.alloc()))?;
+    let accepted = accept(&rt, &cell, &mut root, text);
     let tally = cell.enter(&rt, &mut root);
-    assert!(rt; tally.events.len() == 1);
-    assert!(rt; matches!(&tally.events[0], Event::Accepted { by: 0, text } if text.len() == 2));
+    assert!(rt; accepted && is_one_text_of_two_bytes(&tally));
     Ok(())
 }
