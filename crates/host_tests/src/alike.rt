@@ -2,16 +2,23 @@
 ghost use Rattle.std.specs.Prelude.{IfOk};
 ghost use Rattle.host_serve.specs.Hosts.{AreOf};
 
-use crate::hosts::{BUDGET, ended, new_disks, opened};
+use crate::hosts::{BUDGET, Disks, ended, new_disks, opened};
 use disk_model::MemDisk;
 use host_serve::{Host, NoPause, Passes};
-use line_words::write_reply;
+use line_words::{Reply, write_reply};
 use session_core::Sessions;
-use std::alloc::Global;
+use std::alloc::{AllocError, Global};
 use std::sync::Wait;
 use std::test::{Fail, *};
 use story_make::echo_story;
 use story_run::Story;
+
+/// Whether two replies are written alike.
+fn are_written_alike(alloc: Global, one: &Reply, other: &Reply) -> Result<bool, AllocError> {
+    let one = write_reply(alloc, one)?;
+    let other = write_reply(alloc, other)?;
+    Ok(one == other)
+}
 
 /// Whether a host answers each line as the sessions do that are played from the start.
 fn are_alike<'i, R: Wait>(
@@ -30,9 +37,39 @@ fn are_alike<'i, R: Wait>(
     for line in lines {
         let kept = host.request(rt, alloc, passes, &NoPause, line);
         let played = sessions.answer(alloc, stories, BUDGET, line)?;
-        alike = alike && write_reply(alloc, &kept)? == write_reply(alloc, &played)?;
+        alike = are_written_alike(alloc, &kept, &played)? && alike;
     }
     Ok(alike)
+}
+
+/// The disks of a host once it has ended, and whether it answered each line as those sessions.
+fn played_beside<'i, R: Wait>(
+    rt: &R,
+    alloc: Global,
+    stories: &'i [Story<'i>],
+    disks: Disks,
+    sessions: &mut Sessions,
+    lines: &[&[u8]],
+) -> Result<(Disks, bool), Fail> {
+    let (host, mut passes) = opened(alloc, stories, disks, BUDGET)?;
+    let alike = are_alike(rt, alloc, stories, &host, &mut passes, sessions, lines)?;
+    Ok((ended(rt, host, passes), alike))
+}
+
+/// Whether a host answers these lines, and the next one over its disks those behind them, as the
+/// sessions do.
+fn is_like_sessions<'i, R: Wait>(
+    rt: &R,
+    alloc: Global,
+    stories: &'i [Story<'i>],
+    lines: &[&[u8]],
+    later: &[&[u8]],
+) -> Result<bool, Fail> {
+    let mut sessions = Sessions::new(alloc)?;
+    let disks = new_disks(alloc)?;
+    let (disks, first) = played_beside(rt, alloc, stories, disks, &mut sessions, lines)?;
+    let (_, second) = played_beside(rt, alloc, stories, disks, &mut sessions, later)?;
+    Ok(first && second)
 }
 
 #[test]
@@ -69,31 +106,6 @@ fn a_host_answers_as_sessions_that_are_played_from_the_start(rt: HostRuntime) ->
     let alloc = rt.alloc();
     let bytes = echo_story(alloc)?;
     let stories = [Story::of(&bytes).ok().ok_or("a story")?];
-    let mut sessions = Sessions::new(alloc)?;
-    let (host, mut passes) = opened(alloc, &stories, new_disks(alloc)?, BUDGET)?;
-    assert!(rt;
-        are_alike(
-            &rt,
-            alloc,
-            &stories,
-            &host,
-            &mut passes,
-            &mut sessions,
-            &lines
-        )?
-    );
-    let disks = ended(&rt, host, passes);
-    let (host, mut passes) = opened(alloc, &stories, disks, BUDGET)?;
-    assert!(rt;
-        are_alike(
-            &rt,
-            alloc,
-            &stories,
-            &host,
-            &mut passes,
-            &mut sessions,
-            &later
-        )?
-    );
+    assert!(rt; is_like_sessions(&rt, alloc, &stories, &lines, &later)?);
     Ok(())
 }

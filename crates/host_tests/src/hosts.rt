@@ -11,7 +11,7 @@ use host_serve::{Host, Mark, NoPause, Passes, Served};
 use line_talk::{MemoryLink, MemorySink, MemorySource};
 use line_words::write_reply;
 use snap_store::make;
-use std::alloc::Global;
+use std::alloc::{AllocError, Global};
 use std::sync::Wait;
 use std::test::{Fail, *};
 use story_make::echo_story;
@@ -52,6 +52,14 @@ pub fn new_disks(alloc: Global) -> Result<Disks, Fail> {
     Ok(Disks { journal, snaps })
 }
 
+/// New disks, of which this call of that of this session's snapshots fails.
+pub fn failing(alloc: Global, session: u8, call: u64) -> Result<Disks, Fail> {
+    let mut disks = new_disks(alloc)?;
+    let disk = disks.snaps.get_mut(usize::from(session)).ok_or("a disk")?;
+    disk.fail_at(call)?;
+    Ok(disks)
+}
+
 /// The host of these disks, with its first passes.
 pub fn opened<'i>(
     alloc: Global,
@@ -88,13 +96,32 @@ fn reply<'i, R: Wait>(
     host: &Host<'i, MemDisk>,
     passes: &mut Passes<'i, MemDisk>,
     line: &[u8],
-) -> Result<Vec<u8>, Fail>
+) -> Result<Vec<u8>, AllocError>
     requires passes { AreOf host.now passes.old }
     ensures kept { AreOf host.now passes.new }
     ensures holders { holders passes.new.desks.items ≡ holders passes.old.desks.items }
 {
     let reply = host.request(rt, alloc, passes, &NoPause, line);
-    Ok(write_reply(alloc, &reply)?)
+    write_reply(alloc, &reply)
+}
+
+/// Whether a line is answered this.
+fn is_answered<'i, R: Wait>(
+    rt: &R,
+    alloc: Global,
+    host: &Host<'i, MemDisk>,
+    passes: &mut Passes<'i, MemDisk>,
+    line: &[u8],
+    wanted: &[u8],
+) -> bool
+    requires passes { AreOf host.now passes.old }
+    ensures kept { AreOf host.now passes.new }
+    ensures holders { holders passes.new.desks.items ≡ holders passes.old.desks.items }
+{
+    match reply(rt, alloc, host, passes, line) {
+        Ok(text) => text.as_slice() == wanted,
+        Err(_) => false,
+    }
 }
 
 /// What the lines of a link are answered, how they end, and their marks. Writes of these numbers
@@ -106,7 +133,7 @@ pub fn served<'i, R: Wait>(
     passes: &mut Passes<'i, MemDisk>,
     lines: &[u8],
     failing: &[u64],
-) -> Result<(Served, Vec<u8>, Vec<Mark>), Fail>
+) -> Result<(Served, Vec<u8>, Vec<Mark>), AllocError>
     requires passes { AreOf host.now passes.old }
     ensures kept { AreOf host.now passes.new }
 {
@@ -120,22 +147,83 @@ pub fn served<'i, R: Wait>(
     Ok((served, written, marks))
 }
 
+/// Whether each of two passes is answered what the other one's turns came to.
+fn have_one_history<'i, R: Wait>(
+    rt: &R,
+    alloc: Global,
+    host: &Host<'i, MemDisk>,
+    one: &mut Passes<'i, MemDisk>,
+) -> bool
+    requires passes { AreOf host.now one.old }
+    requires roots { AreRoots 0 (holders one.old.desks.items) }
+{
+    let begun = is_answered(rt, alloc, host, one, b"OPEN 0 k1 0 7 80 24", OPENED);
+    let Ok(mut two) = one.split(alloc, host) else {
+        return false;
+    };
+    begun
+        && is_answered(rt, alloc, host, one, b"LINE 0 k1 1 1 =a", A)
+        && is_answered(rt, alloc, host, &mut two, b"LINE 0 k1 1 1 =b", b"NO 7\n")
+        && is_answered(rt, alloc, host, &mut two, b"LAST 0 k1", A)
+        && is_answered(rt, alloc, host, one, b"LAST 0 k1", A)
+}
+
 #[test]
 fn two_passes_of_one_host_have_one_history(rt: HostRuntime) -> Result<(), Fail> {
     let alloc = rt.alloc();
     let bytes = echo_story(alloc)?;
     let stories = [Story::of(&bytes).ok().ok_or("a story")?];
     let (host, mut one) = opened(alloc, &stories, new_disks(alloc)?, BUDGET)?;
-    let begun = reply(&rt, alloc, &host, &mut one, b"OPEN 0 k1 0 7 80 24")?;
-    assert!(rt; begun.as_slice() == OPENED);
-    let mut two = one.split(alloc, &host)?;
-    let first = reply(&rt, alloc, &host, &mut one, b"LINE 0 k1 1 1 =a")?;
-    assert!(rt; first.as_slice() == A);
-    let second = reply(&rt, alloc, &host, &mut two, b"LINE 0 k1 1 1 =b")?;
-    assert!(rt; second.as_slice() == b"NO 7\n".as_slice());
-    assert!(rt; reply(&rt, alloc, &host, &mut two, b"LAST 0 k1")?.as_slice() == A);
-    assert!(rt; reply(&rt, alloc, &host, &mut one, b"LAST 0 k1")?.as_slice() == A);
+    assert!(rt; have_one_history(&rt, alloc, &host, &mut one));
     Ok(())
+}
+
+/// Whether the text is these two, one behind the other.
+fn is_joined(text: &[u8], first: &[u8], last: &[u8]) -> bool {
+    text.starts_with(first)
+        && text.ends_with(last)
+        && first.len().checked_add(last.len()) == Some(text.len())
+}
+
+/// Whether a link whose third write fails ends behind its second reply.
+fn ends_at_its_third_write<'i, R: Wait>(
+    rt: &R,
+    alloc: Global,
+    host: &Host<'i, MemDisk>,
+    passes: &mut Passes<'i, MemDisk>,
+) -> Result<bool, AllocError>
+    requires passes { AreOf host.now passes.old }
+    ensures kept { AreOf host.now passes.new }
+{
+    let lines = b"OPEN 0 k1 0 7 80 24\nLINE 0 k1 1 1 =a\nLINE 0 k1 2 1 =b\nLAST 0 k1\n";
+    let (end, text, marks) = served(rt, alloc, host, passes, lines, &[2])?;
+    Ok(end == Served::WriteFault && is_joined(&text, OPENED, A) && marks.len() == 3)
+}
+
+/// Whether these are the marks of the next link: sessions and lengths.
+fn are_marked(marks: &[Mark]) -> bool {
+    let wanted = [(0, 3), (1, 0), (64, 0), (0, 3)];
+    for (i, mark) in marks.iter().enumerate() {
+        if wanted.get(i) != Some(&(mark.session, mark.length)) {
+            return false;
+        }
+    }
+    true
+}
+
+/// Whether a link behind it has each of its replies.
+fn is_served<'i, R: Wait>(
+    rt: &R,
+    alloc: Global,
+    host: &Host<'i, MemDisk>,
+    passes: &mut Passes<'i, MemDisk>,
+) -> Result<bool, AllocError>
+    requires passes { AreOf host.now passes.old }
+    ensures kept { AreOf host.now passes.new }
+{
+    let lines = b"LINE 0 k1 2 1 =b\nLAST 1 k1\nLAST 64 k1\nCLOSE 0 k1 3\n";
+    let (end, text, marks) = served(rt, alloc, host, passes, lines, &[])?;
+    Ok(end == Served::End && is_joined(&text, B, REFUSED_AND_CLOSED) && are_marked(&marks))
 }
 
 #[test]
@@ -144,21 +232,40 @@ fn a_link_that_fails_ends_alone(rt: HostRuntime) -> Result<(), Fail> {
     let bytes = echo_story(alloc)?;
     let stories = [Story::of(&bytes).ok().ok_or("a story")?];
     let (host, mut passes) = opened(alloc, &stories, new_disks(alloc)?, BUDGET)?;
-    let lines = b"OPEN 0 k1 0 7 80 24\nLINE 0 k1 1 1 =a\nLINE 0 k1 2 1 =b\nLAST 0 k1\n";
-    let first = served(&rt, alloc, &host, &mut passes, lines, &[2])?;
-    assert!(rt; first.0 == Served::WriteFault);
-    assert!(rt; first.1.starts_with(OPENED) && first.1.ends_with(A));
-    assert!(rt; first.1.len() == OPENED.len() + A.len() && first.2.len() == 3);
-    let again = b"LINE 0 k1 2 1 =b\nLAST 1 k1\nLAST 64 k1\nCLOSE 0 k1 3\n";
-    let second = served(&rt, alloc, &host, &mut passes, again, &[])?;
-    assert!(rt; second.0 == Served::End);
-    assert!(rt; second.1.starts_with(B) && second.1.ends_with(REFUSED_AND_CLOSED));
-    assert!(rt; second.1.len() == B.len() + REFUSED_AND_CLOSED.len());
-    let marks = [(0, 3), (1, 0), (64, 0), (0, 3)];
-    for (i, mark) in second.2.iter().enumerate() {
-        assert!(rt; marks.get(i) == Some(&(mark.session, mark.length)));
-    }
+    let ended = matches!(
+        ends_at_its_third_write(&rt, alloc, &host, &mut passes),
+        Ok(true)
+    );
+    assert!(rt; ended && matches!(is_served(&rt, alloc, &host, &mut passes), Ok(true)));
     Ok(())
+}
+
+/// The disks of a host that has played two sessions and then ended.
+fn played<'i, R: Wait>(rt: &R, alloc: Global, stories: &'i [Story<'i>]) -> Result<Disks, Fail> {
+    let (host, mut passes) = opened(alloc, stories, new_disks(alloc)?, BUDGET)?;
+    let lines = b"OPEN 0 k1 0 7 80 24\nLINE 0 k1 1 1 =a\nLINE 0 k1 2 1 =b\nOPEN 5 k2 0 7 80 24\n";
+    let served = served(rt, alloc, &host, &mut passes, lines, &[]);
+    let disks = ended(rt, host, passes);
+    match served {
+        Ok((Served::End, _, _)) => Ok(disks),
+        _ => Err("all lines".into()),
+    }
+}
+
+/// Whether a host shows both sessions as they were.
+fn shows_both<'i, R: Wait>(
+    rt: &R,
+    alloc: Global,
+    host: &Host<'i, MemDisk>,
+    passes: &mut Passes<'i, MemDisk>,
+) -> bool
+    requires passes { AreOf host.now passes.old }
+{
+    is_answered(rt, alloc, host, passes, b"LAST 0 k1", B)
+        && match reply(rt, alloc, host, passes, b"LAST 5 k2") {
+            Ok(other) => other.starts_with(b"SHOW 5 0\n") && other.ends_with(&OPENED[9..]),
+            Err(_) => false,
+        }
 }
 
 #[test]
@@ -166,14 +273,8 @@ fn a_host_that_has_ended_is_opened_again(rt: HostRuntime) -> Result<(), Fail> {
     let alloc = rt.alloc();
     let bytes = echo_story(alloc)?;
     let stories = [Story::of(&bytes).ok().ok_or("a story")?];
-    let (host, mut passes) = opened(alloc, &stories, new_disks(alloc)?, BUDGET)?;
-    let lines = b"OPEN 0 k1 0 7 80 24\nLINE 0 k1 1 1 =a\nLINE 0 k1 2 1 =b\nOPEN 5 k2 0 7 80 24\n";
-    let served = served(&rt, alloc, &host, &mut passes, lines, &[])?;
-    assert!(rt; served.0 == Served::End);
-    let disks = ended(&rt, host, passes);
+    let disks = played(&rt, alloc, &stories)?;
     let (host, mut passes) = opened(alloc, &stories, disks, BUDGET)?;
-    assert!(rt; reply(&rt, alloc, &host, &mut passes, b"LAST 0 k1")?.as_slice() == B);
-    let other = reply(&rt, alloc, &host, &mut passes, b"LAST 5 k2")?;
-    assert!(rt; other.starts_with(b"SHOW 5 0\n") && other.ends_with(&OPENED[9..]));
+    assert!(rt; shows_both(&rt, alloc, &host, &mut passes));
     Ok(())
 }

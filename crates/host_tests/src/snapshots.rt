@@ -2,7 +2,7 @@
 //! session's, in which the story is over, so that a show tells which area was taken.
 ghost use Rattle.gate_journal.specs.Command.{IsBudget};
 
-use crate::hosts::{BUDGET, Disks, ended, new_disks, opened, served};
+use crate::hosts::{BUDGET, Disks, ended, failing, new_disks, opened, served};
 use disk_model::{Disk, MemDisk};
 use host_serve::Served;
 use std::alloc::Global;
@@ -93,11 +93,26 @@ fn copy_of(alloc: Global, disks: &Disks) -> Result<MemDisk, Fail> {
     Ok(disk.after_stop(alloc, 0)?)
 }
 
-/// Puts another snapshot file in the place of that of session 0.
-fn replace(disks: &mut Disks, disk: MemDisk) -> Result<(), Fail> {
+/// The disks with another snapshot file in the place of that of session 0.
+fn replaced(mut disks: Disks, disk: MemDisk) -> Result<Disks, Fail> {
     let place = disks.snaps.get_mut(0).ok_or("a disk")?;
     *place = disk;
-    Ok(())
+    Ok(disks)
+}
+
+/// Whether a game behind which the snapshot file is replaced shows this.
+fn shows_over<'i, R: Wait>(
+    rt: &R,
+    alloc: Global,
+    stories: &'i [Story<'i>],
+    over: MemDisk,
+    lines: &[u8],
+    shown: &[u8],
+) -> Result<bool, Fail> {
+    let (disks, text) = answered(rt, alloc, stories, new_disks(alloc)?, BUDGET, lines)?;
+    let disks = replaced(disks, over)?;
+    let (_, last) = answered(rt, alloc, stories, disks, BUDGET, LAST)?;
+    Ok(text.ends_with(A) && last.ends_with(shown))
 }
 
 #[test]
@@ -116,13 +131,63 @@ fn a_session_goes_on_from_an_area_of_its_last_open_row(rt: HostRuntime) -> Resul
     ];
     for (first, second, shown) in rows {
         let lines = games(alloc, first, second)?;
-        let (mut disks, text) = answered(&rt, alloc, &stories, new_disks(alloc)?, BUDGET, &lines)?;
-        assert!(rt; text.ends_with(A));
-        replace(&mut disks, over.after_stop(alloc, 0)?)?;
-        let (_, last) = answered(&rt, alloc, &stories, disks, BUDGET, LAST)?;
-        assert!(rt; last.ends_with(shown));
+        let copy = over.after_stop(alloc, 0)?;
+        assert!(rt; shows_over(&rt, alloc, &stories, copy, &lines, shown)?);
     }
     Ok(())
+}
+
+/// What stands in a snapshot file behind its header.
+fn areas_of(alloc: Global, mut disk: MemDisk) -> Result<Vec<u8>, Fail> {
+    let size = disk.size().ok().ok_or("a size")?;
+    let mut areas = vec![in alloc; 0; (size as usize).saturating_sub(4096)]?;
+    match disk.read_at(4096, areas.as_mut_slice()) {
+        Ok(()) => Ok(areas),
+        Err(_) => Err("a read".into()),
+    }
+}
+
+/// The disk with these bytes at a place, synced.
+fn written(mut disk: MemDisk, place: u64, bytes: &[u8]) -> Result<MemDisk, Fail> {
+    if disk.write_at(place, bytes).is_ok() && disk.sync().is_ok() {
+        Ok(disk)
+    } else {
+        Err("a write".into())
+    }
+}
+
+/// Whether the story goes on with the first of these files, and is over with the second.
+fn shows_each<'i, R: Wait>(
+    rt: &R,
+    alloc: Global,
+    stories: &'i [Story<'i>],
+    disks: Disks,
+    newer: MemDisk,
+    older: MemDisk,
+) -> Result<bool, Fail> {
+    let (disks, first) = answered(rt, alloc, stories, replaced(disks, newer)?, BUDGET, LAST)?;
+    let (_, second) = answered(rt, alloc, stories, replaced(disks, older)?, BUDGET, LAST)?;
+    Ok(first.ends_with(A) && second.ends_with(OVER))
+}
+
+/// The snapshot file of session 0 with these areas, and one in which the gate of the newer is 0.
+fn files_of(alloc: Global, disks: &Disks, areas: &[u8]) -> Result<(MemDisk, MemDisk), Fail> {
+    let newer = written(copy_of(alloc, disks)?, 4096, areas)?;
+    let older = written(newer.after_stop(alloc, 0)?, 9, &[0])?;
+    Ok((newer, older))
+}
+
+/// Whether it is the older area that serves where the gate of the newer is 0.
+fn shows_the_older<'i, R: Wait>(
+    rt: &R,
+    alloc: Global,
+    stories: &'i [Story<'i>],
+    areas: &[u8],
+) -> Result<bool, Fail> {
+    let lines = games(alloc, 36, None)?;
+    let (disks, _) = answered(rt, alloc, stories, new_disks(alloc)?, BUDGET, &lines)?;
+    let (newer, older) = files_of(alloc, &disks, areas)?;
+    shows_each(rt, alloc, stories, disks, newer, older)
 }
 
 #[test]
@@ -130,24 +195,89 @@ fn the_older_area_serves_where_the_gate_of_the_newer_is_0(rt: HostRuntime) -> Re
     let alloc = rt.alloc();
     let bytes = echo_story(alloc)?;
     let stories = [Story::of(&bytes).ok().ok_or("a story")?];
-    let mut over = over_file(&rt, alloc, &stories)?;
-    let size = over.size().ok().ok_or("a size")?;
-    let mut area = vec![in alloc; 0; (size as usize).saturating_sub(4096)]?;
-    assert!(rt; over.read_at(4096, area.as_mut_slice()).is_ok());
-    let lines = games(alloc, 36, None)?;
-    let (disks, _) = answered(&rt, alloc, &stories, new_disks(alloc)?, BUDGET, &lines)?;
-    let mut newer = copy_of(alloc, &disks)?;
-    assert!(rt; newer.write_at(4096, &area).is_ok() && newer.sync().is_ok());
-    let mut older = newer.after_stop(alloc, 0)?;
-    assert!(rt; older.write_at(9, &[0]).is_ok() && older.sync().is_ok());
-    let mut first = disks;
-    replace(&mut first, newer)?;
-    let (mut second, last) = answered(&rt, alloc, &stories, first, BUDGET, LAST)?;
-    assert!(rt; last.ends_with(A));
-    replace(&mut second, older)?;
-    let (_, last) = answered(&rt, alloc, &stories, second, BUDGET, LAST)?;
-    assert!(rt; last.ends_with(OVER));
+    let areas = areas_of(alloc, over_file(&rt, alloc, &stories)?)?;
+    assert!(rt; shows_the_older(&rt, alloc, &stories, &areas)?);
     Ok(())
+}
+
+/// What a host over these disks answers to lines, and the next one to a show.
+fn answered_by_two<'i, R: Wait>(
+    rt: &R,
+    alloc: Global,
+    stories: &'i [Story<'i>],
+    disks: Disks,
+    lines: &[u8],
+) -> Result<(Vec<u8>, Vec<u8>), Fail> {
+    let (disks, text) = answered(rt, alloc, stories, disks, BUDGET, lines)?;
+    let (_, last) = answered(rt, alloc, stories, disks, BUDGET, LAST)?;
+    Ok((text, last))
+}
+
+/// Whether a host over these disks and the next one answer this.
+fn are_answered<'i, R: Wait>(
+    rt: &R,
+    alloc: Global,
+    stories: &'i [Story<'i>],
+    disks: Disks,
+    lines: &[u8],
+    wanted: (&[u8], &[u8]),
+) -> Result<bool, Fail> {
+    let (text, last) = answered_by_two(rt, alloc, stories, disks, lines)?;
+    Ok(text.as_slice() == wanted.0 && last.as_slice() == wanted.1)
+}
+
+/// Whether the snapshot file of session 0 has no bytes.
+fn is_empty(disks: &mut Disks) -> bool {
+    match disks.snaps.get_mut(0) {
+        Some(disk) => disk.size() == Ok(0),
+        None => false,
+    }
+}
+
+/// Whether they answer this where the file has no header, and leave it so.
+fn are_answered_without_a_header<'i, R: Wait>(
+    rt: &R,
+    alloc: Global,
+    stories: &'i [Story<'i>],
+    lines: &[u8],
+    wanted: (&[u8], &[u8]),
+) -> Result<bool, Fail> {
+    let disks = replaced(new_disks(alloc)?, MemDisk::new(alloc))?;
+    let (mut disks, text) = answered(rt, alloc, stories, disks, BUDGET, lines)?;
+    let empty = is_empty(&mut disks);
+    let (_, last) = answered(rt, alloc, stories, disks, BUDGET, LAST)?;
+    Ok(empty && text.as_slice() == wanted.0 && last.as_slice() == wanted.1)
+}
+
+/// Whether they answer this whichever call of a put fails.
+fn are_answered_at_each_fault<'i, R: Wait>(
+    rt: &R,
+    alloc: Global,
+    stories: &'i [Story<'i>],
+    lines: &[u8],
+    wanted: (&[u8], &[u8]),
+) -> Result<bool, Fail> {
+    // the making of a file takes two calls of its disk, its opening five, and a put six
+    for call in 7..13 {
+        if !are_answered(rt, alloc, stories, failing(alloc, 0, call)?, lines, wanted)? {
+            return Ok(false);
+        }
+    }
+    Ok(true)
+}
+
+/// Whether they answer this still where a store fails or has no header.
+fn are_answered_still<'i, R: Wait>(
+    rt: &R,
+    alloc: Global,
+    stories: &'i [Story<'i>],
+    lines: &[u8],
+    wanted: (&[u8], &[u8]),
+) -> Result<bool, Fail> {
+    Ok(
+        are_answered_at_each_fault(rt, alloc, stories, lines, wanted)?
+            && are_answered_without_a_header(rt, alloc, stories, lines, wanted)?,
+    )
 }
 
 #[test]
@@ -156,25 +286,7 @@ fn a_store_that_fails_or_has_no_header_changes_no_reply(rt: HostRuntime) -> Resu
     let bytes = echo_story(alloc)?;
     let stories = [Story::of(&bytes).ok().ok_or("a story")?];
     let lines = games(alloc, 20, None)?;
-    let (disks, wanted) = answered(&rt, alloc, &stories, new_disks(alloc)?, BUDGET, &lines)?;
-    let (_, wanted_last) = answered(&rt, alloc, &stories, disks, BUDGET, LAST)?;
-    // the making of a file takes two calls of its disk, its opening five, and a put six
-    for call in 7..13 {
-        let mut disks = new_disks(alloc)?;
-        let disk = disks.snaps.get_mut(0).ok_or("a disk")?;
-        disk.fail_at(call)?;
-        let (disks, text) = answered(&rt, alloc, &stories, disks, BUDGET, &lines)?;
-        assert!(rt; text.as_slice() == wanted.as_slice());
-        let (_, last) = answered(&rt, alloc, &stories, disks, BUDGET, LAST)?;
-        assert!(rt; last.as_slice() == wanted_last.as_slice());
-    }
-    let mut disks = new_disks(alloc)?;
-    replace(&mut disks, MemDisk::new(alloc))?;
-    let (mut disks, text) = answered(&rt, alloc, &stories, disks, BUDGET, &lines)?;
-    assert!(rt; text.as_slice() == wanted.as_slice());
-    let disk = disks.snaps.get_mut(0).ok_or("a disk")?;
-    assert!(rt; disk.size() == Ok(0));
-    let (_, last) = answered(&rt, alloc, &stories, disks, BUDGET, LAST)?;
-    assert!(rt; last.as_slice() == wanted_last.as_slice());
+    let (text, last) = answered_by_two(&rt, alloc, &stories, new_disks(alloc)?, &lines)?;
+    assert!(rt; are_answered_still(&rt, alloc, &stories, &lines, (&text, &last))?);
     Ok(())
 }

@@ -1,6 +1,6 @@
 //! Hosts of which the disk of a store fails as it is opened.
 
-use crate::hosts::{BUDGET, Disks, new_disks};
+use crate::hosts::{BUDGET, Disks, failing};
 use disk_model::Disk;
 use host_serve::{Host, OpenFault};
 use std::alloc::Global;
@@ -9,16 +9,8 @@ use story_make::echo_story;
 use story_run::Story;
 
 /// The disk of the store of this session comes back as the only fault, where this call of it fails.
-fn comes_back(
-    alloc: Global,
-    stories: &[Story],
-    disks: Disks,
-    session: u8,
-    call: u64,
-) -> Result<bool, Fail> {
-    let Disks { journal, mut snaps } = disks;
-    let disk = snaps.get_mut(usize::from(session)).ok_or("a disk")?;
-    disk.fail_at(call)?;
+fn comes_back(alloc: Global, stories: &[Story], session: u8, call: u64) -> Result<bool, Fail> {
+    let Disks { journal, snaps } = failing(alloc, session, call)?;
     if snaps.len() != 64 {
         return Err("64 disks".into());
     }
@@ -42,9 +34,9 @@ fn the_disk_of_a_store_that_fails_in_its_opening_comes_back(rt: HostRuntime) -> 
     // the making of a file takes two calls of its disk, and its opening five
     for call in 2..7 {
         for session in [0, 5, 63] {
-            assert!(rt; comes_back(alloc, &stories, new_disks(alloc)?, session, call)?);
+            assert!(rt; comes_back(alloc, &stories, session, call)?);
         }
     }
-    assert!(rt; !comes_back(alloc, &stories, new_disks(alloc)?, 5, 7)?);
+    assert!(rt; !comes_back(alloc, &stories, 5, 7)?);
     Ok(())
 }
