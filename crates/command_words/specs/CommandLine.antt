@@ -1,38 +1,49 @@
 -- The commands of the command line, as `clap` is told of them (own).
 use Rattle.std.specs.Prelude.{Some, true, codes}
 use Rattle.clap.specs.Simple.{App, new_app, new_rule, on_top, with_rule, with_subcommand}
-use Rattle.clap.specs.Walk.{Rule}
+use Rattle.clap.specs.Walk.{Rule, Text}
 use Rattle.clap.specs.declared.builder.action.ArgAction.TheVariants.{Append}
+
+-- an argument that has to be given, one that may be given more often, and one that may be given
+-- behind its name
+abbrev pub required_rule : Text → Rule
+required_rule id = record (new_rule id) { required = true }
+
+abbrev pub repeated_rule : Text → Rule
+repeated_rule id = record (new_rule id) { required = true; action = Some Append }
+
+abbrev pub named_rule : Text → Rule
+named_rule id = record (new_rule id) { long = Some id }
 
 -- FILE, and DIR
 abbrev pub file_rule : Rule
-file_rule = record (new_rule (codes "FILE")) { required = true }
+file_rule = required_rule (codes "FILE")
 
 abbrev pub folder_rule : Rule
-folder_rule = record (new_rule (codes "DIR")) { required = true }
+folder_rule = required_rule (codes "DIR")
 
 -- PORT, and WORKERS
 abbrev pub port_rule : Rule
-port_rule = record (new_rule (codes "PORT")) { required = true }
+port_rule = required_rule (codes "PORT")
 
 abbrev pub workers_rule : Rule
-workers_rule = record (new_rule (codes "WORKERS")) { required = true }
+workers_rule = required_rule (codes "WORKERS")
 
 -- N
 abbrev pub number_argument : Rule
-number_argument = record (new_rule (codes "N")) { required = true }
+number_argument = required_rule (codes "N")
 
 -- STORY.., one or more
 abbrev pub stories_rule : Rule
-stories_rule = record (new_rule (codes "STORY")) { required = true; action = Some Append }
+stories_rule = repeated_rule (codes "STORY")
 
 -- `--budget N`
 abbrev pub budget_rule : Rule
-budget_rule = record (new_rule (codes "budget")) { long = Some (codes "budget") }
+budget_rule = named_rule (codes "budget")
 
 -- `--links K`
 abbrev pub links_rule : Rule
-links_rule = record (new_rule (codes "links")) { long = Some (codes "links") }
+links_rule = named_rule (codes "links")
 
 -- `run FILE [--budget N]`
 abbrev pub run_app : App

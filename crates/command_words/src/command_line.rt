@@ -1,23 +1,50 @@
 //! The commands of the command line, as `clap` is told of them.
-ghost use Rattle.std.specs.Prelude.{◌≡◌, IfOk, false};
+ghost use Rattle.std.specs.Prelude.{◌≡◌, IfOk, IsOkAnd, false};
 ghost use Rattle.clap.specs.Simple.{app_of};
+ghost use Rattle.clap.specs.Walk.{rule_of};
+ghost use Rattle.clap.specs.Words.{AddsSubcommand};
 ghost use Rattle.clap.specs.declared.builder.command.Command.TheViews.{out-Command as fields_of};
 ghost use Rattle.command_words.specs.CommandLine.{bare_app, check_app, drill_app, folder_app};
-ghost use Rattle.command_words.specs.CommandLine.{init_app, pipe_app, run_app, serve_app};
-ghost use Rattle.command_words.specs.CommandLine.{served_app, solo_app, storyhost_app};
+ghost use Rattle.command_words.specs.CommandLine.{init_app, named_rule, pipe_app, repeated_rule};
+ghost use Rattle.command_words.specs.CommandLine.{required_rule, run_app, serve_app, served_app};
+ghost use Rattle.command_words.specs.CommandLine.{solo_app, storyhost_app};
 
 use crate::help::VERSION;
 use clap::{Arg, ArgAction, Command};
 use std::alloc::{AllocError, Global};
+
+/// An argument that has to be given.
+fn required_argument<'w>(alloc: Global, id: &'w str) -> Arg<'w>
+    ensures rule { rule_of result ≡ required_rule id.entry.now }
+    ensures local { result.global ≡ false }
+{
+    Arg::new(alloc, id).required(true)
+}
+
+/// An argument that has to be given, once or more often.
+fn repeated_argument<'w>(alloc: Global, id: &'w str) -> Arg<'w>
+    ensures rule { rule_of result ≡ repeated_rule id.entry.now }
+    ensures local { result.global ≡ false }
+{
+    Arg::new(alloc, id).required(true).action(ArgAction::Append)
+}
+
+/// An argument that may be given behind its name.
+fn named_argument<'w>(alloc: Global, id: &'w str) -> Arg<'w>
+    ensures rule { rule_of result ≡ named_rule id.entry.now }
+    ensures local { result.global ≡ false }
+{
+    Arg::new(alloc, id).long(id)
+}
 
 /// `run FILE [--budget N]`.
 fn run_command<'w>(alloc: Global) -> Result<Command<'w>, AllocError>
     ensures app { IfOk result (λ c. app_of c ≡ run_app) }
     ensures local { IfOk result (λ c. (fields_of c).has_globals ≡ false) }
 {
-    let file = Arg::new(alloc, "FILE").required(true);
-    let budget = Arg::new(alloc, "budget").long("budget");
-    Command::new(alloc, "run").arg(file)?.arg(budget)
+    Command::new(alloc, "run")
+        .arg(required_argument(alloc, "FILE"))?
+        .arg(named_argument(alloc, "budget"))
 }
 
 /// `check FILE`.
@@ -25,8 +52,7 @@ fn check_command<'w>(alloc: Global) -> Result<Command<'w>, AllocError>
     ensures app { IfOk result (λ c. app_of c ≡ check_app) }
     ensures local { IfOk result (λ c. (fields_of c).has_globals ≡ false) }
 {
-    let file = Arg::new(alloc, "FILE").required(true);
-    Command::new(alloc, "check").arg(file)
+    Command::new(alloc, "check").arg(required_argument(alloc, "FILE"))
 }
 
 /// `init DIR`.
@@ -34,8 +60,7 @@ fn init_command<'w>(alloc: Global) -> Result<Command<'w>, AllocError>
     ensures app { IfOk result (λ c. app_of c ≡ init_app) }
     ensures local { IfOk result (λ c. (fields_of c).has_globals ≡ false) }
 {
-    let folder = Arg::new(alloc, "DIR").required(true);
-    Command::new(alloc, "init").arg(folder)
+    Command::new(alloc, "init").arg(required_argument(alloc, "DIR"))
 }
 
 /// `pipe DIR STORY.. [--budget N]`.
@@ -43,15 +68,10 @@ fn pipe_command<'w>(alloc: Global) -> Result<Command<'w>, AllocError>
     ensures app { IfOk result (λ c. app_of c ≡ pipe_app) }
     ensures local { IfOk result (λ c. (fields_of c).has_globals ≡ false) }
 {
-    let folder = Arg::new(alloc, "DIR").required(true);
-    let stories = Arg::new(alloc, "STORY")
-        .required(true)
-        .action(ArgAction::Append);
-    let budget = Arg::new(alloc, "budget").long("budget");
     Command::new(alloc, "pipe")
-        .arg(folder)?
-        .arg(stories)?
-        .arg(budget)
+        .arg(required_argument(alloc, "DIR"))?
+        .arg(repeated_argument(alloc, "STORY"))?
+        .arg(named_argument(alloc, "budget"))
 }
 
 /// `serve DIR PORT WORKERS`, without what follows.
@@ -59,13 +79,10 @@ fn served_command<'w>(alloc: Global) -> Result<Command<'w>, AllocError>
     ensures app { IfOk result (λ c. app_of c ≡ served_app) }
     ensures local { IfOk result (λ c. (fields_of c).has_globals ≡ false) }
 {
-    let folder = Arg::new(alloc, "DIR").required(true);
-    let port = Arg::new(alloc, "PORT").required(true);
-    let workers = Arg::new(alloc, "WORKERS").required(true);
     Command::new(alloc, "serve")
-        .arg(folder)?
-        .arg(port)?
-        .arg(workers)
+        .arg(required_argument(alloc, "DIR"))?
+        .arg(required_argument(alloc, "PORT"))?
+        .arg(required_argument(alloc, "WORKERS"))
 }
 
 /// `serve DIR PORT WORKERS STORY.. [--budget N] [--links K]`.
@@ -73,12 +90,10 @@ fn serve_command<'w>(alloc: Global) -> Result<Command<'w>, AllocError>
     ensures app { IfOk result (λ c. app_of c ≡ serve_app) }
     ensures local { IfOk result (λ c. (fields_of c).has_globals ≡ false) }
 {
-    let stories = Arg::new(alloc, "STORY")
-        .required(true)
-        .action(ArgAction::Append);
-    let budget = Arg::new(alloc, "budget").long("budget");
-    let links = Arg::new(alloc, "links").long("links");
-    served_command(alloc)?.arg(stories)?.arg(budget)?.arg(links)
+    served_command(alloc)?
+        .arg(repeated_argument(alloc, "STORY"))?
+        .arg(named_argument(alloc, "budget"))?
+        .arg(named_argument(alloc, "links"))
 }
 
 /// `drill N`.
@@ -86,8 +101,7 @@ fn drill_command<'w>(alloc: Global) -> Result<Command<'w>, AllocError>
     ensures app { IfOk result (λ c. app_of c ≡ drill_app) }
     ensures local { IfOk result (λ c. (fields_of c).has_globals ≡ false) }
 {
-    let number = Arg::new(alloc, "N").required(true);
-    Command::new(alloc, "drill").arg(number)
+    Command::new(alloc, "drill").arg(required_argument(alloc, "N"))
 }
 
 /// The program without its commands.
@@ -101,29 +115,39 @@ fn bare_command<'w>(alloc: Global) -> Command<'w>
         .version(VERSION)
 }
 
+/// The program with a command more, where there was memory to make that.
+fn with_command<'w>(
+    program: Command<'w>,
+    command: Result<Command<'w>, AllocError>,
+) -> Result<Command<'w>, AllocError>
+    ensures { IfOk result (λ new. IsOkAnd command.entry (λ one.
+        AddsSubcommand program.entry one new)) }
+{
+    program.subcommand(command?)
+}
+
 /// The program with its commands over one story.
 fn solo_command<'w>(alloc: Global) -> Result<Command<'w>, AllocError>
     ensures { IfOk result (λ c. app_of c ≡ solo_app) }
 {
-    let run = run_command(alloc)?;
-    let check = check_command(alloc)?;
-    bare_command(alloc).subcommand(run)?.subcommand(check)
+    let program = with_command(bare_command(alloc), run_command(alloc))?;
+    with_command(program, check_command(alloc))
 }
 
 /// The program with these and the commands over a folder and one connection.
 fn folder_command<'w>(alloc: Global) -> Result<Command<'w>, AllocError>
     ensures { IfOk result (λ c. app_of c ≡ folder_app) }
 {
-    let init = init_command(alloc)?;
-    let pipe = pipe_command(alloc)?;
-    solo_command(alloc)?.subcommand(init)?.subcommand(pipe)
+    let solo = solo_command(alloc)?;
+    let program = with_command(solo, init_command(alloc))?;
+    with_command(program, pipe_command(alloc))
 }
 
 /// The program with its commands.
 pub fn storyhost<'w>(alloc: Global) -> Result<Command<'w>, AllocError>
     ensures { IfOk result (λ c. app_of c ≡ storyhost_app) }
 {
-    let serve = serve_command(alloc)?;
-    let drill = drill_command(alloc)?;
-    folder_command(alloc)?.subcommand(serve)?.subcommand(drill)
+    let folder = folder_command(alloc)?;
+    let program = with_command(folder, serve_command(alloc))?;
+    with_command(program, drill_command(alloc))
 }
