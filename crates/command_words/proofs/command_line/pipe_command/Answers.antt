@@ -7,7 +7,8 @@ use Rattle.command_words.proofs.command_line.pipe_command.Goals as goal
 pub returns : goal.returns
 returns c =
     let first =
-    told_more c.in_ok-arg.ensures (record { shape = c.new.ensures.app; local = c.new.ensures.local })
+    told_more c.in_ok-arg.ensures
+    (record { shape = c.new.ensures.app; local = c.new.ensures.local })
     c.required_argument.ensures.rule c.required_argument.ensures.local in
     let second =
     told_more c.in_ok-arg-2.ensures first

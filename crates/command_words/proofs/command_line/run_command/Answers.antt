@@ -7,7 +7,8 @@ use Rattle.command_words.proofs.command_line.run_command.Goals as goal
 pub returns : goal.returns
 returns c =
     let first =
-    told_more c.in_ok-arg.ensures (record { shape = c.new.ensures.app; local = c.new.ensures.local })
+    told_more c.in_ok-arg.ensures
+    (record { shape = c.new.ensures.app; local = c.new.ensures.local })
     c.required_argument.ensures.rule c.required_argument.ensures.local in
     let told : IfOk c.arg-2.result (IsTold run_app) =
     IfOk-weaker c.arg-2.result _ _ (λ new adds. told_more adds first c.named_argument.ensures.rule

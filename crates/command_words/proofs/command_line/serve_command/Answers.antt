@@ -16,7 +16,8 @@ returns c =
     told_more c.in_ok-arg-2.ensures first
     c.named_argument.ensures.rule c.named_argument.ensures.local in
     let told : IfOk c.arg-3.result (IsTold serve_app) =
-    IfOk-weaker c.arg-3.result _ _ (λ new adds. told_more adds second c.named_argument-2.ensures.rule
+    IfOk-weaker c.arg-3.result _ _
+    (λ new adds. told_more adds second c.named_argument-2.ensures.rule
     c.named_argument-2.ensures.local) c.arg-3.ensures in
     record {
       app = IfOk-weaker c.arg-3.result _ _ (λ new t. t.shape) told;

@@ -7,13 +7,15 @@ use Rattle.command_words.proofs.command_line.served_command.Goals as goal
 pub returns : goal.returns
 returns c =
     let first =
-    told_more c.in_ok-arg.ensures (record { shape = c.new.ensures.app; local = c.new.ensures.local })
+    told_more c.in_ok-arg.ensures
+    (record { shape = c.new.ensures.app; local = c.new.ensures.local })
     c.required_argument.ensures.rule c.required_argument.ensures.local in
     let second =
     told_more c.in_ok-arg-2.ensures first
     c.required_argument-2.ensures.rule c.required_argument-2.ensures.local in
     let told : IfOk c.arg-3.result (IsTold served_app) =
-    IfOk-weaker c.arg-3.result _ _ (λ new adds. told_more adds second c.required_argument-3.ensures.rule
+    IfOk-weaker c.arg-3.result _ _
+    (λ new adds. told_more adds second c.required_argument-3.ensures.rule
     c.required_argument-3.ensures.local) c.arg-3.ensures in
     record {
       app = IfOk-weaker c.arg-3.result _ _ (λ new t. t.shape) told;
