@@ -18,6 +18,8 @@ const OPEN: &[u8] = b"OPEN 0 k1 0 7 80 24";
 
 const OPENED: &[u8] = b"SHOW 0 0\nW 1 3 0 0 80 24\nT 1 0 =>\nI 1 line 20 =\n.\n";
 
+const OTHER_OPEN: &[u8] = b"OPEN 1 k2 0 7 80 24";
+
 const OTHER_OPENED: &[u8] = b"SHOW 1 0\nW 1 3 0 0 80 24\nT 1 0 =>\nI 1 line 20 =\n.\n";
 
 const A: &[u8] = b"SHOW 0 1\nW 1 3 0 0 80 24\nT 1 8 =a%0A\nT 1 0 =a%0A>\nI 1 line 20 =\n.\n";
@@ -36,40 +38,40 @@ const NO_AND_A: &[u8] =
 const NO_AND_B: &[u8] =
     b"NO 7\nSHOW 0 1\nW 1 3 0 0 80 24\nT 1 8 =b%0A\nT 1 0 =b%0A>\nI 1 line 20 =\n.\n";
 
-/// Whether session 0 is opened, and this line answered this if one is given.
-fn is_begun<'i, R: Wait>(
+/// Whether lines are answered so.
+fn are_answered<'i, R: Wait>(
     rt: &R,
     alloc: Global,
     host: &Host<'i, MemDisk>,
     passes: &mut Passes<'i, MemDisk>,
-    other: Option<(&[u8], &[u8])>,
+    rows: &[(&[u8], &[u8])],
 ) -> bool
     requires passes { AreOf host.now passes.old }
     ensures kept { AreOf host.now passes.new }
 {
-    let opened = is_answered(rt, alloc, host, passes, OPEN, OPENED);
-    match other {
-        Some((line, text)) => is_answered(rt, alloc, host, passes, line, text) && opened,
-        None => opened,
+    let mut answered = true;
+    for row in rows {
+        answered = is_answered(rt, alloc, host, passes, row.0, row.1) && answered;
     }
+    answered
 }
 
-/// How the work of two ends at a door, once their host has opened session 0, and has answered this
-/// line so if one is given. `None` is that it answered otherwise.
-fn worked_behind<'a, 'i, R: Threads + Wait + Sync, P: Pause>(
+/// Whether the work of two at a door ends as it is shut, and not as it fails, once their host has
+/// answered these lines so.
+fn is_shut<'i, R: Threads + Wait + Sync, P: Pause>(
     rt: &R,
     alloc: Global,
     stories: &'i [Story<'i>],
-    other: Option<(&[u8], &[u8])>,
-    door: &Lines<'a>,
+    rows: &[(&[u8], &[u8])],
+    door: &Lines<'_>,
     pause: &P,
-) -> Result<Option<Worked<Lines<'a>>>, Fail> {
+) -> Result<bool, Fail> {
     let (host, mut one, two) = opened_for_two(alloc, stories)?;
-    if is_begun(rt, alloc, &host, &mut one, other) {
-        Ok(Some(worked(rt, alloc, &host, one, two, door, pause)))
-    } else {
-        Ok(None)
+    if !are_answered(rt, alloc, &host, &mut one, rows) {
+        return Err("other replies".into());
     }
+    let ended = worked(rt, alloc, &host, one, two, door, pause);
+    Ok(matches!(ended, Worked::Shut(())))
 }
 
 /// Whether one of two links had its command, and the other one was refused.
@@ -89,8 +91,7 @@ fn of_two_links_with_another_text_one_has_its_command(rt: HostRuntime) -> Result
         Some(b"LINE 0 k1 1 1 =b\nLAST 0 k1\n"),
     ];
     let door = Lines::new(alloc, &gives);
-    let ended = worked_behind(&rt, alloc, &stories, None, &door, &NoPause)?;
-    let shut = matches!(ended, Some(Worked::Shut(())));
+    let shut = is_shut(&rt, alloc, &stories, &[(OPEN, OPENED)], &door, &NoPause)?;
     assert!(rt; shut && one_has_its_command(&rt, &door));
     Ok(())
 }
@@ -103,8 +104,7 @@ fn a_link_is_answered_while_another_reply_is_held(rt: HostRuntime) -> Result<(),
     let gives: [Option<&[u8]>; 2] = [Some(b"LAST 0 k1\n"), Some(b"LAST 0 k1\n")];
     let door = Lines::new(alloc, &gives);
     let pause = HeldReply::new(&door.hung_up);
-    let ended = worked_behind(&rt, alloc, &stories, None, &door, &pause)?;
-    let shut = matches!(ended, Some(Worked::Shut(())));
+    let shut = is_shut(&rt, alloc, &stories, &[(OPEN, OPENED)], &door, &pause)?;
     assert!(rt; shut && pause.is_met() && door.answered(&rt, OPENED) == 2);
     Ok(())
 }
@@ -122,9 +122,8 @@ fn a_session_has_a_turn_while_another_one_is_held(rt: HostRuntime) -> Result<(),
     let gives: [Option<&[u8]>; 2] = [Some(b"LINE 0 k1 1 1 =a\n"), Some(b"LINE 1 k2 1 1 =b\n")];
     let door = Lines::new(alloc, &gives);
     let pause = HeldTurn::new();
-    let other: (&[u8], &[u8]) = (b"OPEN 1 k2 0 7 80 24", OTHER_OPENED);
-    let ended = worked_behind(&rt, alloc, &stories, Some(other), &door, &pause)?;
-    let shut = matches!(ended, Some(Worked::Shut(())));
+    let rows = [(OPEN, OPENED), (OTHER_OPEN, OTHER_OPENED)];
+    let shut = is_shut(&rt, alloc, &stories, &rows, &door, &pause)?;
     assert!(rt; shut && pause.is_met() && both_are_answered(&rt, &door));
     Ok(())
 }
@@ -136,9 +135,8 @@ fn the_other_worker_goes_on_where_the_door_fails_for_one(rt: HostRuntime) -> Res
     let stories = [Story::of(&bytes).ok().ok_or("a story")?];
     let gives: [Option<&[u8]>; 3] = [Some(b"LAST 0 k1\n"), None, Some(b"LAST 0 k1\n")];
     let door = Lines::new(alloc, &gives);
-    let ended = worked_behind(&rt, alloc, &stories, None, &door, &NoPause)?;
-    let failed = matches!(ended, Some(Worked::DoorFault(())));
-    assert!(rt; failed && door.answered(&rt, OPENED) == 2);
+    let shut = is_shut(&rt, alloc, &stories, &[(OPEN, OPENED)], &door, &NoPause)?;
+    assert!(rt; !shut && door.answered(&rt, OPENED) == 2);
     Ok(())
 }
 
@@ -163,19 +161,7 @@ fn links_of<'a>(
     Ok(gives)
 }
 
-/// Whether the work of two of a new host ends as the door is shut.
-fn is_shut_by_two<'i, R: Threads + Wait + Sync>(
-    rt: &R,
-    alloc: Global,
-    stories: &'i [Story<'i>],
-    door: &Lines<'_>,
-) -> Result<bool, Fail> {
-    let (host, one, two) = opened_for_two(alloc, stories)?;
-    let ended = worked(rt, alloc, &host, one, two, door, &NoPause);
-    Ok(matches!(ended, Worked::Shut(())))
-}
-
-/// Whether the work of four does.
+/// Whether the work of four does, of a host that has answered none.
 fn is_shut_by_four<'i, R: Threads + Wait + Sync>(
     rt: &R,
     alloc: Global,
@@ -192,6 +178,21 @@ fn are_eight_like<R: Wait>(rt: &R, door: &Lines<'_>, other: &Lines<'_>) -> bool 
     door.hung_up.load(Ordering::SeqCst) == 8 && door.is_like(rt, other)
 }
 
+/// Whether the links are answered by four workers as by two.
+fn are_answered_alike<'a, 'i, R: Threads + Wait + Sync>(
+    rt: &R,
+    alloc: Global,
+    stories: &'i [Story<'i>],
+    gives: &'a [Option<&'a [u8]>],
+) -> Result<bool, Fail> {
+    let by_two = Lines::new(alloc, gives);
+    let by_four = Lines::new(alloc, gives);
+    let shut = is_shut(rt, alloc, stories, &[], &by_two, &NoPause)?;
+    let shut_by_four = is_shut_by_four(rt, alloc, stories, &by_four)?;
+    let alike = are_eight_like(rt, &by_two, &by_four) && are_eight_like(rt, &by_four, &by_two);
+    Ok(shut && shut_by_four && alike)
+}
+
 #[test]
 fn scripts_are_answered_by_four_workers_as_by_two(rt: HostRuntime) -> Result<(), Fail> {
     let alloc = rt.alloc();
@@ -199,11 +200,6 @@ fn scripts_are_answered_by_four_workers_as_by_two(rt: HostRuntime) -> Result<(),
     let stories = [Story::of(&bytes).ok().ok_or("a story")?];
     let lines = scripts(alloc)?;
     let gives = links_of(alloc, &lines)?;
-    let by_two = Lines::new(alloc, &gives);
-    let by_four = Lines::new(alloc, &gives);
-    let shut_by_two = is_shut_by_two(&rt, alloc, &stories, &by_two)?;
-    let shut_by_four = is_shut_by_four(&rt, alloc, &stories, &by_four)?;
-    assert!(rt; shut_by_two && shut_by_four);
-    assert!(rt; are_eight_like(&rt, &by_two, &by_four) && are_eight_like(&rt, &by_four, &by_two));
+    assert!(rt; are_answered_alike(&rt, alloc, &stories, &gives)?);
     Ok(())
 }
