@@ -1,16 +1,24 @@
 //! Two workers at a door.
+ghost use Rattle.host_serve.specs.Hosts.{AreOf};
+
 use crate::door::Lines;
 use crate::holds::{HeldReply, HeldTurn};
 use crate::hosts::{is_answered, opened_for_four, opened_for_two, worked};
-use host_serve::{NoPause, Worked};
+use disk_model::MemDisk;
+use host_serve::{Host, NoPause, Passes, Pause, Worked};
+use std::alloc::{AllocError, Global};
+use std::sync::Wait;
 use std::sync::atomic::Ordering;
 use std::test::{Fail, *};
+use std::thread::Threads;
 use story_make::{echo_story, script};
 use story_run::Story;
 
 const OPEN: &[u8] = b"OPEN 0 k1 0 7 80 24";
 
 const OPENED: &[u8] = b"SHOW 0 0\nW 1 3 0 0 80 24\nT 1 0 =>\nI 1 line 20 =\n.\n";
+
+const OTHER_OPEN: &[u8] = b"OPEN 1 k2 0 7 80 24";
 
 const OTHER_OPENED: &[u8] = b"SHOW 1 0\nW 1 3 0 0 80 24\nT 1 0 =>\nI 1 line 20 =\n.\n";
 
@@ -30,23 +38,61 @@ const NO_AND_A: &[u8] =
 const NO_AND_B: &[u8] =
     b"NO 7\nSHOW 0 1\nW 1 3 0 0 80 24\nT 1 8 =b%0A\nT 1 0 =b%0A>\nI 1 line 20 =\n.\n";
 
+/// Whether lines are answered so.
+fn are_answered<'i, R: Wait>(
+    rt: &R,
+    alloc: Global,
+    host: &Host<'i, MemDisk>,
+    passes: &mut Passes<'i, MemDisk>,
+    rows: &[(&[u8], &[u8])],
+) -> bool
+    requires passes { AreOf host.now passes.old }
+    ensures kept { AreOf host.now passes.new }
+{
+    let mut answered = true;
+    for row in rows {
+        answered = is_answered(rt, alloc, host, passes, row.0, row.1) && answered;
+    }
+    answered
+}
+
+/// Whether the work of two at a door ends as it is shut, and not as it fails, once their host has
+/// answered these lines so.
+fn is_shut<'i, R: Threads + Wait + Sync, P: Pause>(
+    rt: &R,
+    alloc: Global,
+    stories: &'i [Story<'i>],
+    rows: &[(&[u8], &[u8])],
+    door: &Lines<'_>,
+    pause: &P,
+) -> Result<bool, Fail> {
+    let (host, mut one, two) = opened_for_two(alloc, stories)?;
+    if !are_answered(rt, alloc, &host, &mut one, rows) {
+        return Err("other replies".into());
+    }
+    let ended = worked(rt, alloc, &host, one, two, door, pause);
+    Ok(matches!(ended, Worked::Shut(())))
+}
+
+/// Whether one of two links had its command, and the other one was refused.
+fn one_has_its_command<R: Wait>(rt: &R, door: &Lines<'_>) -> bool {
+    let a = (door.answered(rt, A_AND_A), door.answered(rt, NO_AND_A));
+    let b = (door.answered(rt, B_AND_B), door.answered(rt, NO_AND_B));
+    (a == (1, 1) && b == (0, 0)) || (a == (0, 0) && b == (1, 1))
+}
+
 #[test]
 fn of_two_links_with_another_text_one_has_its_command(rt: HostRuntime) -> Result<(), Fail> {
     let alloc = rt.alloc();
     let bytes = echo_story(alloc)?;
     let stories = [Story::of(&bytes).ok().ok_or("a story")?];
-    let (host, mut one, two) = opened_for_two(alloc, &stories)?;
-    assert!(rt; is_answered(&rt, alloc, &host, &mut one, OPEN, OPENED)?);
     let gives: [Option<&[u8]>; 2] = [
         Some(b"LINE 0 k1 1 1 =a\nLAST 0 k1\n"),
         Some(b"LINE 0 k1 1 1 =b\nLAST 0 k1\n"),
     ];
     let door = Lines::new(alloc, &gives);
-    let ended = worked(&rt, alloc, &host, one, two, &door, &NoPause);
-    assert!(rt; matches!(ended, Worked::Shut(())));
-    let a = (door.answered(&rt, A_AND_A), door.answered(&rt, NO_AND_A));
-    let b = (door.answered(&rt, B_AND_B), door.answered(&rt, NO_AND_B));
-    assert!(rt; (a == (1, 1) && b == (0, 0)) || (a == (0, 0) && b == (1, 1)));
+    let shut = is_shut(&rt, alloc, &stories, &[(OPEN, OPENED)], &door, &NoPause)?;
+    assert!(rt; shut && one_has_its_command(&rt, &door));
     Ok(())
 }
 
@@ -55,16 +101,17 @@ fn a_link_is_answered_while_another_reply_is_held(rt: HostRuntime) -> Result<(),
     let alloc = rt.alloc();
     let bytes = echo_story(alloc)?;
     let stories = [Story::of(&bytes).ok().ok_or("a story")?];
-    let (host, mut one, two) = opened_for_two(alloc, &stories)?;
-    assert!(rt; is_answered(&rt, alloc, &host, &mut one, OPEN, OPENED)?);
     let gives: [Option<&[u8]>; 2] = [Some(b"LAST 0 k1\n"), Some(b"LAST 0 k1\n")];
     let door = Lines::new(alloc, &gives);
     let pause = HeldReply::new(&door.hung_up);
-    let ended = worked(&rt, alloc, &host, one, two, &door, &pause);
-    assert!(rt; matches!(ended, Worked::Shut(())));
-    assert!(rt; pause.is_met());
-    assert!(rt; door.answered(&rt, OPENED) == 2);
+    let shut = is_shut(&rt, alloc, &stories, &[(OPEN, OPENED)], &door, &pause)?;
+    assert!(rt; shut && pause.is_met() && door.answered(&rt, OPENED) == 2);
     Ok(())
+}
+
+/// Whether one link was answered an a in session 0, and one a b in session 1.
+fn both_are_answered<R: Wait>(rt: &R, door: &Lines<'_>) -> bool {
+    door.answered(rt, A) == 1 && door.answered(rt, OTHER_B) == 1
 }
 
 #[test]
@@ -72,17 +119,12 @@ fn a_session_has_a_turn_while_another_one_is_held(rt: HostRuntime) -> Result<(),
     let alloc = rt.alloc();
     let bytes = echo_story(alloc)?;
     let stories = [Story::of(&bytes).ok().ok_or("a story")?];
-    let (host, mut one, two) = opened_for_two(alloc, &stories)?;
-    assert!(rt; is_answered(&rt, alloc, &host, &mut one, OPEN, OPENED)?);
-    let other = b"OPEN 1 k2 0 7 80 24";
-    assert!(rt; is_answered(&rt, alloc, &host, &mut one, other, OTHER_OPENED)?);
     let gives: [Option<&[u8]>; 2] = [Some(b"LINE 0 k1 1 1 =a\n"), Some(b"LINE 1 k2 1 1 =b\n")];
     let door = Lines::new(alloc, &gives);
     let pause = HeldTurn::new();
-    let ended = worked(&rt, alloc, &host, one, two, &door, &pause);
-    assert!(rt; matches!(ended, Worked::Shut(())));
-    assert!(rt; pause.is_met());
-    assert!(rt; door.answered(&rt, A) == 1 && door.answered(&rt, OTHER_B) == 1);
+    let rows = [(OPEN, OPENED), (OTHER_OPEN, OTHER_OPENED)];
+    let shut = is_shut(&rt, alloc, &stories, &rows, &door, &pause)?;
+    assert!(rt; shut && pause.is_met() && both_are_answered(&rt, &door));
     Ok(())
 }
 
@@ -91,14 +133,64 @@ fn the_other_worker_goes_on_where_the_door_fails_for_one(rt: HostRuntime) -> Res
     let alloc = rt.alloc();
     let bytes = echo_story(alloc)?;
     let stories = [Story::of(&bytes).ok().ok_or("a story")?];
-    let (host, mut one, two) = opened_for_two(alloc, &stories)?;
-    assert!(rt; is_answered(&rt, alloc, &host, &mut one, OPEN, OPENED)?);
     let gives: [Option<&[u8]>; 3] = [Some(b"LAST 0 k1\n"), None, Some(b"LAST 0 k1\n")];
     let door = Lines::new(alloc, &gives);
-    let ended = worked(&rt, alloc, &host, one, two, &door, &NoPause);
-    assert!(rt; matches!(ended, Worked::DoorFault(())));
-    assert!(rt; door.answered(&rt, OPENED) == 2);
+    let shut = is_shut(&rt, alloc, &stories, &[(OPEN, OPENED)], &door, &NoPause)?;
+    assert!(rt; !shut && door.answered(&rt, OPENED) == 2);
     Ok(())
+}
+
+/// Scripts of eight sessions.
+fn scripts(alloc: Global) -> Result<Vec<Vec<u8>>, AllocError> {
+    let mut scripts = Vec::new(alloc);
+    for session in 0..8 {
+        scripts.push(script(alloc, 1, session, 100)?)?;
+    }
+    Ok(scripts)
+}
+
+/// A link for each script.
+fn links_of<'a>(
+    alloc: Global,
+    scripts: &'a [Vec<u8>],
+) -> Result<Vec<Option<&'a [u8]>>, AllocError> {
+    let mut gives: Vec<Option<&[u8]>> = Vec::new(alloc);
+    for lines in scripts {
+        gives.push(Some(lines.as_slice()))?;
+    }
+    Ok(gives)
+}
+
+/// Whether the work of four does, of a host that has answered none.
+fn is_shut_by_four<'i, R: Threads + Wait + Sync>(
+    rt: &R,
+    alloc: Global,
+    stories: &'i [Story<'i>],
+    door: &Lines<'_>,
+) -> Result<bool, Fail> {
+    let (host, mut workers) = opened_for_four(alloc, stories)?;
+    let ended = host.work(rt, alloc, door, &NoPause, &mut workers);
+    Ok(matches!(ended, Worked::Shut(())))
+}
+
+/// Whether eight links were hung up, each with replies that one of the other door's has.
+fn are_eight_like<R: Wait>(rt: &R, door: &Lines<'_>, other: &Lines<'_>) -> bool {
+    door.hung_up.load(Ordering::SeqCst) == 8 && door.is_like(rt, other)
+}
+
+/// Whether the links are answered by four workers as by two.
+fn are_answered_alike<'a, 'i, R: Threads + Wait + Sync>(
+    rt: &R,
+    alloc: Global,
+    stories: &'i [Story<'i>],
+    gives: &'a [Option<&'a [u8]>],
+) -> Result<bool, Fail> {
+    let by_two = Lines::new(alloc, gives);
+    let by_four = Lines::new(alloc, gives);
+    let shut = is_shut(rt, alloc, stories, &[], &by_two, &NoPause)?;
+    let shut_by_four = is_shut_by_four(rt, alloc, stories, &by_four)?;
+    let alike = are_eight_like(rt, &by_two, &by_four) && are_eight_like(rt, &by_four, &by_two);
+    Ok(shut && shut_by_four && alike)
 }
 
 #[test]
@@ -106,23 +198,8 @@ fn scripts_are_answered_by_four_workers_as_by_two(rt: HostRuntime) -> Result<(),
     let alloc = rt.alloc();
     let bytes = echo_story(alloc)?;
     let stories = [Story::of(&bytes).ok().ok_or("a story")?];
-    let mut scripts = Vec::new(alloc);
-    for session in 0..8 {
-        scripts.push(script(alloc, 1, session, 100)?)?;
-    }
-    let mut gives: Vec<Option<&[u8]>> = Vec::new(alloc);
-    for lines in &scripts {
-        gives.push(Some(lines.as_slice()))?;
-    }
-    let (host, one, two) = opened_for_two(alloc, &stories)?;
-    let by_two = Lines::new(alloc, &gives);
-    let ended = worked(&rt, alloc, &host, one, two, &by_two, &NoPause);
-    assert!(rt; matches!(ended, Worked::Shut(())));
-    let (host, mut workers) = opened_for_four(alloc, &stories)?;
-    let by_four = Lines::new(alloc, &gives);
-    let ended = host.work(&rt, alloc, &by_four, &NoPause, &mut workers);
-    assert!(rt; matches!(ended, Worked::Shut(())));
-    assert!(rt; by_two.hung_up.load(Ordering::SeqCst) == 8 && by_two.is_like(&rt, &by_four));
-    assert!(rt; by_four.hung_up.load(Ordering::SeqCst) == 8 && by_four.is_like(&rt, &by_two));
+    let lines = scripts(alloc)?;
+    let gives = links_of(alloc, &lines)?;
+    assert!(rt; are_answered_alike(&rt, alloc, &stories, &gives)?);
     Ok(())
 }
