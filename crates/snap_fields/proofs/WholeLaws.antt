@@ -14,7 +14,7 @@ use Rattle.snap_fields.specs.Printing.{print_random, print_waiting, print_number
 use Rattle.snap_fields.specs.Printing.{print_stream, print_fileref, print_file, print_fields}
 use Rattle.snap_fields.specs.Printable.{IsWindow, IsStream, IsFileRef, IsFile, IsPrintable}
 use Rattle.snap_fields.specs.GlkItems.{window_item_at, stream_item_at, fileref_at, file_at}
-use Rattle.snap_fields.specs.Whole.{objects_at, play_at, parts_at, fields_of_parts}
+use Rattle.snap_fields.specs.Whole.{objects_at, after_machine_at, parts_at, fields_of_parts}
 use Rattle.snap_fields.specs.Whole.{signed_fields}
 use Rattle.snap_fields.specs.Whole.{fields_at, if_all_read, FindsWhole}
 use Rattle.snap_fields.specs.Laws.{SpellsFields, RefusesFields, ReadsFields}
@@ -43,7 +43,7 @@ Signed n f = (0x53545731 ≡ n) × IsPrintable f
 made_of : (n : ℕ)
     → 0x53545731 ≡ n
     → IsReader Fields behind (Signed n) (reader_made fields_of_parts parts_at)
-unfolding play_at objects_at
+unfolding after_machine_at objects_at
 made_of n is =
     made_reads behind (Signed n) fields_of_parts
     (setup_reads before machine_reads before settings_reads before random_reads

@@ -19,7 +19,7 @@ use Rattle.snap_fields.specs.declared.glk.FileRef.{FileRef}
 use Rattle.snap_fields.specs.declared.glk.Stream.{Stream}
 use Rattle.snap_fields.specs.declared.glk.Window.{Window}
 use Rattle.snap_fields.specs.declared.read.Objects.{Objects}
-use Rattle.snap_fields.specs.declared.read.Play.{Play}
+use Rattle.snap_fields.specs.declared.read.AfterMachine.{AfterMachine}
 
 -- the objects of Glk, and what was shown last
 abbrev pub ObjectParts : Type 0
@@ -34,25 +34,25 @@ abbrev pub object_parts : Objects → ObjectParts
 object_parts o = (o.windows, (o.streams, (o.filerefs, (o.files, o.show))))
 
 -- the items behind the machine
-abbrev pub PlayParts : Type 0
-PlayParts =
+abbrev pub AfterMachineParts : Type 0
+AfterMachineParts =
     Settings × (Random × (List (List ℕ) × (Waiting × (Numbers × ObjectParts))))
 
-unfoldable pub play_at : Reader PlayParts
-play_at =
+unfoldable pub after_machine_at : Reader AfterMachineParts
+after_machine_at =
     settings_at then random_at then list_at bytes_at then waiting_at then numbers_at
     then objects_at
 
-abbrev pub play_parts : Play → PlayParts
-play_parts p =
+abbrev pub after_machine_parts : AfterMachine → AfterMachineParts
+after_machine_parts p =
     (p.settings, (p.random, (p.undo, (p.waiting, (p.numbers, object_parts p.objects)))))
 
 -- the items behind the signature
 abbrev pub Parts : Type 0
-Parts = Setup × (Machine × PlayParts)
+Parts = Setup × (Machine × AfterMachineParts)
 
 abbrev pub parts_at : Reader Parts
-parts_at = setup_at then machine_at then play_at
+parts_at = setup_at then machine_at then after_machine_at
 
 abbrev pub fields_of_parts : Parts → Fields
 fields_of_parts (

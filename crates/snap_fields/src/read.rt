@@ -4,7 +4,7 @@ ghost use Rattle.std.specs.Prelude.{IfErr, IfOk};
 ghost use Rattle.snap_fields.specs.Laws.{RefusesFields, SpellsFields};
 ghost use Rattle.snap_fields.specs.Reading.{ReadsFront, ReadsParts};
 ghost use Rattle.snap_fields.specs.Whole.{FindsWhole, fields_at, if_all_read, object_parts};
-ghost use Rattle.snap_fields.specs.Whole.{objects_at, play_at, play_parts};
+ghost use Rattle.snap_fields.specs.Whole.{objects_at, after_machine_at, after_machine_parts};
 
 use crate::cursor::Cursor;
 use crate::fault::SnapFault;
@@ -30,7 +30,7 @@ struct Objects {
 
 /// What stands behind the machine.
 #[derive(Drop)]
-struct Play {
+struct AfterMachine {
     settings: Settings,
     random: Random,
     undo: Items<Items<u8>>,
@@ -54,11 +54,11 @@ fn read_objects(alloc: Global, from: &mut Cursor<'_>) -> Result<Objects, SnapFau
 }
 
 /// Reads what stands behind the machine.
-#[tactic(auto, unfolding(crate::specs::Whole::play_at))]
-fn read_play(alloc: Global, from: &mut Cursor<'_>) -> Result<Play, SnapFault>
-    ensures { ReadsParts play_parts play_at from.old from.new result }
+#[tactic(auto, unfolding(crate::specs::Whole::after_machine_at))]
+fn read_after_machine(alloc: Global, from: &mut Cursor<'_>) -> Result<AfterMachine, SnapFault>
+    ensures { ReadsParts after_machine_parts after_machine_at from.old from.new result }
 {
-    Ok(Play {
+    Ok(AfterMachine {
         settings: settings(from)?,
         random: random(from)?,
         undo: list(alloc, from)?,
@@ -77,20 +77,20 @@ fn fields(alloc: Global, from: &mut Cursor<'_>) -> Result<Fields, SnapFault>
     }
     let setup = setup(from)?;
     let machine = machine(alloc, from)?;
-    let play = read_play(alloc, from)?;
+    let after = read_after_machine(alloc, from)?;
     Ok(Fields {
         setup,
         machine,
-        settings: play.settings,
-        random: play.random,
-        undo: play.undo,
-        waiting: play.waiting,
-        numbers: play.numbers,
-        windows: play.objects.windows,
-        streams: play.objects.streams,
-        filerefs: play.objects.filerefs,
-        files: play.objects.files,
-        show: play.objects.show,
+        settings: after.settings,
+        random: after.random,
+        undo: after.undo,
+        waiting: after.waiting,
+        numbers: after.numbers,
+        windows: after.objects.windows,
+        streams: after.objects.streams,
+        filerefs: after.objects.filerefs,
+        files: after.objects.files,
+        show: after.objects.show,
     })
 }
 
