@@ -14,6 +14,7 @@ pub mod MixLemmas
 pub mod NewestLemmas
 pub mod RootLemmas
 pub mod SplitLemmas
+pub mod JoinLemmas
 pub mod CrewLemmas
 pub mod DoorLemmas
 pub mod SharingLemmas

@@ -11,3 +11,4 @@ pub mod Gathering
 pub mod Doors
 pub mod Crews
 pub mod Splitting
+pub mod Joining

@@ -8,6 +8,7 @@ mod door;
 mod end;
 mod fault;
 mod host;
+mod join;
 mod mark;
 mod open;
 mod pause;
