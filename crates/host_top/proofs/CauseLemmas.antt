@@ -7,6 +7,7 @@ use Rattle.gate_journal.specs.declared.fault.InitFault.TheVariants as begin
 use Rattle.gate_journal.specs.declared.fault.JournalFault.{JournalFault}
 use Rattle.gate_journal.specs.declared.fault.JournalFault.TheVariants as fault
 use Rattle.story_run.specs.declared.story.Story.{Story}
+use Rattle.host_top.specs.DoorServed.{OfDoor}
 use Rattle.host_top.specs.Begun.{InitsOn, SaysRefusal}
 use Rattle.host_top.specs.Borrowed.{CountsFaults, HasFailed, NotLent, journal_in, lent_as}
 use Rattle.host_top.specs.Borrowed.{snaps_below}
@@ -115,21 +116,24 @@ pipe_failed disks {stories} {budget} folder outside beyond {input} {now} output 
     hosted_failed disks _ folder t.given t.givens t.back outside beyond input now output new t.many
     t.counts (λ journal snaps hosts. no_end hosts.0 _ hosts.1) t.done
 
-no_links : {D : Type 0} (disks : DiskWords D) {stories : List Story} {given back : D}
-    {givens backs : List D} {input now : SourceState} {output new : SinkState} (A : Type 0)
-    → LinksServed disks stories given givens back backs input now output new DiskFault → A
+no_links : {D : Type 0} (disks : DiskWords D) {OnDoor : OfDoor D} {stories : List Story}
+    {budget workers : ℕ} {given back : D} {givens backs : List D} {input now : SourceState}
+    {output new : SinkState} (A : Type 0)
+    → LinksServed disks OnDoor stories budget workers given givens back backs input now output new
+    DiskFault → A
 no_links disks A served = elim served.how [
   | inl done ↦ absurd (grind (arith, done))
   | inr (inl door) ↦ absurd (grind (arith, door))
   | inr (inr wanted) ↦ absurd (grind (arith, wanted))
 ]
 
-links_failed : {D : Type 0} (disks : DiskWords D) {stories : List Story} (folder : List ℕ)
+links_failed : {D : Type 0} (disks : DiskWords D) {OnDoor : OfDoor D} {stories : List Story}
+    {budget workers : ℕ} (folder : List ℕ)
     (outside beyond : OutsideState D) {input now : SourceState} (output new : SinkState)
     → TakesDisks disks folder
-    (λ given givens b. ServesOver disks stories given givens b input now output
-    new DiskFault) outside beyond → Failed outside.disk_faults beyond.disk_faults output new
-links_failed disks {stories} folder outside beyond {input} {now} output new t =
+    (λ given givens b. ServesOver disks OnDoor stories budget workers given givens b input now
+    output new DiskFault) outside beyond → Failed outside.disk_faults beyond.disk_faults output new
+links_failed disks folder outside beyond {input} {now} output new t =
     hosted_failed disks _ folder t.given t.givens t.back outside beyond input now output new t.many
     t.counts (λ journal snaps hosts. no_links disks _ hosts) t.done
 
@@ -171,47 +175,50 @@ init_failed disks folder outside beyond output new (inr i) = elim i.inits.does [
   ]
 ]
 
-does_failed : {D : Type 0} (disks : DiskWords D) (task : Result Task (List ℕ))
+does_failed : {D : Type 0} (disks : DiskWords D) (OnDoor : OfDoor D) (task : Result Task (List ℕ))
     (outside beyond : OutsideState D) (input now : SourceState) (output new : SinkState)
-    → DoesTask disks task outside beyond input now output new DiskFault
+    → DoesTask disks OnDoor task outside beyond input now output new DiskFault
     → Failed outside.disk_faults beyond.disk_faults output new
-does_failed disks (Err line) outside beyond input now output new does = absurd does.0.leaves
-does_failed disks (Ok (Says speech)) outside beyond input now output new does = absurd does.0.leaves
-does_failed disks (Ok (Serves stories budget folder)) outside beyond input now output new
+does_failed disks OnDoor (Err line) outside beyond input now output new does = absurd does.0.leaves
+does_failed disks OnDoor (Ok (Says speech)) outside beyond input now output new does = absurd
+    does.0.leaves
+does_failed disks OnDoor (Ok (Serves stories budget folder)) outside beyond input now output new
     (inl none, doors) = not_lent_failed disks _ outside beyond output new none
-does_failed disks (Ok (Serves stories budget folder)) outside beyond input now output new
+does_failed disks OnDoor (Ok (Serves stories budget folder)) outside beyond input now output new
     (inr t, doors) = pipe_failed disks folder outside beyond output new t
-does_failed disks (Ok (ServesLinks stories folder call)) outside beyond input now output new
-    (inl none, doors) = not_lent_failed disks _ outside beyond output new none
-does_failed disks (Ok (ServesLinks stories folder call)) outside beyond input now output new
-    (inr t, doors) = links_failed disks folder outside beyond output new t
-does_failed disks (Ok (Begins folder)) outside beyond input now output new does =
+does_failed disks OnDoor (Ok (ServesLinks stories budget folder serving)) outside beyond input now
+    output new (inl none, doors) = not_lent_failed disks _ outside beyond output new none
+does_failed disks OnDoor (Ok (ServesLinks stories budget folder serving)) outside beyond input now
+    output new (inr t, doors) = links_failed disks folder outside beyond output new t
+does_failed disks OnDoor (Ok (Begins folder)) outside beyond input now output new does =
     init_failed disks folder outside beyond output new does.0
 
-disk_failed : {D : Type 0} (disks : DiskWords D) (asked : Asked) (outside beyond : OutsideState D)
-    (input now : SourceState) (output new : SinkState)
-    → FollowsCommand disks asked DiskFault outside beyond input now output new
+disk_failed : {D : Type 0} (disks : DiskWords D) {OnDoor : OfDoor D} (asked : Asked)
+    (outside beyond : OutsideState D) (input now : SourceState) (output new : SinkState)
+    → FollowsCommand disks OnDoor asked DiskFault outside beyond input now output new
     → Failed outside.disk_faults beyond.disk_faults output new
 disk_failed disks asked outside beyond input now output new (inl none) = elim none.cause [
   | inl failed ↦ absurd (grind (arith, failed.0))
   | inr wanted ↦ absurd (grind (arith, wanted))
 ]
-disk_failed disks asked outside beyond input now output new (inr some) =
-    let failed = does_failed disks _ some.between beyond input now output new some.does in
+disk_failed disks {OnDoor} asked outside beyond input now output new (inr some) =
+    let failed = does_failed disks OnDoor _ some.between beyond input now output new some.does in
     (subst (λ (n : ℕ). Rose n beyond.disk_faults) some.loaded.disk_faults failed.0, failed.1)
 
 six : (status : Status) (code : ℕ) → status_of code ≡ Some status → code ≡ 6 → DiskFault ≡ status
 six status code is e = cc
 
 -- exit code 6 is a disk's
-pub failed_six : {D : Type 0} (disks : DiskWords D) (asked : Asked) (status : Status) (code : ℕ)
-    (outside beyond : OutsideState D) (input now : SourceState) (output new : SinkState)
-    → FollowsCommand disks asked status outside beyond input now output new
+pub failed_six : {D : Type 0} (disks : DiskWords D) {OnDoor : OfDoor D} (asked : Asked)
+    (status : Status) (code : ℕ) (outside beyond : OutsideState D) (input now : SourceState)
+    (output new : SinkState)
+    → FollowsCommand disks OnDoor asked status outside beyond input now output new
     → status_of code ≡ Some status
     → code ≡ 6 → Failed outside.disk_faults beyond.disk_faults output new
-failed_six disks asked status code outside beyond input now output new follows is e =
+failed_six disks {OnDoor} asked status code outside beyond input now output new follows is e =
     disk_failed disks asked outside beyond input now output new
-    (subst (λ (s : Status). FollowsCommand disks asked s outside beyond input now output new)
+    (subst
+    (λ (s : Status). FollowsCommand disks OnDoor asked s outside beyond input now output new)
     (sym (six status code is e)) follows)
 
 -- ---- the status of a door that failed
@@ -260,23 +267,26 @@ hosted_door disks Hosts given givens (back.Snap session snap) input now output n
 hosted_door disks Hosts given givens back.Nothing input now output new A f l =
     absurd (grind (arith, l.wanted))
 
-door_in : {D : Type 0} (disks : DiskWords D) (task : Result Task (List ℕ))
+door_in : {D : Type 0} (disks : DiskWords D) (OnDoor : OfDoor D) (task : Result Task (List ℕ))
     (outside beyond : OutsideState D) (input now : SourceState) (output new : SinkState)
-    → DoesTask disks task outside beyond input now output new DoorFault
+    → DoesTask disks OnDoor task outside beyond input now output new DoorFault
     → Rose outside.door_faults beyond.door_faults
-door_in disks (Err line) outside beyond input now output new does = absurd does.0.leaves
-door_in disks (Ok (Says speech)) outside beyond input now output new does = absurd does.0.leaves
-door_in disks (Ok (Serves stories budget folder)) outside beyond input now output new
+door_in disks OnDoor (Err line) outside beyond input now output new does = absurd does.0.leaves
+door_in disks OnDoor (Ok (Says speech)) outside beyond input now output new does = absurd
+    does.0.leaves
+door_in disks OnDoor (Ok (Serves stories budget folder)) outside beyond input now output new
     (inl none, doors) = not_lent_door disks _ outside beyond _ none
-door_in disks (Ok (Serves stories budget folder)) outside beyond input now output new
+door_in disks OnDoor (Ok (Serves stories budget folder)) outside beyond input now output new
     (inr t, doors) =
     hosted_door disks _ t.given t.givens t.back input now output new _
     (λ journal snaps hosts. no_served hosts.0 _ hosts.1) t.done
-door_in disks (Ok (ServesLinks stories folder call)) outside beyond input now output new does =
+door_in disks OnDoor (Ok (ServesLinks stories budget folder serving)) outside beyond input now
+    output new
+    does =
     does.1.fault refl
-door_in disks (Ok (Begins folder)) outside beyond input now output new (inl none, doors) =
+door_in disks OnDoor (Ok (Begins folder)) outside beyond input now output new (inl none, doors) =
     not_lent_door disks _ outside beyond _ none
-door_in disks (Ok (Begins folder)) outside beyond input now output new (inr i, doors) =
+door_in disks OnDoor (Ok (Begins folder)) outside beyond input now output new (inr i, doors) =
     elim i.inits.does [
       | inl done ↦ elim done.1 [
         | inl b ↦ unsaid _ (λ e. absurd (grind (arith, e))) b.0.says
@@ -288,30 +298,32 @@ door_in disks (Ok (Begins folder)) outside beyond input now output new (inr i, d
       ]
     ]
 
-door_failed : {D : Type 0} (disks : DiskWords D) (asked : Asked) (outside beyond : OutsideState D)
-    (input now : SourceState) (output new : SinkState)
-    → FollowsCommand disks asked DoorFault outside beyond input now output new
+door_failed : {D : Type 0} (disks : DiskWords D) {OnDoor : OfDoor D} (asked : Asked)
+    (outside beyond : OutsideState D) (input now : SourceState) (output new : SinkState)
+    → FollowsCommand disks OnDoor asked DoorFault outside beyond input now output new
     → Rose outside.door_faults beyond.door_faults
 door_failed disks asked outside beyond input now output new (inl none) = elim none.cause [
   | inl failed ↦ absurd (grind (arith, failed.0))
   | inr wanted ↦ absurd (grind (arith, wanted))
 ]
-door_failed disks asked outside beyond input now output new (inr some) =
+door_failed disks {OnDoor} asked outside beyond input now output new (inr some) =
     subst (λ (n : ℕ). Rose n beyond.door_faults) some.doors.door_faults
-    (door_in disks _ some.between beyond input now output new some.does)
+    (door_in disks OnDoor _ some.between beyond input now output new some.does)
 
 nine : (status : Status) (code : ℕ) → status_of code ≡ Some status → code ≡ 9 → DoorFault ≡ status
 nine status code is e = cc
 
 -- exit code 9 is a door's
-pub failed_nine : {D : Type 0} (disks : DiskWords D) (asked : Asked) (status : Status) (code : ℕ)
-    (outside beyond : OutsideState D) (input now : SourceState) (output new : SinkState)
-    → FollowsCommand disks asked status outside beyond input now output new
+pub failed_nine : {D : Type 0} (disks : DiskWords D) {OnDoor : OfDoor D} (asked : Asked)
+    (status : Status) (code : ℕ) (outside beyond : OutsideState D) (input now : SourceState)
+    (output new : SinkState)
+    → FollowsCommand disks OnDoor asked status outside beyond input now output new
     → status_of code ≡ Some status
     → code ≡ 9 → Rose outside.door_faults beyond.door_faults
-failed_nine disks asked status code outside beyond input now output new follows is e =
+failed_nine disks {OnDoor} asked status code outside beyond input now output new follows is e =
     door_failed disks asked outside beyond input now output new
-    (subst (λ (s : Status). FollowsCommand disks asked s outside beyond input now output new)
+    (subst
+    (λ (s : Status). FollowsCommand disks OnDoor asked s outside beyond input now output new)
     (sym (nine status code is e)) follows)
 
 pub coded_two : (status : Status) (code : ℕ) → status_of code ≡ Some status → code ≡ 2

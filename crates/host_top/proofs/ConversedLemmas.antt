@@ -50,6 +50,13 @@ EndsOn {D} disks host passes back backs =
     × (IsSound disks.tells disks.seen host
     → AreAgreedDisks disks.tells disks.may_leave host.stories.now (rows_of log.entries) backs)
 
+-- the journal of a host that was opened had these rows then
+pub opened_rows : {D : Type 0} (stories : List Story) (budget : ℕ) (rows : List Row)
+    (opening : Opening D) (host : Host D) (first : Passes D)
+    → IsOpenedHost stories budget rows opening host first → rows_at_opening host ≡ rows
+opened_rows stories budget rows opening host first opened =
+    ap rows_of opened.begins ∙ rows_of-all rows
+
 module _ {D : Type 0} (disks : DiskWords D) where
   pub same_zip : (gs : List D) (ss : List (Snapshots D)) (bs : List D)
       → AllZip (IsStoreOf disks.tells disks.may_leave disks.seen disks.moment disks.left_since
@@ -163,7 +170,7 @@ module _ {D : Type 0} (disks : DiskWords D) (given back : D) (givens backs : Lis
       (length (journal_bytes (rows_of end.0.entries)) + 4110)) opened_on since.reaches)
 
   at_opening : rows_at_opening host ≡ rows
-  at_opening = ap rows_of opened.begins ∙ rows_of-all rows
+  at_opening = opened_rows stories budget rows _ host first opened
 
   -- ---- the stores
 

@@ -17,4 +17,5 @@ pub mod FolderLemmas
 pub mod UsedLemmas
 pub mod MeetLemmas
 pub mod ConversedLemmas
+pub mod DoorLemmas
 pub mod LinksLemmas

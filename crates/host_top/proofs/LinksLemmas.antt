@@ -19,6 +19,7 @@ use Rattle.line_talk.proofs.StreamsLemmas.{gave_none, wrote_none}
 use Rattle.host_serve.proofs.RootLemmas.{roots_alone}
 use Rattle.story_run.specs.declared.story.Story.{Story}
 use Rattle.disk_model.specs.declared.disk.Disk.{Ghosts as DiskWords}
+use Rattle.host_top.specs.DoorServed.{OfDoor}
 use Rattle.host_top.specs.Files.{OutsideState}
 use Rattle.host_top.specs.Piped.{StoresBack}
 use Rattle.host_top.specs.LinksServed.{DoorsBy, LinksServed}
@@ -31,22 +32,26 @@ use Rattle.host_top.proofs.ConversedLemmas.{EndsOn, counts, grows, meanwhile, re
 
 -- ---- the journal
 
-pub links_served : {D : Type 0} (disks : DiskWords D) (given back : D) (givens backs : List D)
-    (stories : List Story) (budget : ℕ) (rows : List Row) (host : Host D) (first last : Passes D)
+pub links_served : {D : Type 0} (disks : DiskWords D) (OnDoor : OfDoor D) (given back : D)
+    (givens backs : List D) (stories : List Story) (budget workers : ℕ) (rows : List Row)
+    (host : Host D) (first last : Passes D)
     → IsOpenedHost stories budget rows (record { disk = given; found = length rows }) host first
     → (end : EndsOn disks host last back backs)
     → (input : SourceState) (output : SinkState) (status : Status)
     → (status ≡ ends.Done) ⊎ (status ≡ ends.DoorFault) ⊎ (status ≡ ends.NoMemory)
     → (IsTrue (disks.tells given) → SpellsRows (disks.seen given) rows)
+    → (status ≡ ends.Done → OnDoor stories budget workers rows givens end.0.entries)
     → StoresBack disks stories rows (rows_of end.0.entries) givens backs
-    → LinksServed disks stories given givens back backs input input output output status
-links_served disks given back givens backs stories budget rows host first last opened end input
-    output status how spells stores = record {
+    → LinksServed disks OnDoor stories budget workers given givens back backs input input output
+    output status
+links_served disks OnDoor given back givens backs stories budget workers rows host first last
+    opened end input output status how spells served stores = record {
       how = how;
       gave = gave_none input;
       wrote = wrote_none output;
       rows = rows;
       handed_in = spells;
+      served = served;
       journal = end.0.entries;
       more = rows_of end.2.grows.0;
       grows = grows disks given back givens backs stories budget rows host first last opened end;

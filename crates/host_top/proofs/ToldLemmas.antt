@@ -5,6 +5,7 @@ use Rattle.std.proofs.Common.{None, Some, IfSome, IsSomeAnd, Result, Ok, Err, If
 use Rattle.std.proofs.lemmas.List.{append-nil}
 use Rattle.std.specs.Io.KnownBytes.{Appends}
 use Rattle.story_run.specs.declared.story.Story.{Story}
+use Rattle.host_top.specs.DoorServed.{OfDoor}
 use Rattle.host_top.specs.declared.status.Status.{Status}
 use Rattle.host_top.specs.declared.status.Status.TheVariants.{Done, BadWords, Refused, ReadFault}
 use Rattle.host_top.specs.declared.status.Status.TheVariants.{WriteFault, DiskFault, NoMemory}
@@ -116,7 +117,7 @@ nothing_writes status P said input = never_begun (λ (s : Status). WritesOf s sa
 abbrev IsSteadyTask : Result Task (List ℕ) → Type 0
 IsSteadyTask (Ok (Says speech)) = IsSteady speech
 IsSteadyTask (Ok (Serves stories budget folder)) = Unit {0}
-IsSteadyTask (Ok (ServesLinks stories folder call)) = Unit {0}
+IsSteadyTask (Ok (ServesLinks stories budget folder serving)) = Unit {0}
 IsSteadyTask (Ok (Begins folder)) = Unit {0}
 IsSteadyTask (Err line) = Unit {0}
 
@@ -152,32 +153,32 @@ held_so : {output new : SinkState} (held : List ℕ) (P : List ℕ → Type 0) �
 held_so {output} {new} held P held_is w =
     (w.0, held_then output.held new.held held w.0 w.1.told held_is, w.2)
 
-held_on : {D : Type 0} (disks : DiskWords D) (task : Result Task (List ℕ)) → IsSteadyTask task
-    → (bytes held : List ℕ) (outside beyond : OutsideState D) (input now : SourceState)
-    (output new : SinkState) (status : Status)
-    → DoesTask disks task outside beyond input now output new status → input.left ≡ Some bytes
-    → output.held ≡ Some held
+held_on : {D : Type 0} (disks : DiskWords D) (OnDoor : OfDoor D) (task : Result Task (List ℕ))
+    → IsSteadyTask task → (bytes held : List ℕ) (outside beyond : OutsideState D)
+    (input now : SourceState) (output new : SinkState) (status : Status)
+    → DoesTask disks OnDoor task outside beyond input now output new status
+    → input.left ≡ Some bytes → output.held ≡ Some held
     → (written : List ℕ) × (new.held ≡ Some (held ++ written))
     × WritesFor disks outside.disk status task bytes written
-held_on disks (Err line) s bytes held outside beyond input now output new status does left_is
+held_on disks OnDoor (Err line) s bytes held outside beyond input now output new status does left_is
     held_is = said_held (Err line) tt bytes held status does.0 left_is held_is
-held_on disks (Ok (Says speech)) s bytes held outside beyond input now output new status does
+held_on disks OnDoor (Ok (Says speech)) s bytes held outside beyond input now output new status does
     left_is held_is = said_held (Ok speech) s bytes held status does.0 left_is held_is
-held_on disks (Ok (Serves stories budget folder)) s bytes held outside beyond input now output new
-    status (inl none, doors) left_is held_is =
+held_on disks OnDoor (Ok (Serves stories budget folder)) s bytes held outside beyond input now
+    output new status (inl none, doors) left_is held_is =
     held_so held _ held_is (
       [],
       none.wrote,
       never_begun (λ (s : Status). WritesServed s disks stories budget outside.disk folder bytes [])
           DiskFault status _ refl (inl refl) none.cause,
     )
-held_on disks (Ok (Serves stories budget folder)) s bytes held outside beyond input now output new
-    status (inr t, doors) left_is held_is =
+held_on disks OnDoor (Ok (Serves stories budget folder)) s bytes held outside beyond input now
+    output new status (inr t, doors) left_is held_is =
     held_so held _ held_is (pipe_told disks stories budget outside.disk folder bytes t.given
     t.givens t.back input now output new status
     (takes_lent disks folder t.given t.givens t.back outside beyond t.many t.borrowed) left_is
     t.done)
-held_on disks (Ok (ServesLinks stories folder call))
+held_on disks OnDoor (Ok (ServesLinks stories budget folder serving))
     s bytes held outside beyond input now output new
     status (inl none, doors) left_is held_is =
     held_so held _ held_is (
@@ -186,13 +187,14 @@ held_on disks (Ok (ServesLinks stories folder call))
       never_begun (λ (s : Status). WritesLinks s disks (outside.disk (journal_in folder)) [])
           DiskFault status _ refl (inl refl) none.cause,
     )
-held_on disks (Ok (ServesLinks stories folder call))
+held_on disks OnDoor (Ok (ServesLinks stories budget folder serving))
     s bytes held outside beyond input now output new
     status (inr t, doors) left_is held_is =
-    held_so held _ held_is (links_told disks stories (outside.disk (journal_in folder)) t.given
-    t.givens t.back input now output new status t.borrowed.each.0.lent t.done)
-held_on disks (Ok (Begins folder)) s bytes held outside beyond input now output new status does
-    left_is held_is =
+    held_so held _ held_is (links_told disks OnDoor stories budget serving.workers
+    (outside.disk (journal_in folder)) t.given t.givens t.back input now output new status
+    t.borrowed.each.0.lent t.done)
+held_on disks OnDoor (Ok (Begins folder)) s bytes held outside beyond input now output new status
+    does left_is held_is =
     held_so held _ held_is
     (init_told disks folder outside beyond input now output new status does.0)
 
@@ -205,7 +207,7 @@ nothing_tells disks disk status P (Ok (Says speech)) input c =
 nothing_tells disks disk status P (Ok (Serves stories budget folder)) input c =
     never_begun (λ (s : Status). WritesServed s disks stories budget disk folder input []) ReadFault
     status P (inl refl) (inl refl) c
-nothing_tells disks disk status P (Ok (ServesLinks stories folder call)) input c =
+nothing_tells disks disk status P (Ok (ServesLinks stories budget folder serving)) input c =
     never_begun (λ (s : Status). WritesLinks s disks (disk (journal_in folder)) []) ReadFault status
     P refl (inl refl) c
 nothing_tells disks disk status P (Ok (Begins folder)) input c =
@@ -221,9 +223,9 @@ same_told {D} disks old new status task input written same w =
     subst (λ (f : List ℕ → Told D). WritesFor disks f status task input written)
     (λ i name. same name i) w
 
-pub tells : {D : Type 0} (disks : DiskWords D) (asked : Asked) (status : Status)
+pub tells : {D : Type 0} (disks : DiskWords D) {OnDoor : OfDoor D} (asked : Asked) (status : Status)
     (outside beyond : OutsideState D) (input now : SourceState) (output new : SinkState)
-    → FollowsCommand disks asked status outside beyond input now output new
+    → FollowsCommand disks OnDoor asked status outside beyond input now output new
     → TellsCaller disks asked status outside input output new
 tells disks asked status outside beyond input now output new (inl none) files bytes held files_are
     left_is held_is = (
@@ -232,11 +234,12 @@ tells disks asked status outside beyond input now output new (inl none) files by
       nothing_tells disks
           outside.disk status _ _ bytes none.cause,
     )
-tells disks asked status outside beyond input now output new (inr some) files bytes held files_are
-    left_is held_is =
+tells disks {OnDoor} asked status outside beyond input now output new (inr some) files bytes held
+    files_are left_is held_is =
     let task = tasked asked.action (stories_of some.files) asked.budget asked.folder in
     let t =
-    held_on disks task (steady asked.action (stories_of some.files) asked.budget asked.folder)
+    held_on disks OnDoor task (steady asked.action (stories_of some.files) asked.budget
+    asked.folder)
     bytes held some.between beyond input now output new status some.does left_is held_is in
     let same : stories_of some.files ≡ stories_of (map (take 67108865) files) =
     sym (settled_told outside.file asked.names some.files files some.are_files some.settled
@@ -259,22 +262,23 @@ pub left_alone : {D A : Type 0} (outside : OutsideState D) → A
 left_alone outside a = (a, keeps_none outside, doors_none outside)
 
 -- memory was wanted before a task was begun
-pub does_nothing : {D : Type 0} (disks : DiskWords D) (task : Result Task (List ℕ))
+pub does_nothing : {D : Type 0} (disks : DiskWords D) (OnDoor : OfDoor D)
+    (task : Result Task (List ℕ))
     (outside : OutsideState D) (input : SourceState) (output : SinkState)
-    → DoesTask disks task outside outside input input output output NoMemory
-does_nothing disks (Err line) outside input output =
+    → DoesTask disks OnDoor task outside outside input input output output NoMemory
+does_nothing disks OnDoor (Err line) outside input output =
     left_alone outside (spoken_nothing (Err line) input output)
-does_nothing disks (Ok (Says speech)) outside input output =
+does_nothing disks OnDoor (Ok (Says speech)) outside input output =
     left_alone outside (spoken_nothing (Ok speech) input output)
-does_nothing disks (Ok (Serves stories budget folder)) outside input output = (
+does_nothing disks OnDoor (Ok (Serves stories budget folder)) outside input output = (
   inl (not_lent disks (journal_in folder ∷ snaps_below folder 64) outside input output),
   doors_none outside,
 )
-does_nothing disks (Ok (ServesLinks stories folder call)) outside input output = (
+does_nothing disks OnDoor (Ok (ServesLinks stories budget folder serving)) outside input output = (
   inl (not_lent disks (journal_in folder ∷ snaps_below folder 64) outside input output),
   no_doors outside NoMemory (λ e. cc) (λ e. cc),
 )
-does_nothing disks (Ok (Begins folder)) outside input output =
+does_nothing disks OnDoor (Ok (Begins folder)) outside input output =
     (inl (not_lent disks (journal_in folder ∷ []) outside input output), doors_none outside)
 
 -- where memory was wanted before a file was loaded, each caller is told so
@@ -306,16 +310,18 @@ told_no_memory disks asked code outside input output is =
     (tells_nothing disks one outside input output))
 
 -- and so it is with what is done
-pub done_no_memory : {D : Type 0} (disks : DiskWords D) (asked : Option Asked) (code : ℕ)
-    (outside : OutsideState D) (input : SourceState) (output : SinkState)
+pub done_no_memory : {D : Type 0} (disks : DiskWords D) (OnDoor : OfDoor D)
+    (asked : Option Asked) (code : ℕ) (outside : OutsideState D) (input : SourceState)
+    (output : SinkState)
     → status_of code ≡ Some NoMemory
     → IfSome asked (λ one. IsSomeAnd (status_of code)
-    (λ status. FollowsCommand disks one status outside outside input input output output))
-done_no_memory disks asked code outside input output is =
+    (λ status. FollowsCommand disks OnDoor one status outside outside input input output output))
+done_no_memory disks OnDoor asked code outside input output is =
     whatever_is_asked asked (λ (one : Asked). IsSomeAnd (status_of code)
-    (λ status. FollowsCommand disks one status outside outside input input output output))
+    (λ status. FollowsCommand disks OnDoor one status outside outside input input output output))
     (λ one. subst (λ (s : Option Status). IsSomeAnd s
-    (λ status. FollowsCommand disks one status outside outside input input output output)) (sym is)
+    (λ status. FollowsCommand disks OnDoor one status outside outside input input output output))
+    (sym is)
     (inl (record {
       behind = record { front = []; are_files = tt; are_stories = refl; next = λ e. cc };
       cause = inr refl;

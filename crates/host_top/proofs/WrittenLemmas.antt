@@ -8,6 +8,7 @@ use Rattle.gate_journal.specs.declared.fault.JournalFault.{JournalFault}
 use Rattle.gate_journal.specs.declared.fault.JournalFault.TheVariants as fault
 use Rattle.gate_journal.specs.Faults.{HasInitCause}
 use Rattle.story_run.specs.declared.story.Story.{Story}
+use Rattle.host_top.specs.DoorServed.{OfDoor}
 use Rattle.host_top.specs.Begun.{InitsOn, SaysRefusal, WritesBegun, ready, not_empty}
 use Rattle.host_top.specs.Borrowed.{journal_in}
 use Rattle.host_top.specs.LinksServed.{ServesOver, WritesLinks}
@@ -76,20 +77,22 @@ nothing_links disks journal status (inr (inl door)) =
 nothing_links disks journal status (inr (inr wanted)) =
     subst (λ (s : Status). WritesLinks s disks journal []) (sym wanted) (inl refl)
 
-pub links_told : {D : Type 0} (disks : DiskWords D) (stories : List Story) (journal : Told D)
-    (given : D) (givens : List D) (b : Back D) (input now : SourceState) (output new : SinkState)
-    (status : Status)
+pub links_told : {D : Type 0} (disks : DiskWords D) (OnDoor : OfDoor D) (stories : List Story)
+    (budget workers : ℕ) (journal : Told D) (given : D) (givens : List D) (b : Back D)
+    (input now : SourceState) (output new : SinkState) (status : Status)
     → (IsTrue (disks.tells given) → IsLentFrom disks.seen disks.may_leave journal given)
-    → ServesOver disks stories given givens b input now output new status
+    → ServesOver disks OnDoor stories budget workers given givens b input now output new status
     → WroteSome output new (WritesLinks status disks journal)
-links_told disks stories journal given givens (back.All j snaps) input now output new status lent
-    served = ([], served.wrote, nothing_links disks journal status served.how)
-links_told disks stories journal given givens (back.Journal j) input now output new status lent n =
+links_told disks OnDoor stories budget workers journal given givens (back.All j snaps) input now
+    output new status lent served = ([], served.wrote, nothing_links disks journal status served.how)
+links_told disks OnDoor stories budget workers journal given givens (back.Journal j) input now
+    output new status lent n =
     fault_links disks journal given output new status n.fault lent n.explains n.says
-links_told disks stories journal given givens (back.Snap session snap) input now output new status
-    lent f =
+links_told disks OnDoor stories budget workers journal given givens (back.Snap session snap) input
+    now output new status lent f =
     ([], f.wrote, subst (λ (s : Status). WritesLinks s disks journal []) (sym f.failed) refl)
-links_told disks stories journal given givens back.Nothing input now output new status lent l =
+links_told disks OnDoor stories budget workers journal given givens back.Nothing input now output
+    new status lent l =
     ([], l.wrote, subst (λ (s : Status). WritesLinks s disks journal []) (sym l.wanted) (inl refl))
 
 -- what holds where a first step failed, and where it found no memory

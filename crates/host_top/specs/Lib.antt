@@ -19,4 +19,5 @@ pub mod Plain
 pub mod Files
 pub mod MemoryOutside
 pub mod MemoryState
+pub mod DoorServed
 pub mod LinksServed

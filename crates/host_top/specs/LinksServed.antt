@@ -9,6 +9,7 @@ use Rattle.line_talk.specs.Causes.{Rose}
 use Rattle.story_run.specs.declared.story.Story.{Story}
 use Rattle.line_talk.specs.Streams.{SourceState, SinkState, Gave, Wrote}
 use Rattle.disk_model.specs.declared.disk.Disk.{Ghosts as DiskWords}
+use Rattle.host_top.specs.DoorServed.{OfDoor}
 use Rattle.host_top.specs.Files.{OutsideState, Told, after_call, after_one}
 use Rattle.host_top.specs.Piped.{HostedOver, StoresBack}
 use Rattle.host_top.specs.Served.{BeginsRefusal, RefusesJournal}
@@ -17,11 +18,13 @@ use Rattle.host_top.specs.declared.folder.Back.{Back}
 use Rattle.host_top.specs.declared.status.Status.{Status}
 use Rattle.host_top.specs.declared.status.Status.TheVariants as ends
 
--- The links were served from the rows handed in, or no door was given, or memory was wanted first:
--- what a stop leaves of the disks handed back. Of what was answered nothing is said.
-pub record LinksServed {D : Type 0} (disks : DiskWords D) (stories : List Story)
-    (given : D) (givens : List D) (back : D) (backs : List D) (input now : SourceState)
-    (output new : SinkState) (status : Status) : Type 0 where
+-- The links of a door were served by so many workers until it was shut, or the door failed, or
+-- memory was wanted first; and what a stop leaves of the disks handed back. Where a door failed
+-- nothing is said of what was answered.
+pub record LinksServed {D : Type 0} (disks : DiskWords D) (Serves : OfDoor D)
+    (stories : List Story) (budget workers : ℕ) (given : D) (givens : List D) (back : D)
+    (backs : List D) (input now : SourceState) (output new : SinkState) (status : Status)
+    : Type 0 where
   pub how : (status ≡ ends.Done) ⊎ (status ≡ ends.DoorFault) ⊎ (status ≡ ends.NoMemory)
   pub gave : Gave input now []
   pub wrote : Wrote output new []
@@ -31,6 +34,7 @@ pub record LinksServed {D : Type 0} (disks : DiskWords D) (stories : List Story)
   -- with those handed in; the counts of the faults rise, from the disk's as it was handed in to the
   -- disk's as it was handed back
   pub journal : List JournalEntry
+  pub served : status ≡ ends.Done → Serves stories budget workers rows givens journal
   pub more : List Row
   pub grows : rows_of journal ≡ rows ++ more
   pub faults : Rises (disks.faults given) journal (disks.faults back)
@@ -52,11 +56,12 @@ pub record LinksServed {D : Type 0} (disks : DiskWords D) (stories : List Story)
   pub stores : StoresBack disks stories rows (rows_of journal) givens backs
 
 -- the links were served, or a disk of the folder is refused, or all are let go
-abbrev pub ServesOver : {D : Type 0} → DiskWords D → List Story → D → List D → Back D
-    → SourceState → SourceState → SinkState → SinkState → Status → Type 0
-ServesOver disks stories given givens back input now output new status =
+abbrev pub ServesOver : {D : Type 0} → DiskWords D → OfDoor D → List Story → ℕ → ℕ → D → List D
+    → Back D → SourceState → SourceState → SinkState → SinkState → Status → Type 0
+ServesOver disks Serves stories budget workers given givens back input now output new status =
     HostedOver (λ journal snaps.
-    LinksServed disks stories given givens journal snaps input now output new status)
+    LinksServed disks Serves stories budget workers given givens journal snaps input now output new
+    status)
     disks given givens back input now output new status
 
 -- What becomes of doors, by the exit status: one more was shut where the command is done, and else

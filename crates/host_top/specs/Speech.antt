@@ -39,12 +39,11 @@ abbrev pub door_call : Serving → DoorCall
 door_call serving = record { port = serving.port; links = serving.links }
 
 -- what a command does: it says a text, serves these stories with this budget from a folder to its
--- input, serves them to the links of a door that is asked for by this call, or makes the stores of
--- a folder and begins its journal
+-- input, or to the links of a door, or makes the stores of a folder and begins its journal
 pub data Task : Type 0 where
   Says : Speech → Task
   Serves : List Story → ℕ → List ℕ → Task
-  ServesLinks : List Story → List ℕ → DoorCall → Task
+  ServesLinks : List Story → ℕ → List ℕ → Serving → Task
   Begins : List ℕ → Task
 
 -- what a command does over its stories, with a budget, on a folder
@@ -52,7 +51,7 @@ abbrev pub task_of : Action → List Story → ℕ → List ℕ → Task
 task_of Run stories budget folder = Says (run_speech (slice_get stories 0) budget)
 task_of Check stories budget folder = Says (check_speech (slice_get stories 0))
 task_of Pipe stories budget folder = Serves stories budget folder
-task_of (Serve serving) stories budget folder = ServesLinks stories folder (door_call serving)
+task_of (Serve serving) stories budget folder = ServesLinks stories budget folder serving
 task_of Init stories budget folder = Begins folder
 task_of (Drill number) stories budget folder = Says (said_once (drill_text number))
 task_of (Help topic) stories budget folder = Says (said_once (help_text topic))

@@ -3,6 +3,7 @@ ghost use Rattle.std.specs.Prelude.{◌≡◌, ◌⊎◌, [], map, string_bytes,
 ghost use Rattle.std.specs.Prelude.{IsSomeAnd};
 ghost use Rattle.line_talk.specs.Causes.{Rose};
 ghost use Rattle.line_talk.specs.Streams.{Gave, Wrote};
+ghost use Rattle.host_top.specs.DoorServed.{HostServes};
 ghost use Rattle.host_top.specs.Status.{status_of};
 ghost use Rattle.command_words.specs.Words.{command_asked, asked_by};
 ghost use Rattle.host_top.specs.Speech.{tasked};
@@ -40,6 +41,7 @@ fn act<R: Threads + Wait + Sync, O: Outside, S: Source, K: Sink>(
     output: &mut K,
 ) -> Status
     ensures value { DoesTask O.Disk.Disk
+        (HostServes O.Door.Door O.Door.Conn.source O.Door.Conn.sink O.Door.Conn.lent O.Disk.Disk)
         (tasked command.now.action (stories_of (map (λ f. f.items) files.now))
         command.now.budget command.now.folder.now)
         (O.outside outside.old) (O.outside outside.new) (S.source input.old) (S.source input.new)
@@ -88,7 +90,9 @@ fn follow<R: Threads + Wait + Sync, O: Outside, S: Source, K: Sink>(
     input: &mut S,
     output: &mut K,
 ) -> Status
-    ensures done { FollowsCommand O.Disk.Disk (command_asked command.entry) result
+    ensures done { FollowsCommand O.Disk.Disk
+        (HostServes O.Door.Door O.Door.Conn.source O.Door.Conn.sink O.Door.Conn.lent O.Disk.Disk)
+        (command_asked command.entry) result
         (O.outside outside.old) (O.outside outside.new) (S.source input.old) (S.source input.new)
         (K.sink output.old) (K.sink output.new) }
     ensures bad_words { ¬ (result ≡ Status.BadWords) }
@@ -127,9 +131,10 @@ pub fn top<R: Threads + Wait + Sync, O: Outside, S: Source, K: Sink>(
 
     // what was asked is done as far as the status says
     ensures done { IfSome (asked_by (map string_bytes words.now)) (λ asked.
-        IsSomeAnd (status_of result) (λ status. FollowsCommand O.Disk.Disk asked status
-        (O.outside outside.old) (O.outside outside.new) (S.source input.old) (S.source input.new)
-        (K.sink output.old) (K.sink output.new))) }
+        IsSomeAnd (status_of result) (λ status. FollowsCommand O.Disk.Disk
+        (HostServes O.Door.Door O.Door.Conn.source O.Door.Conn.sink O.Door.Conn.lent O.Disk.Disk)
+        asked status (O.outside outside.old) (O.outside outside.new) (S.source input.old)
+        (S.source input.new) (K.sink output.old) (K.sink output.new))) }
 
     // and in plain words, for a caller who is told the files, the input and what the output holds
     ensures told { IfSome (asked_by (map string_bytes words.now)) (λ asked.

@@ -1,11 +1,13 @@
 //! The command `serve`, which answers the numbered requests of many connections.
 ghost use Rattle.std.specs.Prelude.{◌≡◌, ◌⊎◌, ◌<◌, ◌≤◌, IfOk, length};
 ghost use Rattle.gate_journal.specs.Command.{IsBudget};
-ghost use Rattle.host_serve.specs.Holders.{holders};
-ghost use Rattle.host_serve.specs.Hosts.{AreOf};
+ghost use Rattle.host_serve.specs.Holders.{holders, seens};
+ghost use Rattle.host_serve.specs.Hosts.{AreOf, IsSound};
+ghost use Rattle.host_serve.specs.Joining.{ArePartsOf, HasNoRoot};
 ghost use Rattle.host_serve.specs.Splitting.{AreRoots};
 ghost use Rattle.line_talk.specs.Causes.{Rose};
 ghost use Rattle.line_talk.specs.Streams.{SourceState};
+ghost use Rattle.host_top.specs.DoorServed.{CrewServes, HaveSeen, HostServes, WorkersServe};
 ghost use Rattle.host_top.specs.Files.{KeepsDisks, KeepsFiles};
 ghost use Rattle.host_top.specs.Folder.{FitsNames, IsSameBack, UsesFolder};
 ghost use Rattle.host_top.specs.LinksServed.{DoorsBy, ServesOver};
@@ -26,7 +28,8 @@ use std::sync::Wait;
 use std::thread::Threads;
 use story_run::Story;
 
-/// Passes for each of so many workers, split off those of a host that was just opened.
+/// Passes for each of so many workers, split off those of a host that was just opened, which have
+/// seen as much.
 fn split_among<'i, D: Disk + Drop>(
     alloc: Global,
     host: &Host<'i, D>,
@@ -37,6 +40,9 @@ fn split_among<'i, D: Disk + Drop>(
     requires roots { AreRoots 0 (holders roots.old.desks.items) }
     ensures ok { IfOk result (λ passes. (length passes.items ≡ workers)
         × Each (AreOf host.now) passes.items) }
+    ensures begin { IfOk result
+        (λ passes. Each (HaveSeen (seens roots.old.desks.items)) passes.items) }
+    ensures no_root { IfOk result (λ passes. Each HasNoRoot passes.items) }
     ensures kept { AreOf host.now roots.new }
 {
     let mut passes = Vec::new(alloc);
@@ -45,6 +51,23 @@ fn split_among<'i, D: Disk + Drop>(
         passes.push(more)?;
     }
     Ok(passes)
+}
+
+/// Joins the passes of workers into those that they were split off.
+fn join_all<'i, D: Disk + Drop>(
+    host: &Host<'i, D>,
+    roots: &mut Passes<'i, D>,
+    mut workers: Vec<Passes<'i, D>>,
+)
+    requires roots { AreOf host.now roots.old }
+    requires passes { Each (AreOf host.now) workers.items }
+    requires no_root { Each HasNoRoot workers.items }
+    ensures parts { Each (ArePartsOf roots.new) workers.entry.items }
+    ensures kept { AreOf host.now roots.new }
+{
+    while let Some(passes) = workers.pop() {
+        roots.join(host, passes);
+    }
 }
 
 /// Serves the links of a door that the outside gives, until it is shut.
@@ -59,6 +82,11 @@ fn serve_door<'i, R: Threads + Wait + Sync, O: Outside>(
     requires workers { (0 < length workers.old) × (length workers.old ≤ 16) }
     requires passes { Each (AreOf host.now) workers.old }
     ensures value { result ≡ Status.Done ⊎ (result ≡ Status.DoorFault) }
+    ensures served { result ≡ Status.Done
+        → WorkersServe O.Door.Door O.Door.Conn.source O.Door.Conn.sink O.Door.Conn.lent
+        (IsSound O.Disk.tells O.Disk.seen) host.now workers.old workers.new }
+    ensures kept { Each (AreOf host.now) workers.new }
+    ensures no_root { Each HasNoRoot workers.old → Each HasNoRoot workers.new }
     ensures doors { DoorsBy (door_call serving) (O.outside outside.old) (O.outside outside.new)
         result }
     ensures files { KeepsFiles (O.outside outside.old) (O.outside outside.new) }
@@ -75,7 +103,7 @@ fn serve_door<'i, R: Threads + Wait + Sync, O: Outside>(
 }
 
 /// Serves links by workers, to each of which passes are split off those of a host that was just
-/// opened.
+/// opened. What the workers had seen last is then part of what these have.
 fn serve_links<'i, R: Threads + Wait + Sync, O: Outside>(
     rt: &R,
     alloc: Global,
@@ -89,6 +117,10 @@ fn serve_links<'i, R: Threads + Wait + Sync, O: Outside>(
     requires workers { (0 < serving.workers) × (serving.workers ≤ 16) }
     ensures value { result ≡ Status.Done ⊎ (result ≡ Status.DoorFault)
         ⊎ (result ≡ Status.NoMemory) }
+    ensures served { result ≡ Status.Done
+        → CrewServes O.Door.Door O.Door.Conn.source O.Door.Conn.sink O.Door.Conn.lent
+        (IsSound O.Disk.tells O.Disk.seen) host.now serving.workers
+        (seens roots.old.desks.items) (ArePartsOf roots.new) }
     ensures kept { AreOf host.now roots.new }
     ensures doors { DoorsBy (door_call serving) (O.outside outside.old) (O.outside outside.new)
         result }
@@ -96,7 +128,11 @@ fn serve_links<'i, R: Threads + Wait + Sync, O: Outside>(
     ensures disks { KeepsDisks (O.outside outside.old) (O.outside outside.new) }
 {
     match split_among(alloc, host, roots, serving.workers) {
-        Ok(mut workers) => serve_door(rt, alloc, host, &mut workers, serving, outside),
+        Ok(mut workers) => {
+            let status = serve_door(rt, alloc, host, &mut workers, serving, outside);
+            join_all(host, roots, workers);
+            status
+        }
         Err(AllocError) => Status::NoMemory,
     }
 }
@@ -121,8 +157,10 @@ where
     requires budget { IsBudget budget }
     requires many { length disks.snaps.items ≡ 64 }
     requires workers { (0 < serving.workers) × (serving.workers ≤ 16) }
-    ensures value { (input : SourceState) → ServesOver D.Disk stories.now disks.journal
-        disks.snaps.items result.1 input input (K.sink output.old) (K.sink output.new) result.0 }
+    ensures value { (input : SourceState) → ServesOver D.Disk
+        (HostServes O.Door.Door O.Door.Conn.source O.Door.Conn.sink O.Door.Conn.lent D.Disk)
+        stories.now budget serving.workers disks.journal disks.snaps.items result.1 input input
+        (K.sink output.old) (K.sink output.new) result.0 }
     ensures kept { IsSameBack D.Disk disks.journal disks.snaps.items result.1 }
     ensures fits { FitsNames 64 result.1 }
     ensures doors { DoorsBy (door_call serving) (O.outside outside.old) (O.outside outside.new)
@@ -157,7 +195,9 @@ pub fn serve<'i, R: Threads + Wait + Sync, O: Outside, K: Sink>(
     requires budget { IsBudget budget }
     requires workers { (0 < serving.workers) × (serving.workers ≤ 16) }
     ensures value { (input : SourceState) → UsesFolder O.Disk.Disk folder.now
-        (λ given givens back. ServesOver O.Disk.Disk stories.now given givens back input input
+        (λ given givens back. ServesOver O.Disk.Disk
+        (HostServes O.Door.Door O.Door.Conn.source O.Door.Conn.sink O.Door.Conn.lent O.Disk.Disk)
+        stories.now budget serving.workers given givens back input input
         (K.sink output.old) (K.sink output.new) result)
         (O.outside outside.old) (O.outside outside.new) input input
         (K.sink output.old) (K.sink output.new) result }

@@ -3,10 +3,10 @@ use Rattle.host_top.proofs.ToldLemmas.{does_nothing, both, left_alone}
 use Rattle.host_top.proofs.program.act.Goals as goal
 
 pub returns-in_default-clause-value : goal.returns-in_default-clause-value
-returns-in_default-clause-value g c = does_nothing _ _ _ _ _
+returns-in_default-clause-value g c = does_nothing _ _ _ _ _ _
 
 pub returns-in-Err-NoMemory-clause-value : goal.returns-in-Err-NoMemory-clause-value
-returns-in-Err-NoMemory-clause-value g c = does_nothing _ _ _ _ _
+returns-in-Err-NoMemory-clause-value g c = does_nothing _ _ _ _ _ _
 
 pub returns-in-Err-Refused-clause-value : goal.returns-in-Err-Refused-clause-value
 returns-in-Err-Refused-clause-value g c =

@@ -14,7 +14,7 @@ returns-in-Err-clause-told g c =
 
 pub returns-in-Err-clause-done : goal.returns-in-Err-clause-done
 returns-in-Err-clause-done g c =
-    done_no_memory _ (asked_by (map string_bytes c.args.words.now)) c.code-in-Err.result
+    done_no_memory _ _ (asked_by (map string_bytes c.args.words.now)) c.code-in-Err.result
     (g.O.Outside.outside c.args.outside.now) (g.S.Source.source c.args.input.now)
     (g.K.Sink.sink c.args.output.now)
     c.code-in-Err.ensures
