@@ -6,4 +6,6 @@ pub mod StateLaws
 pub mod PlainLaws
 pub mod PieceLaws
 pub mod CallLaws
+pub mod LandedLaws
 pub mod WorkLaws
+pub mod CountLaws
