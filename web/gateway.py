@@ -18,6 +18,7 @@ import hashlib
 import json
 import pathlib
 import signal
+import socket
 import sys
 import time
 import traceback
@@ -46,6 +47,7 @@ SESSIONS = 64
 MOST_BYTES = 16_384         # of a message of a browser
 MOST_WAITING = 8            # messages of a browser that wait for their turn
 BURST = 40                  # messages of a browser that are taken at once
+SEND_BYTES = 131_072        # that the system keeps for a browser
 SEND_SECONDS = 30           # in which a browser has to take a message
 NOTE_SECONDS = 1            # behind which a player is told that the host is waited for
 WRONG_KEY_SECONDS = 1
@@ -53,6 +55,8 @@ LOOK_SECONDS = 1            # between two looks at a session that is watched
 MOST_UNSEEN = 16            # shows that wait for a spectator's browser
 SHOWS_AT_ONCE = 8           # of one WATCH
 LATE = {"5", "6", "7"}
+STOPPED = "The host has stopped. It is waited for, and what you gave is sent to it again."
+BUSY = "The host is busy; what you gave waits for its turn."
 
 
 def refused(reply):
@@ -142,13 +146,23 @@ class Gateway:
         return app
 
     async def begin(self, app):
-        self.sweeper = asyncio.create_task(self.links.end_idle())
+        self.sweeper = asyncio.create_task(self.sweep())
 
     async def end(self, app):
         self.sweeper.cancel()
         for player in list(self.players):
             await player.socket.close(code=1001)
         self.links.close()
+
+    async def sweep(self):
+        """Ends connections of browsers that take nothing, and links that nobody wants."""
+        while True:
+            await asyncio.sleep(SEND_SECONDS / 4)
+            self.links.end_idle()
+            before = time.monotonic() - SEND_SECONDS
+            for player in list(self.players):
+                if player.sends_since is not None and player.sends_since < before:
+                    player.hang_up()
 
     async def page(self, request):
         page = self.pages.get(request.match_info["name"])
@@ -196,7 +210,7 @@ class Player:
         self.waiting = asyncio.Queue(MOST_WAITING)
         self.session = self.key = self.measure = self.watched = None
         self.gen, self.windows, self.screen, self.asked = 0, [], None, {}
-        self.tasks = []
+        self.tasks, self.sends_since = [], None
 
     async def play(self):
         await self.send({"type": "menu", "stories": self.gateway.stories})
@@ -232,10 +246,12 @@ class Player:
                 await self.leave("the gateway has failed")
 
     async def send(self, message):
+        self.sends_since = time.monotonic()
         try:
-            await asyncio.wait_for(self.socket.send_str(json.dumps(message)), SEND_SECONDS)
-        except (asyncio.TimeoutError, OSError):
+            await self.socket.send_str(json.dumps(message))
+        except OSError:
             self.hang_up()
+        self.sends_since = None
 
     def hang_up(self):
         """Ends the connection of a browser that doesn't take what it is sent."""
@@ -283,23 +299,28 @@ class Player:
 
     async def wait_for(self, asking):
         """A reply of the host. The player is told where it has to be waited for."""
-        task = asyncio.ensure_future(asking)
+        self.told, telling = None, None
+
+        def tell():
+            nonlocal telling
+            telling = asyncio.create_task(self.tell_waits())
+
+        later = asyncio.get_running_loop().call_later(NOTE_SECONDS, tell)
         try:
-            done, _ = await asyncio.wait({task}, timeout=NOTE_SECONDS)
-            if done:
-                return task.result()
-            stopped = not self.gateway.links.is_there
-            await self.note("The host has stopped. It is waited for, and what you gave is sent to it again."
-                            if stopped else "The host is busy; what you gave waits for its turn.", stopped)  # fmt: skip
-            while not done:
-                done, _ = await asyncio.wait({task}, timeout=NOTE_SECONDS)
-                if not done and not stopped and not self.gateway.links.is_there:
-                    stopped = True
-                    await self.note("The host has stopped. It is waited for, and what you gave is sent again.", True)
-            await self.note("The host is there again; the game goes on." if stopped else "", False)
-            return task.result()
+            return await asking
         finally:
-            task.cancel()
+            later.cancel()
+            if telling:
+                telling.cancel()
+                await self.note("The host is there again; the game goes on." if self.told == STOPPED else "", False)
+
+    async def tell_waits(self):
+        while True:
+            text = BUSY if self.gateway.links.is_there else STOPPED
+            if self.told in (None, BUSY) and text != self.told:
+                self.told = text
+                await self.note(text, text == STOPPED)
+            await asyncio.sleep(NOTE_SECONDS)
 
     async def note(self, text, waits):
         await self.send({"type": "note", "text": text, "waits": waits})
@@ -494,18 +515,25 @@ def read_words():
     return asked
 
 
+def door_at(name, port):
+    """Where browsers come. The system keeps little of what a slow one doesn't take."""
+    door = socket.create_server((name, port), family=socket.AF_INET6 if ":" in name else socket.AF_INET, backlog=128)
+    door.setsockopt(socket.SOL_SOCKET, socket.SO_SNDBUF, SEND_BYTES)
+    return door
+
+
 async def serve(asked):
     name, port = asked.listen
     asked.origins = set()
     gateway = Gateway(asked)
     runner = web.AppRunner(gateway.app(), access_log=None)
     await runner.setup()
-    site = web.TCPSite(runner, name, port, shutdown_timeout=1)
     try:
-        await site.start()
+        door = door_at(name, port)
     except OSError as cause:
         sys.exit(f"gateway: {name}:{port} can't be listened on ({cause.strerror})")
-    port = site._server.sockets[0].getsockname()[1]
+    await web.SockSite(runner, door, shutdown_timeout=1).start()
+    port = door.getsockname()[1]
     gateway.origins = origins_of(name, port, asked.origin)
     print(f"gateway: http://{name}:{port}/ is for browsers; the host is at {asked.host[0]}:{asked.host[1]}",
           file=sys.stderr, flush=True)  # fmt: skip

@@ -104,14 +104,12 @@ class Links:
             print("gateway: the host is there again" if is_there else "gateway: the host is waited for",
                   file=sys.stderr, flush=True)
 
-    async def end_idle(self):
+    def end_idle(self):
         """Ends links that nobody wants, so that their workers are free for others."""
-        while True:
-            await asyncio.sleep(IDLE_SECONDS / 4)
-            before = time.monotonic() - IDLE_SECONDS
-            for link in [link for link in self.idle if link.used < before]:
-                self.idle.remove(link)
-                link.close()
+        before = time.monotonic() - IDLE_SECONDS
+        for link in [link for link in self.idle if link.used < before]:
+            self.idle.remove(link)
+            link.close()
 
     def close(self):
         for link in self.idle:

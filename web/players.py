@@ -97,6 +97,7 @@ class Player:
 
     def __init__(self, client, address):
         self.client, self.address, self.gen, self.socket = client, address, 0, None
+        self.notes = []
 
     async def connect(self):
         self.socket = await self.client.ws_connect(self.address + "/socket", origin=self.address, max_msg_size=0)
@@ -118,6 +119,8 @@ class Player:
                 return told
             if told["type"] == "error":
                 raise Otherwise(f"error in place of {kinds}: {told['message']}")
+            if told["type"] == "note" and told["text"]:
+                self.notes.append(told["text"])
             if told["type"] == "session":
                 self.session, self.word = told["session"], told["word"]
 

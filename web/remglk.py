@@ -7,10 +7,11 @@ import math
 import pathlib
 import re
 import sys
+from urllib.parse import quote, unquote
 
 sys.path.append(str(pathlib.Path(__file__).resolve().parent.parent / "stories"))
 
-from host import KEYS, escaped, unescaped  # noqa: E402
+from host import KEYS  # noqa: E402
 
 STYLES = ("normal", "emphasized", "preformatted", "header", "subheader", "alert", "note", "blockquote", "input", "user1",
           "user2")  # fmt: skip
@@ -21,6 +22,7 @@ CODES = {name.strip("{}").lower(): code for name, code in KEYS.items()}
 TERMINATORS = {name: CODES[name] for name in ["escape", *(f"func{n}" for n in range(1, 13))]}
 MOST_LETTERS = 1024
 GREATEST = 0xFFFFFFFF
+SAFE = "".join(chr(code) for code in range(0x21, 0x7F) if code != 0x25)
 KEY = re.compile(r"[A-Za-z0-9]{1,32}")
 CONTROL = re.compile(r"[\x00-\x1f\x7f-\x9f\ud800-\udfff]")
 
@@ -62,7 +64,7 @@ def text_of(value, what):
         raise Refused(f"{what} has more than {MOST_LETTERS:,} characters")
     if CONTROL.search(value):
         raise Refused(f"{what} has a control character")
-    return escaped(value)
+    return "=" + quote(value, safe=SAFE)
 
 
 def code_of(value):
@@ -130,6 +132,11 @@ class Measure:
 
 def fitting(room, size):
     return max(1, min(255, math.floor(room / size + 1e-6)))
+
+
+def unescaped(text):
+    """The characters of a text of a show, which begins with =."""
+    return unquote(text[1:], errors="strict")
 
 
 class Window:

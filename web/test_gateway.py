@@ -12,9 +12,11 @@ python3-aiohttp."""
 
 import argparse
 import asyncio
+import contextlib
 import hashlib
 import json
 import pathlib
+import socket
 import subprocess
 import sys
 import tempfile
@@ -84,7 +86,7 @@ def bad_messages(gen, window):
     yield "very deep JSON", "[" * 16000
     yield "no type", "{}"
     yield "another type", json.dumps({"type": "shutdown", "gen": gen})
-    yield "an event of before", json.dumps({**line, "gen": gen - 1})
+    yield "an event of before", json.dumps({**line, "gen": gen - 1, "value": "wait"})
     yield "an event of long before", json.dumps({**line, "gen": 0})
     yield "an event of later", json.dumps({**line, "gen": gen + 1})
     yield "a number that is none", json.dumps({**line, "gen": "1"})
@@ -161,11 +163,11 @@ async def want_game(client, gateway, session, what, update):
 async def flood(client, gateway, session, update):
     """10,000 messages at once."""
     player = await want_game(client, gateway, session, "bad messages", update)
-    try:
-        for _ in range(10000):
+    sent = 0
+    while sent < 10000 and not player.socket._writer.transport.is_closing():
+        with contextlib.suppress(ConnectionError):
             await player.send({"type": "line", "gen": 99, "window": 1, "value": "look"})
-    except ConnectionError:
-        pass
+        sent += 1
     try:
         got = await until_closed(player)
     except ConnectionError:
@@ -190,8 +192,12 @@ async def vanish(client, gateway, session, update, window):
 
 
 async def deaf(client, gateway, session, update):
-    """A browser that reads nothing holds nobody up."""
-    reader, writer = await asyncio.open_connection("127.0.0.1", gateway.port)
+    """A browser that asks on and on and reads nothing holds nobody up."""
+    link = socket.socket()
+    link.setsockopt(socket.SOL_SOCKET, socket.SO_RCVBUF, 4096)
+    link.setblocking(False)
+    await asyncio.get_running_loop().sock_connect(link, ("127.0.0.1", gateway.port))
+    _, writer = await asyncio.open_connection(sock=link)
     writer.write((f"GET /socket HTTP/1.1\r\nHost: x\r\nOrigin: {gateway.address}\r\nUpgrade: websocket\r\nConnection: Upgrade"
                   "\r\nSec-WebSocket-Version: 13\r\nSec-WebSocket-Key: AAAAAAAAAAAAAAAAAAAAAA==\r\n\r\n").encode())  # fmt: skip
     writer.transport.pause_reading()
@@ -201,12 +207,30 @@ async def deaf(client, gateway, session, update):
         return b"\x81" + bytes([0x80 | 126, len(text) >> 8, len(text) & 255]) + b"\0\0\0\0" + text
 
     writer.write(framed({"type": "init", "gen": 0, "metrics": UNIT, "resume": session, "filled": "x" * 200}))
-    for _ in range(2000):
-        writer.write(framed({"type": "refresh", "filled": "x" * 200}))
-        await asyncio.sleep(0)
+    for _ in range(200):
+        if not writer.transport.is_closing():
+            writer.write(framed({"type": "refresh", "filled": "x" * 200}) * 4)
+        await asyncio.sleep(0.01)
     player = await asyncio.wait_for(want_game(client, gateway, session, "a browser that reads nothing", update), 10)
     await player.close()
     writer.transport.abort()
+
+
+async def restart(client, gateway, host):
+    """A host that is killed is waited for, and the player is told; the move is kept once."""
+    player = await connected(client, gateway)
+    update = await player.init(begin={"story": 0, "key": KEY + "r", "seed": 1})
+    host.kill()
+    event = {"type": "line", "gen": 1, "window": update["input"][0]["id"], "value": "take rosemary"}
+    answer = asyncio.create_task(player.give(event))
+    await asyncio.sleep(2)
+    want("whether a move is answered without a host", answer.done(), False)
+    await asyncio.to_thread(host.start)
+    shows = players.shows_of_run(COTTAGE, [players.line_of(event)], host.program)
+    players.want_same("the move given to a host that was away", await answer, shows[1])
+    want("how often the player was told", [note.split(".")[0] for note in player.notes],
+         ["The host has stopped", "The host is there again; the game goes on"])  # fmt: skip
+    await player.close()
 
 
 async def pages(client, gateway):
@@ -226,7 +250,7 @@ async def pages(client, gateway):
                 raise Otherwise(f"/{name} has no policy")
     crowd = []
     try:
-        for _ in range(gateway.most):
+        for _ in range(gateway.most + 1):
             crowd.append(await client.ws_connect(gateway.address + "/socket", origin=gateway.address))
         raise Otherwise(f"{gateway.most} more browsers than may be are let in")
     except aiohttp.WSServerHandshakeError as cause:
@@ -388,12 +412,13 @@ async def run(asked, room):
     host = players.Host(room / "d", [COTTAGE], 4, asked.program)
     other = players.Host(room / "e", [COTTAGE], 4, asked.program)
     many_words = ("--rate", "100000", "--story", "The Well House")
-    gateway, guarded = players.Gateway(host.port, *many_words), players.Gateway(other.port, "--players", "20")
+    gateway, guarded = players.Gateway(host.port, *many_words), players.Gateway(other.port, "--players", "20", "--rate", "1000")
     guarded.most = 20
     try:
         async with aiohttp.ClientSession(connector=aiohttp.TCPConnector(limit=0)) as client:
             shows = await many(client, gateway, asked.players, moves, asked.program)
             count = await bad(client, guarded, asked.program)
+            await restart(client, guarded, other)
             await pages(client, guarded)
             await sizes(client)
             await spectators(client)
