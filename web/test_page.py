@@ -1,0 +1,308 @@
+#!/usr/bin/python3
+"""Plays The Well House to its end in a browser, and looks whether the page shows what `run` does.
+
+    web/test_page.py [PROGRAM] [--pictures FOLDER]
+
+Begins the game from the menu and gives the moves of stories/cottage.moves by the keyboard, menu windows among
+them, and between them a saved game that is restored. On the way the display's size changes, the host is killed
+with a move under way and started again, so is the gateway, the page is loaded anew and comes back from its menu,
+and a second browser watches. Behind each move every window of the page must have the text of `run`. Then the
+game is ended, and the story's text may not have become markup. With --pictures it leaves pictures of three sizes.
+Wants Debian's chromium, chromium-driver, python3-selenium and python3-aiohttp. It ends with 1 where something
+is otherwise."""
+
+import argparse
+import pathlib
+import sys
+import tempfile
+import time
+
+from players import COTTAGE, PROGRAM, TOP, Gateway, Host, Otherwise, read_moves
+
+try:
+    from selenium import webdriver
+    from selenium.common.exceptions import WebDriverException
+    from selenium.webdriver.common.by import By
+    from selenium.webdriver.common.keys import Keys
+except ImportError:
+    sys.exit("test_page: apt-get install chromium chromium-driver python3-selenium, and run it with /usr/bin/python3")
+
+from host import Host as Run
+
+SECONDS = 60
+NAMES = {"{Return}": Keys.RETURN, "{Space}": Keys.SPACE, "{Up}": Keys.UP, "{Down}": Keys.DOWN, "{Escape}": Keys.ESCAPE}
+LARGE, MIDDLE, PHONE = (1100, 740), (820, 1000), (390, 760)
+# What happens before a move of the story, by its place.
+SAVED = ["save", "first", "drop rosemary", "restore", "first", "inventory"]
+WINDOWS = """
+return [...document.querySelectorAll("#windows .window")].map((box) => ({
+  type: box.classList.contains("grid") ? "grid" : "buffer",
+  text: box.classList.contains("grid") ? [...box.children].map((line) => line.textContent).join("\\n")
+    : [...box.querySelectorAll("p:not(.aside)")].map((line) => line.textContent).join("\\n"),
+  left: box.offsetLeft, top: box.offsetTop, width: box.offsetWidth, height: box.offsetHeight}));
+"""
+
+
+class Page:
+    """A browser with the page."""
+
+    def __init__(self, address, size, dark=False):
+        words = webdriver.ChromeOptions()
+        for word in ("--headless=new", "--no-sandbox", "--disable-gpu", "--disable-dev-shm-usage", "--hide-scrollbars"):
+            words.add_argument(word)
+        words.set_capability("goog:loggingPrefs", {"browser": "ALL"})
+        words.binary_location = "/usr/bin/chromium"
+        service = webdriver.chrome.service.Service("/usr/bin/chromedriver")
+        self.driver = webdriver.Chrome(service=service, options=words)
+        if dark:
+            self.cdp("Emulation.setEmulatedMedia", features=[{"name": "prefers-color-scheme", "value": "dark"}])
+        self.resize(size)
+        self.driver.get(address)
+
+    def cdp(self, name, **parts):
+        return self.driver.execute_cdp_cmd(name, parts)
+
+    def resize(self, size):
+        self.cdp("Emulation.setDeviceMetricsOverride", width=size[0], height=size[1], deviceScaleFactor=1, mobile=False)
+
+    def find(self, name):
+        return self.driver.find_element(By.ID, name)
+
+    def wait(self, what, holds, seconds=SECONDS):
+        end = time.monotonic() + seconds
+        while not holds():
+            if time.monotonic() > end:
+                raise Otherwise(f"{what}: not so after {seconds} seconds; the page says {self.note()!r}")
+            time.sleep(0.02)
+
+    def note(self):
+        return self.driver.execute_script("return (document.getElementById('game').hidden ? document.getElementById("
+                                          "'menu-note') : document.getElementById('note')).textContent")  # fmt: skip
+
+    def gen(self):
+        return self.driver.execute_script("return gen")
+
+    def is_ready(self):
+        return self.driver.execute_script("return gen > 0 && !pending && !isArranging && socket && socket.readyState === 1")
+
+    def windows(self):
+        return self.driver.execute_script(WINDOWS)
+
+    def type(self, text):
+        """Keys go to whatever has the focus, as a person's do."""
+        webdriver.ActionChains(self.driver).send_keys(text).perform()
+
+    def submit(self, form, **fields):
+        for name, text in fields.items():
+            field = self.find(f"{form}-{name}")
+            field.clear()
+            field.send_keys(text)
+        self.find(form).find_element(By.CSS_SELECTOR, "button").click()
+
+    def picture(self, folder, name):
+        if folder:
+            folder.mkdir(parents=True, exist_ok=True)
+            self.driver.save_screenshot(str(folder / f"{name}.png"))
+
+    def complaints(self):
+        return [entry["message"] for entry in self.driver.get_log("browser") if "WebSocket connection" not in entry["message"]]
+
+
+def words_of(text):
+    return text.split()
+
+
+class Game:
+    """The page and `run`, move by move."""
+
+    def __init__(self, page, run):
+        self.page, self.run, self.whole = page, run, True
+
+    def give(self, move, meanwhile=None):
+        page = self.page
+        page.wait("the page takes a move", page.is_ready)
+        before, kind = page.gen(), self.run.wanted()[0]
+        if kind == "char":
+            page.type(NAMES.get(move, move))
+        elif kind == "P":
+            page.type(move + Keys.RETURN)
+        else:
+            page.type(("" if move == "{empty}" else move) + Keys.RETURN)
+        self.run.give(move)
+        if meanwhile:
+            meanwhile()
+        page.wait(f"move {move!r} is answered", lambda: page.gen() > before)
+        self.look(move)
+
+    def look(self, move):
+        """Whether each window of the page has what `run` shows. A page that was loaded anew has of a
+        buffer what came since."""
+        shown = {kind: [] for kind in ("buffer", "grid")}
+        for window in self.page.windows():
+            shown[window["type"]].append(window)
+        for kind, number in (("buffer", 3), ("grid", 4)):
+            wanted = [window for _, window in sorted(self.run.windows.items()) if window.kind == number]
+            if len(wanted) != len(shown[kind]):
+                raise Otherwise(f"behind {move!r}: {len(shown[kind])} {kind} windows in place of {len(wanted)}")
+            for got, window in zip(shown[kind], wanted):
+                text = window.text if kind == "buffer" else "\n".join(window.rows[row] for row in sorted(window.rows))
+                same = words_of(got["text"]) == words_of(text) if kind == "grid" else got["text"] == text
+                if kind == "buffer" and not self.whole:
+                    same = text.endswith(got["text"]) and got["text"].strip()
+                if not same:
+                    raise Otherwise(f"behind {move!r}: a {kind} is\n{got['text'][-600:]!r}\nin place of\n{text[-600:]!r}")
+
+
+def look_at_places(page, size):
+    """Whether the windows fill the display, and their letters fit."""
+    box = page.find("windows").rect
+    windows = page.windows()
+    right = max(window["left"] + window["width"] for window in windows)
+    bottom = max(window["top"] + window["height"] for window in windows)
+    if abs(right - box["width"]) > 1.5 or abs(bottom - box["height"]) > 1.5 or box["width"] > size[0]:
+        raise Otherwise(f"at {size} the windows end at {right}, {bottom} of {box['width']}, {box['height']}")
+    wide = page.driver.execute_script(
+        "return [...document.querySelectorAll('#windows .grid:not(.tall) div')].some((line) => line.scrollWidth > line.clientWidth + 1)")
+    if wide or page.driver.execute_script("return document.documentElement.scrollWidth > innerWidth"):
+        raise Otherwise(f"at {size} a line is wider than its window")
+
+
+def resized(page, size):
+    page.resize(size)
+    time.sleep(0.6)
+    page.wait("the page has told its size", page.is_ready)
+    look_at_places(page, size)
+
+
+def watch(address, page, pictures):
+    """A second browser looks on. A host of before can't be watched, and the page says so."""
+    page.find("about-open").click()
+    session, word = page.find("about-session").text, page.find("about-word").text
+    page.find("about-close").click()
+    second = Page(address, MIDDLE, dark=True)
+    try:
+        second.submit("watch", session=session, word=word)
+        second.wait("the spectator is answered", lambda: second.gen() > 0 or "can't be watched" in second.note())
+    except BaseException:
+        second.driver.quit()
+        raise
+    return second
+
+
+def see(second, game):
+    """Whether the spectator sees the last move."""
+    if second.gen() == 0:
+        return "was told that this host can't be watched"
+    gen = game.page.gen()
+    second.wait("the spectator sees the last move", lambda: second.gen() == gen)
+    if second.driver.find_elements(By.CSS_SELECTOR, "#windows input"):
+        raise Otherwise("a spectator is asked for a move")
+    return "saw each move that was looked for"
+
+
+def play(address, host, gateway, story, program, pictures):
+    page = Page(address, LARGE)
+    try:
+        return play_in(page, address, host, gateway, story, program, pictures)
+    finally:
+        page.driver.quit()
+
+
+def play_in(page, address, host, gateway, story, program, pictures):
+    page.wait("the menu has its stories", lambda: page.driver.execute_script("return !!document.getElementById('begin-story').value"))
+    page.picture(pictures, "menu")
+    run = Run(str(story), str(program))
+    page.submit("begin", key="anna7")
+    page.wait("the story is begun", page.is_ready)
+    game = Game(page, run)
+    game.look("begin")
+    second, seen, moves = None, "", read_moves(TOP / "stories" / "cottage.moves")
+
+    def stop_host():
+        """The host is killed with the move under way, or just behind it."""
+        host.kill()
+        time.sleep(1.5)
+        host.start()
+
+    for at, move in enumerate(moves):
+        meanwhile = None
+        if at == 6:
+            for other in SAVED:
+                game.give(other)
+            page.picture(pictures, "large")
+        if at == 12:
+            resized(page, PHONE)
+            game.look("a smaller size")
+        if at == 14:
+            page.picture(pictures, "phone")
+            second = watch(address, page, pictures)
+        if at == 20:
+            host.kill()
+            host.start()
+        if at == 22:
+            meanwhile = stop_host
+        if at == 30:
+            resized(page, MIDDLE)
+        if at == 34:
+            gateway.kill()
+            time.sleep(0.5)
+            gateway.start()
+        if at == 40:
+            page.driver.refresh()
+            page.driver.find_element(By.CSS_SELECTOR, "#kept-games button").click()
+            page.wait("the page came back", page.is_ready)
+            game.whole = False
+            game.look("the page's coming back")
+        if at == 46:
+            resized(page, LARGE)
+        before = page.gen()
+        game.give(move, meanwhile)
+        if page.gen() != before + 1:
+            raise Otherwise(f"{move!r} took more than one move of the session")
+        if at == 18:
+            seen = see(second, game)
+            if second.gen():
+                second.picture(pictures, "watch")
+            second.driver.quit()
+        if move == "help":
+            look_at_places(page, LARGE)
+            page.picture(pictures, "help")
+    if run.ended != "quit" or page.note() != "The story is over.":
+        raise Otherwise(f"at the end `run` says {run.ended}, the page {page.note()!r}")
+    moves_taken = page.gen() - 1
+    page.find("about-open").click()
+    page.find("end").click()
+    page.wait("the game is ended", lambda: page.note() == "The game is ended.")
+    if page.driver.execute_script("return localStorage.getItem('storyhost.games')") != "[]":
+        raise Otherwise("the ended game is kept in the browser")
+    complaints = page.complaints()
+    if complaints:
+        raise Otherwise(f"the browser says: {complaints}")
+    return moves_taken, seen
+
+
+def main():
+    words = argparse.ArgumentParser(usage=__doc__)
+    words.add_argument("program", nargs="?", default=PROGRAM, type=pathlib.Path)
+    words.add_argument("--pictures", type=pathlib.Path)
+    asked = words.parse_args()
+    with tempfile.TemporaryDirectory(prefix="page-") as room:
+        host = Host(pathlib.Path(room) / "d", [COTTAGE], program=asked.program.resolve())
+        gateway = Gateway(host.port, "--story", "The Well House")
+        try:
+            moves, seen = play(gateway.address, host, gateway, COTTAGE, asked.program.resolve(), asked.pictures)
+        except (Otherwise, WebDriverException) as cause:
+            print(f"test_page: {cause}")
+            return 1
+        finally:
+            host.kill()
+            said = gateway.kill()
+    if "anna7" in said:
+        print("test_page: the gateway's log has a key")
+        return 1
+    print(f"test_page: {moves} moves to the story's end, as by `run`; a spectator {seen}")
+    return 0
+
+
+if __name__ == "__main__":
+    sys.exit(main())
