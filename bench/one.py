@@ -1,6 +1,7 @@
 #!/usr/bin/env python3
-"""Proves one function of a crate without building a library below it: the prover reads what lies below as sources, by
-the words of `rt`'s quick pass.
+"""Proves one function of a crate without building a library below it: the prover takes the libraries that stand built
+in out/, and reads the others as sources, by the words of `rt`'s quick pass. Sources take memory: the more of them lie
+below, the more (a crate above vm_exec and glk_dispatch takes some 5 GB where none is built).
 
     bench/one.py CRATE PATH [rattle's flags]
 
@@ -31,6 +32,20 @@ def load_rtlib():
     return made
 
 
+def with_built(crate, words):
+    """The words, with each library that stands built in the place of its sources."""
+    built = {it.name: it.rlib for it in crate.below() if it.makes_rlib() and it.is_built()}
+    found, at = [], 0
+    while at < len(words):
+        name = words[at + 1].partition(":")[0] if words[at] == "--lib" else None
+        if name in built:
+            found += ["--extern", f"{name}={built[name]}", "-L", f"dependency={os.path.dirname(built[name])}"]
+        else:
+            found += words[at : at + 2] if name else words[at : at + 1]
+        at += 2 if name else 1
+    return found
+
+
 def main(name, paths, flags):
     rtlib = load_rtlib()
     folder = TOP / "crates" / name
@@ -41,6 +56,7 @@ def main(name, paths, flags):
     kept = folder / "out" / "one"
     kept.mkdir(parents=True, exist_ok=True)
     words = crate.words([*only, "--jobs", "1", "--incremental", str(kept), *flags], as_source=True)
+    words = with_built(crate, words)
     began = time.time()
     status = subprocess.run([rtlib.RATTLE, "check", *words], cwd=folder, stdin=subprocess.DEVNULL).returncode
     used = resource.getrusage(resource.RUSAGE_CHILDREN)
