@@ -293,6 +293,7 @@ def played_alone(room):
         terminal.size(100, 30)
         terminal.move("look", r"The house stands to the north with its door open, the well\n")
         terminal.size(80, 24)
+        terminal.wait(r"door open, the well is east along the flagstones, and hens mutter behind the\n", "80 columns again")
         for _ in range(3):
             terminal.move("look", r">look\n\nGarden")
         terminal.type("", "PageUp", "PageUp")

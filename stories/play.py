@@ -51,13 +51,13 @@ def read_moves(name):
 
 
 def play(host, moves):
-    """Gives the moves, and returns those that came after the end."""
+    """Gives the moves, and returns those that came after the end, or from one on that wasn't taken."""
     for at, move in enumerate(moves):
         if host.ended or host.is_stuck():
             return moves[at:]
         if not host.give(move):
             print(f"play.py: move {at + 1}, {move}: {host.note}", file=sys.stderr)
-            host.note = ""
+            return moves[at:]
     return []
 
 
@@ -132,8 +132,8 @@ def play_moves(host, moves, is_told):
     if is_told:
         print(host.text.replace(CLEARED, "\n----\n").strip("\n"))
     if host.ended != "quit":
-        print(f"play.py: {host.end_words()}" if host.ended or host.is_stuck() else
-              "play.py: the story waits for more", file=sys.stderr)
+        waits = f"the story waits for more; {len(left)} moves weren't given" if left else "the story waits for more"
+        print(f"play.py: {host.end_words() if host.ended or host.is_stuck() else waits}", file=sys.stderr)
         return 1
     if left:
         print(f"play.py: {len(left)} moves came after the end", file=sys.stderr)

@@ -147,9 +147,10 @@ class View:
             self.floor = len(self.text.lines) - 1
             self.seen = max(self.seen, self.floor)
             self.runs, self.taken, self.past = window.runs, 0, len(window.past)
-        for style, text in window.runs[self.taken :]:
+        fresh = window.runs[self.taken :]
+        for style, text in fresh:
             self.text.add(style, text)
-        self.taken = len(window.runs)
+        self.taken += len(fresh)
 
     def count(self):
         return len(self.text.lines)
@@ -178,6 +179,7 @@ class Screen:
         self.busy, self.keys, self.mode = True, deque(), "start"
         self.remark = "[the story is begun, or where it is kept played to where it was]"
         self.views, self.size, self.places = {}, (80, 24), {}
+        self.windows, self.wants = {}, (None, 0)    # as they are drawn, while the host is asked too
         self.line = Buffer(multiline=False, on_text_changed=self.limit)
         self.name = Buffer(multiline=False)
         self.typing = Typing(self)
@@ -225,9 +227,8 @@ class Screen:
 
     def scrolled(self):
         """The window whose text is looked back at: the one that waits, or the largest one."""
-        number = self.host.wanted()[1] if self.host else 0
-        if number in self.views:
-            return number
+        if self.wants[1] in self.views:
+            return self.wants[1]
         return max(self.views, key=lambda it: self.places[it][2] * self.places[it][3], default=0)
 
     def unscroll(self):
@@ -237,8 +238,10 @@ class Screen:
     def limit(self, buffer):
         """A line has at most as many characters as the story takes."""
         self.unscroll()
-        most = int(self.host.wait()[3]) if self.host and self.host.wanted()[0] == "line" else 0
-        if self.mode == "line" and len(buffer.text) > most:
+        if self.busy or self.mode != "line":
+            return
+        most = int(self.host.wait()[3])
+        if len(buffer.text) > most:
             self.remark = f"[the story takes {most} characters]"
             buffer.document = Document(buffer.text[:most], min(buffer.cursor_position, most))
 
@@ -339,8 +342,8 @@ class Screen:
     def shown(self, is_new=True):
         """Behind a show: what it says is paged, and then what the story waits for is asked."""
         self.remark, self.host.note = self.host.note or ("" if is_new else self.remark), ""
-        for number in [number for number in self.views if number not in self.host.windows]:
-            del self.views[number]
+        self.windows = dict(self.host.windows)
+        self.views = {number: view for number, view in self.views.items() if number in self.windows}
         self.fit()
         self.turn_page()
 
@@ -348,8 +351,8 @@ class Screen:
         """Puts the windows of the game on this terminal, whatever the size with which it was opened. (A game
         that may change its size would be asked for it here.)"""
         columns, rows = self.size
-        self.places = fitted(self.host.windows, columns, max(rows - 1, 1))
-        for number, window in self.host.windows.items():
+        self.places = fitted(self.windows, columns, max(rows - 1, 1))
+        for number, window in self.windows.items():
             if window.kind != BUFFER:
                 continue
             view, width = self.views.get(number), max(self.places[number][2], 1)
@@ -357,6 +360,8 @@ class Screen:
                 fresh = View(width)
                 fresh.take(window)
                 fresh.seen = fresh.count() - 1 if view else fresh.floor
+                if view and view.end is not None:       # Who looks back stays at about that place.
+                    fresh.end = view.end * fresh.count() // view.count()
                 self.views[number] = fresh
             else:
                 view.take(window)
@@ -371,7 +376,8 @@ class Screen:
 
     def wait(self):
         """Waits for what the story waits for."""
-        kind, _ = self.host.wanted()
+        self.wants = self.host.wanted()
+        kind = self.wants[0]
         if kind is None:
             self.turn_to("over")
         elif kind == "P":
@@ -402,16 +408,15 @@ class Screen:
                 if self.mode == "more":
                     self.turn_page()
         canvas, place = Canvas(columns, rows), (rows - 1, 0)
-        if self.host:
-            for number, window in sorted(self.host.windows.items()):
-                if window.kind == GRID:
-                    self.draw_grid(canvas, window, *self.places[number])
-            for number, window in sorted(self.host.windows.items()):
-                if window.kind == BUFFER and self.places[number][2] and self.places[number][3]:
-                    end = self.draw_buffer(canvas, number, *self.places[number])
-                    place = end if number == self.scrolled() else place
-            if self.host.wanted()[1] and self.host.windows[self.host.wanted()[1]].kind == GRID:
-                place = self.draw_typed(canvas, *self.end_of_grid(self.host.wanted()[1]))
+        for number, window in sorted(self.windows.items()):
+            if window.kind == GRID:
+                self.draw_grid(canvas, window, *self.places[number])
+        for number, window in sorted(self.windows.items()):
+            if window.kind == BUFFER and self.places[number][2] and self.places[number][3]:
+                end = self.draw_buffer(canvas, number, *self.places[number])
+                place = end if number == self.scrolled() else place
+        if self.wants[1] in self.windows and self.windows[self.wants[1]].kind == GRID:
+            place = self.draw_typed(canvas, *self.end_of_grid(self.wants[1]))
         place = self.draw_remark(canvas) or place
         return UIContent(canvas.line, rows, cursor_position=canvas.cursor(*place), show_cursor=self.mode != "start")
 
@@ -445,7 +450,7 @@ class Screen:
 
     def with_typed(self, number, lines, width):
         """The lines, the typed one behind the last of them, and the cursor's row and column."""
-        if self.mode != "line" or self.host.wanted()[1] != number:
+        if self.mode != "line" or self.wants[1] != number:
             return lines, None
         lines, at = [*lines[:-1], list(lines[-1])], None
         used = columns_of(lines[-1])
@@ -464,7 +469,7 @@ class Screen:
     def end_of_grid(self, number):
         """Behind the last text of a grid, where a line is typed, and up to which column it may go."""
         x, y, width, height = self.places[number]
-        rows = self.host.windows[number].rows
+        rows = self.windows[number].rows
         row = max((row for row, text in rows.items() if text.strip() and row < height), default=0)
         cells = cells_of(rows.get(row, "").rstrip(), "")
         column = columns_of(cells) + 1 if cells else 0
