@@ -86,8 +86,8 @@ class Rate:
 class Watched:
     """A session that spectators look at. The host is asked once for all of them."""
 
-    def __init__(self, links, session, word):
-        self.links, self.session, self.word = links, session, word
+    def __init__(self, gateway, session, word):
+        self.gateway, self.session, self.word = gateway, session, word
         self.shows, self.spectators = collections.deque(maxlen=SHOWS_AT_ONCE), set()
         self.next = self.counted = None
         self.moved = asyncio.Event()
@@ -96,7 +96,7 @@ class Watched:
         """Looks on until the session can't be seen, and gives the refusal."""
         while True:
             self.moved.clear()
-            reply = await self.look(GREATEST if self.next is None else self.next)
+            reply = await self.gateway.look(self.session, self.word, GREATEST if self.next is None else self.next)
             if reply.refusal == "5":
                 self.count(int(reply.words[2]))
             elif reply.refusal:
@@ -107,10 +107,6 @@ class Watched:
             if not reply.shows and self.next == self.counted + 1:
                 with contextlib.suppress(asyncio.TimeoutError):
                     await asyncio.wait_for(self.moved.wait(), LOOK_SECONDS)
-
-    async def look(self, first):
-        """The one place that asks to see a session. A host of before answers NO 1."""
-        return await self.links.ask(f"WATCH {self.session} {self.word} {first}")
 
     def count(self, moves):
         """The session has so many moves. Fewer than were seen: its number has another game."""
@@ -135,7 +131,8 @@ class Gateway:
         self.stories, self.origins, self.most, self.rate = asked.story, asked.origins, asked.players, asked.rate
         self.pages = pages_of(asked.pages)
         self.players, self.watched = set(), {}
-        self.takes_sizes = True
+        self.looking = asyncio.Semaphore(1)
+        self.refused_size = None    # how many links had broken as the host refused a size
 
     def app(self):
         app = web.Application()
@@ -195,11 +192,19 @@ class Gateway:
     async def size(self, session, key, n, columns, rows):
         """The one place that tells a host a screen's size: its reply, or None from a host of before, which
         answers NO 1."""
-        if not self.takes_sizes:
+        if self.refused_size == self.links.broken:
             return None
         reply = await self.links.ask(f"SIZE {session} {key} {n} {columns} {rows}")
-        self.takes_sizes = reply.refusal != "1"
-        return reply if self.takes_sizes else None
+        if reply.refusal != "1":
+            return reply
+        self.refused_size = self.links.broken
+        return None
+
+    async def look(self, session, word, first):
+        """The one place that asks to see a session, at one link at a time: the host plays the game again for
+        it. A host of before answers NO 1."""
+        async with self.looking:
+            return await self.links.ask(f"WATCH {session} {word} {first}")
 
 
 class Player:
@@ -425,7 +430,7 @@ class Player:
         all_watched = self.gateway.watched
         watched = all_watched.get((session, word))
         if watched is None:
-            watched = all_watched[session, word] = Watched(self.gateway.links, session, word)
+            watched = all_watched[session, word] = Watched(self.gateway, session, word)
             watched.task = asyncio.create_task(watched.follow())
         self.watched, self.unseen = watched, asyncio.Queue(MOST_UNSEEN + SHOWS_AT_ONCE)
         for seen in watched.shows:

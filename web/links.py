@@ -71,6 +71,7 @@ class Links:
     def __init__(self, address, most):
         self.address, self.room = address, asyncio.Semaphore(most)
         self.idle, self.is_there = [], True
+        self.broken = 0         # how many links have broken off: the host may be another since
 
     async def ask(self, line):
         """The reply to a line. Where the host goes it is waited for, and is sent the line again."""
@@ -89,6 +90,7 @@ class Links:
         try:
             reply = await link.ask(line)
         except BaseException:
+            self.broken += 1
             link.close()
             raise
         self.idle.append(link)

@@ -254,7 +254,7 @@ function seat({ session, word }) {
 
 function refused({ message, late }) {
   pending = null;
-  if (gen === 0) {
+  if (gen === 0 || game.watch) {
     stop(`That can't be done: ${message}.`);
     return;
   }
@@ -346,6 +346,7 @@ function fitGrid(window, { gridwidth, gridheight, width, height }) {
   box.classList.toggle("tall", gridheight > 3);
   box.setAttribute("role", "group");
   box.setAttribute("aria-label", gridheight > 3 ? "Table" : "Status");
+  box.setAttribute("aria-live", gridheight > 3 ? "polite" : "off");
   while (window.lines.length < gridheight) {
     const line = document.createElement("div");
     window.lines.push(line);

@@ -34,6 +34,7 @@ NAMES = {"{Return}": Keys.RETURN, "{Space}": Keys.SPACE, "{Up}": Keys.UP, "{Down
 LARGE, MIDDLE, PHONE = (1100, 740), (820, 1000), (390, 760)
 # What happens before a move of the story, by its place.
 SAVED = ["save", "first", "drop rosemary", "restore", "first", "inventory"]
+MARKUP = "<b>hens</b><img src=x onerror=alert(1)>"
 WINDOWS = """
 return [...document.querySelectorAll("#windows .window")].map((box) => ({
   type: box.classList.contains("grid") ? "grid" : "buffer",
@@ -236,6 +237,10 @@ def play_in(page, address, host, gateway, story, program, pictures):
         if at == 14:
             page.picture(pictures, "phone")
             second = watch(address, page, pictures)
+        if at == 16:
+            game.give(MARKUP)
+            if page.driver.find_elements(By.CSS_SELECTOR, "#windows img, #windows b"):
+                raise Otherwise("a text has become markup")
         if at == 20:
             host.kill()
             host.start()
