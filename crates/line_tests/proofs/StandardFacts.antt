@@ -10,10 +10,10 @@ use Rattle.story_show.specs.Lines.{text_of_show}
 use Rattle.story_show.specs.declared.show.End.TheVariants.{Fault, Prompt, WantLine, WantChar}
 
 each_end_has_its_line : text_of_show (record {
-        places = [];
-        parts = [];
-        ends = Fault 24 ∷ Prompt 1 2 ∷ WantLine 1 20 (97 ∷ 0 ∷ []) ∷ WantChar 4294967294 ∷ [];
-    }) ≡ codes "E fault 24\nP 1 2\nI 1 line 20 =a%00\nI 4294967294 char\n"
+  places = [];
+  parts = [];
+  ends = Fault 24 ∷ Prompt 1 2 ∷ WantLine 1 20 (97 ∷ 0 ∷ []) ∷ WantChar 4294967294 ∷ [];
+}) ≡ codes "E fault 24\nP 1 2\nI 1 line 20 =a%00\nI 4294967294 char\n"
 each_end_has_its_line = refl
 
 a_fault_of_a_disk_is_told : print_reply (replies.No (DiskFault 0 1)) ≡ codes "NO 11 0 1\n"
