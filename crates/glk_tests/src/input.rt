@@ -2,10 +2,6 @@ use glk_input::*;
 use std::alloc::{AllocError, Global};
 use std::test::*;
 use story_text::read_escaped;
-use vm_memory::Memory;
-
-// 512 bytes, of which those from 256 on can be written.
-const ROM: [u8; 256] = [0; 256];
 
 // A line for window 1, with this text and terminator.
 fn typed(alloc: Global, word: &[u8], key: u32) -> Result<Input, Fail> {
@@ -27,110 +23,6 @@ fn a_line_is_copied(rt: HostRuntime) -> Result<(), Fail> {
             }
         )
     );
-    Ok(())
-}
-
-// Whether window 1 waits for the input, which gives this event.
-fn gives(
-    memory: &mut Memory<'_>,
-    requests: &mut Requests,
-    input: &Input,
-    kind: u32,
-    val1: u32,
-) -> bool {
-    requests.wants(input)
-        && requests.deliver(memory, input)
-            == Ok(Event {
-                kind,
-                win: 1,
-                val1,
-                val2: 0,
-            })
-}
-
-// Whether a line of three characters is cut to two, and no other is waited for.
-fn is_cut(alloc: Global, memory: &mut Memory<'_>, requests: &mut Requests) -> Result<bool, Fail> {
-    requests.ask_line(alloc, 1, 256, 2, 0, false)?;
-    let line = typed(alloc, b"=abc", 0)?;
-    Ok(
-        gives(memory, requests, &line, 3, 2)
-            && memory.read4(256) == Ok(0x6162_0000)
-            && !requests.wants(&line),
-    )
-}
-
-#[test]
-fn a_line_is_cut_to_its_array(rt: HostRuntime) -> Result<(), Fail> {
-    let mut memory = Memory::new(rt.alloc(), &ROM, 256, 512)?;
-    let mut requests = Requests::new(rt.alloc());
-    assert!(rt; is_cut(rt.alloc(), &mut memory, &mut requests)?);
-    Ok(())
-}
-
-// Whether each character of a line becomes a word.
-fn has_words(
-    alloc: Global,
-    memory: &mut Memory<'_>,
-    requests: &mut Requests,
-) -> Result<bool, Fail> {
-    requests.ask_line(alloc, 1, 256, 9, 0, true)?;
-    let line = typed(alloc, b"=a%CE%B1", 0)?;
-    Ok(
-        gives(memory, requests, &line, 3, 2)
-            && memory.read4(256) == Ok(0x61)
-            && memory.read4(260) == Ok(0x3B1),
-    )
-}
-
-#[test]
-fn a_unicode_line_has_words(rt: HostRuntime) -> Result<(), Fail> {
-    let mut memory = Memory::new(rt.alloc(), &ROM, 256, 512)?;
-    let mut requests = Requests::new(rt.alloc());
-    assert!(rt; has_words(rt.alloc(), &mut memory, &mut requests)?);
-    Ok(())
-}
-
-// Whether a newline is told as the key's number.
-fn is_return(
-    alloc: Global,
-    memory: &mut Memory<'_>,
-    requests: &mut Requests,
-) -> Result<bool, AllocError> {
-    requests.ask_char(alloc, 1, false)?;
-    let newline = Input::Char { win: 1, code: 10 };
-    Ok(gives(memory, requests, &newline, 2, 4_294_967_290))
-}
-
-#[test]
-fn a_newline_is_the_return_key(rt: HostRuntime) -> Result<(), Fail> {
-    let mut memory = Memory::new(rt.alloc(), &ROM, 256, 512)?;
-    let mut requests = Requests::new(rt.alloc());
-    assert!(rt; is_return(rt.alloc(), &mut memory, &mut requests)?);
-    Ok(())
-}
-
-// Whether a terminator that is set ends the line that is asked for next, and not the one before.
-fn ends_the_next(alloc: Global, requests: &mut Requests, line: &Input) -> Result<bool, AllocError> {
-    requests.ask_line(alloc, 1, 256, 2, 0, false)?;
-    let is_wanted = requests.wants(line);
-    requests.set_terminators(alloc, 1, &[4_294_967_288])?;
-    let is_wanted_once_set = requests.wants(line);
-    let cancelled = Event {
-        kind: 3,
-        win: 1,
-        val1: 0,
-        val2: 0,
-    };
-    let is_cancelled = requests.cancel_line(1) == cancelled;
-    requests.ask_line(alloc, 1, 256, 2, 0, false)?;
-    Ok(!is_wanted && !is_wanted_once_set && is_cancelled && requests.wants(line))
-}
-
-#[test]
-fn a_terminator_is_asked_for(rt: HostRuntime) -> Result<(), Fail> {
-    let line = typed(rt.alloc(), b"=a", 4_294_967_288)?;
-    let mut requests = Requests::new(rt.alloc());
-    assert!(rt; ends_the_next(rt.alloc(), &mut requests, &line)?);
     Ok(())
 }
 

@@ -2,10 +2,6 @@
 #![tactic(auto)]
 
 #[cfg(test)]
-mod desk;
-#[cfg(test)]
-mod dispatch;
-#[cfg(test)]
 mod input;
 #[cfg(test)]
 mod numbers;
