@@ -339,6 +339,16 @@ class Session(Game):
         self.note = f"[not taken: {refused(refusal)}]"
         return False
 
+    def back(self):
+        """Takes the last move back, on a folder of this program's own: it goes on from its journal without that."""
+        folder = self.link.folder
+        self.finish()
+        if not files.take_back(folder, self.number):
+            raise SystemExit("play.py: there is no move to take back")
+        self.windows, self.main, self.count = {}, None, None
+        self.must(self.look())
+        self.note = "[the last move is taken back]"
+
     def close(self):
         """Ends the game of the session, and frees its number."""
         refusal = self.ask(f"CLOSE {self.number} {self.key} {GREATEST}")
