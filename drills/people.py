@@ -190,6 +190,14 @@ def keeper(room):
     host = ran(PROGRAM, "pipe", room / "mended", COTTAGE, input="LAST 0 k0\n")
     want("the copy is a host's folder", host.returncode == 0 and host.stdout.startswith("SHOW 0 "), host.stdout[:80])
     want("and has what stood before", len(list(files.rows_of(files.journal_of(room / "mended")))) == len(rows) - 40)
+    moves = {number: game.inputs for number, game in files.games_of(room / "mended").items()}
+    number = max(moves, key=moves.get)
+    done = script("keeper.py", "back", room / "mended", number, "2", room / "back")
+    want("moves are taken back", done.returncode == 0, done.stdout + done.stderr)
+    left = {number: game.inputs for number, game in files.games_of(room / "back").items()}
+    want("of that game alone", left == {**moves, number: moves[number] - 2}, str(left))
+    host = ran(PROGRAM, "pipe", room / "back", COTTAGE, input=f"LAST {number} k{number}\n")
+    want("and it goes on", host.stdout.startswith(f"SHOW {number} {moves[number] - 2}\n"), host.stdout[:80])
 
 
 # The small client.
@@ -314,7 +322,12 @@ def played_alone(room):
         terminal.type("", "Enter")
         terminal.wait(r">restore\nOk\.", "a file of yesterday")
         terminal.move("quit", "Are you sure")
-        terminal.move("yes", "the story is over. N begins a new game")
+        terminal.move("yes", "the story is over. B takes the last move back, N begins a new game")
+        terminal.type("b")
+        terminal.wait("the last move is taken back", "a move that is taken back")
+        terminal.move("no", r"no\n\n>")
+        terminal.move("quit", "Are you sure")
+        terminal.move("yes", "the story is over. B takes")
         terminal.type("n")
         terminal.wait(r"THE WELL HOUSE.*\n>", "a new game")
         terminal.type("", "C-c")
@@ -328,7 +341,7 @@ def told_of_ends(room):
     terminal = Terminal(room, sys.executable, STORIES / "play.py", MILL, "--unkept")
     try:
         terminal.wait(r"\n>", "the opening")
-        terminal.move("count 100000", r"the story failed: one turn took too\s+long. N begins a new game")
+        terminal.move("count 100000", r"the story failed: one turn took too\s+long. B takes the last move back")
         terminal.type("", "Enter")
         terminal.wait("status 0", "Return at the end")
     finally:

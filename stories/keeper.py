@@ -6,10 +6,12 @@ usage: keeper.py DIR [STORY ..] [--host PROGRAM]    the sessions: number, key, s
        keeper.py wants DIR FILE ..                  which of some files the folder's journal wants, and in what order
        keeper.py close DIR SESSION HOST:PORT        ends a game of a host that runs there, with the key of the journal
        keeper.py repair DIR COPY                    writes a copy of DIR without what is damaged, and says what is lost
+       keeper.py back DIR SESSION MOVES COPY        writes a copy of DIR without the last moves of a session's game, as
+                                                    where a story has failed, or its player said `quit`
 
 Listing only reads, also while a host runs. To tell whether a game is over the journal is copied, and a host of the
-copy plays it. `repair` leaves DIR as it is, wants a COPY that isn't there, and refuses while a host runs on DIR. It
-reads by docs/FORMATS.md ("The journal", "Snapshot files"), with drills/folder.py."""
+copy plays it. `repair` and `back` leave DIR as it is, want a COPY that isn't there, and refuse while a host runs on DIR.
+All reading is by docs/FORMATS.md ("The journal", "Snapshot files"), with drills/folder.py."""
 
 import argparse
 import collections
@@ -243,6 +245,24 @@ def repair(given):
     return 0
 
 
+def back(given):
+    folder, copy = given.dir, given.copy
+    if copy.exists():
+        raise Wrong(f"{copy} is there already; a new name is wanted")
+    with held(folder):
+        try:
+            journal = files.without_last(journal_of(folder), given.session, given.moves)
+        except files.Damaged as damage:
+            raise Wrong(f"the journal is damaged: {damage}. `keeper.py repair` first") from None
+    if journal is None:
+        raise Wrong(f"session {given.session} hasn't {given.moves} moves")
+    Pipe(copy, "", given.host).begin_folder()
+    (copy / "journal").write_bytes(journal)
+    print(f"{copy} has all games, session {given.session} without its last {given.moves}. It has no snapshots: the first"
+          " line of each game waits for all its moves")
+    return 0
+
+
 def reset(folder, session, game):
     """Closes the areas of a snapshot file that are of no moment of this game; says how many."""
     closed = 0
@@ -257,23 +277,27 @@ def reset(folder, session, game):
 def main():
     about, _, rest = __doc__.partition("\n\nusage: ")
     usage, _, more = rest.partition("\n\n")
-    task = sys.argv[1] if len(sys.argv) > 1 and sys.argv[1] in ("wants", "close", "repair") else None
+    tasks = {"wants": wants, "close": close, "repair": repair, "back": back}
+    task = sys.argv[1] if len(sys.argv) > 1 and sys.argv[1] in tasks else None
     words = argparse.ArgumentParser(usage=usage, description=about, epilog=more,
                                     formatter_class=argparse.RawDescriptionHelpFormatter)
     if task:
         words.add_argument("task")
     words.add_argument("dir", type=pathlib.Path)
-    if task == "close":
+    if task in ("close", "back"):
         words.add_argument("session", type=int)
+    if task == "close":
         words.add_argument("address")
-    elif task == "repair":
+    if task == "back":
+        words.add_argument("moves", type=int)
+    if task in ("repair", "back"):
         words.add_argument("copy", type=pathlib.Path)
-    else:
+    if task in ("wants", None):
         words.add_argument("files", nargs="+" if task else "*")
     words.add_argument("--host", default=HOST)
     given = words.parse_args()
     try:
-        return {"wants": wants, "close": close, "repair": repair, None: listed}[task](given)
+        return tasks.get(task, listed)(given)
     except (Wrong, OSError) as cause:
         print(f"keeper.py: {cause}", file=sys.stderr)
         return 1

@@ -233,6 +233,7 @@ class Place:
 
     def __init__(self, given):
         self.given, self.is_asked, self.room = given, False, None
+        self.is_own = not (given.connect or given.dir)      # the folder is this player's, and has one game
         self.number, self.key = given.session, given.key
         if given.connect or given.dir:
             self.folder = given.dir

@@ -286,6 +286,8 @@ class Screen:
             self.ask(self.host.give, move)
         elif self.mode == "over" and move in ("n", "N"):
             self.ask(self.place.anew, self.host, self.game_size())
+        elif self.mode == "over" and move in ("b", "B") and self.place.is_own:
+            self.ask(self.host.back)
         elif self.mode == "over" and move == "{Return}":
             self.leave()
 
@@ -331,7 +333,7 @@ class Screen:
         if before is None:
             self.host = value
         self.busy = False
-        if work == self.place.anew:
+        if work in (self.place.anew, before and before.back):
             self.views = {}
         if value is not False:
             self.line.reset(append_to_history=bool(self.mode == "line" and self.line.text))
@@ -493,7 +495,8 @@ class Screen:
         y, columns = canvas.rows - 1, canvas.columns
         text = self.remark
         if self.mode == "over" and not self.busy:
-            text = f"[{self.host.end_words()}. N begins a new game; this one's files go with it. Return leaves]"
+            back = "B takes the last move back, " if self.place.is_own else ""
+            text = f"[{self.host.end_words()}. {back}N begins a new game; this one's files go with it. Return leaves]"
         if self.mode != "file" or self.busy:
             self.draw_words(canvas, y, text)
             return None
