@@ -4,7 +4,8 @@
 A piece is a crate's proof and library, its tests, or its edits. `rt ci`'s own code runs it, with
 this one piece to do and one job, in a copy of the crates where only the libraries below are built.
 Those are linked in as earlier pieces made them, so no piece pays for another one's search. Seconds
-are those that the system counted for the piece's processes, user and system."""
+are those that the system counted for the piece's processes, user and system. Machines differ, so each
+piece is also told as a multiple of one proof of `story_text` in the same run."""
 
 import argparse
 import importlib.machinery
@@ -22,6 +23,7 @@ import time
 
 TOP = pathlib.Path(__file__).resolve().parent.parent
 KINDS = ("proof", "tests", "edits")
+UNIT = ("story_text", "proof")
 LONGEST_PIECE = 10 * 60
 LONGEST_GATE = 200 * 60
 
@@ -140,10 +142,11 @@ class Gate:
         return {**ended, "failed": ran.returncode != 0 or refused}
 
     def plan(self, pieces, only, built):
-        """Takes the pieces of the crates named, or all, and proofs of those below that lack."""
+        """Takes the pieces of the crates named, or all, proofs of those below that lack, and the unit."""
         below = {crate: libraries for crate, _, libraries, _ in pieces}
         wanted = set(only or below)
-        needed = {it for crate in wanted for it in below[crate]} - wanted
+        needed = {it for crate in wanted for it in below[crate]} - wanted | {UNIT[0]}
+        built = {crate: folder for crate, folder in built.items() if crate != UNIT[0]}
         for crate in needed & built.keys():
             subprocess.run(["cp", "-a", built[crate], self.store / crate], check=True)
         work = {}
@@ -206,24 +209,27 @@ class Gate:
         return [f"{' '.join(it)}: {told.get('lacks') or self.log(*it)}" for it, told in bad]
 
 
-def row(name, seconds):
-    return f"| {name} | {seconds:.0f} |"
+def row(name, seconds, unit):
+    multiple = f"{seconds / unit:.1f}" if unit else ""
+    return f"| {name} | {seconds:.0f} | {multiple} |"
 
 
 def tables(ended):
     """The pieces and the edits as tables, largest first, with sums."""
+    unit = ended.get(UNIT, {"seconds": 0.0})["seconds"]
     largest = sorted(ended.items(), key=lambda it: -it[1]["seconds"])
-    lines = ["| Piece | processor seconds |", "|---|---|"]
-    lines += [row(f"`{crate}`, {kind}", told["seconds"]) for (crate, kind), told in largest]
+    head = ["processor seconds", f"proofs of `{UNIT[0]}`"]
+    lines = [f"| {' | '.join(['Piece', *head])} |", "|---|---|---|"]
+    lines += [row(f"`{crate}`, {kind}", told["seconds"], unit) for (crate, kind), told in largest]
     for kind in KINDS:
         of_kind = [told["seconds"] for it, told in largest if it[1] == kind]
-        lines.append(row(f"all {kind}", sum(of_kind)))
+        lines.append(row(f"all {kind}", sum(of_kind), unit))
     whole = sum(told["seconds"] for told in ended.values())
-    lines.append(row(f"in all, {whole / 60:.0f} minutes", whole))
-    lines += ["", "| Edit | processor seconds |", "|---|---|"]
+    lines.append(row(f"in all, {whole / 60:.0f} minutes", whole, unit))
+    lines += ["", f"| {' | '.join(['Edit', *head])} |", "|---|---|---|"]
     edits = [(it[0], *each) for it, told in largest for each in told["edits"].items()]
     edits.sort(key=lambda it: -it[2])
-    lines += [row(f"`{crate}`: {edit}", seconds) for crate, edit, seconds in edits]
+    lines += [row(f"`{crate}`: {edit}", seconds, unit) for crate, edit, seconds in edits]
     long = [" ".join(it) for it, told in largest if told["seconds"] > LONGEST_PIECE]
     lines += ["", f"Above {LONGEST_PIECE} seconds: {', '.join(long) or 'none'}."]
     is_long = "yes" if whole > LONGEST_GATE else "no"

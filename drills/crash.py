@@ -26,6 +26,7 @@ the rounds are run all the same."""
 
 import argparse
 import collections
+import os
 import pathlib
 import random
 import shutil
@@ -40,7 +41,7 @@ import time
 import folder as files
 
 TOP = pathlib.Path(__file__).resolve().parent.parent
-PROGRAM = TOP / "crates" / "storyhost" / "out" / "storyhost"
+PROGRAM = pathlib.Path(os.environ.get("STORYHOST", TOP / "crates/storyhost/out/storyhost"))
 
 
 class Lost(Exception):

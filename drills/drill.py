@@ -8,12 +8,13 @@ Each number is drilled twice, and both runs have to write what the model says. I
 differs."""
 
 import hashlib
+import os
 import pathlib
 import subprocess
 import sys
 
 TOP = pathlib.Path(__file__).resolve().parent.parent
-PROGRAM = TOP / "crates" / "storyhost" / "out" / "storyhost"
+PROGRAM = pathlib.Path(os.environ.get("STORYHOST", TOP / "crates/storyhost/out/storyhost"))
 SESSIONS, TURNS = 8, 1000
 WORD64, MULTIPLIER = 2**64 - 1, 6364136223846793005
 

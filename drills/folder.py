@@ -1,16 +1,28 @@
 """What stands in a host's folder, read by docs/FORMATS.md alone ("The journal", "Snapshot files"), and
-ways to spoil a snapshot file by hand."""
+ways to spoil a snapshot file by hand. The drills, stories/play.py and stories/keeper.py read by it."""
 
 import collections
 import struct
 
 SESSIONS = 64
-OPEN, CLOSE = 1, 5
+MOST_ROWS = 8_192
+OPEN, LINE, CHAR, FILE, CLOSE = 1, 2, 3, 4, 5
+# keys of a CHAR, and those that may end a line (with 0 for none): Func1 to Func12, Unknown to End
+FUNCTIONS = range(0xFFFFFFE4, 0xFFFFFFF0)
+KEYCODES = {*FUNCTIONS, *range(0xFFFFFFF3, 0x100000000)}
+ENDS = {0, 0xFFFFFFF8, *FUNCTIONS}
+JOURNAL_HEADER = bytes.fromhex("5354484A00000001") + bytes(8)
 SNAPSHOT_HEADER = bytes.fromhex("5354485300000001")
 MADE = 4096
 STARTS = (4096, 8_392_720)
 MOST_BYTES = 8_388_608
 INTERVAL = 16
+
+# a row of the journal, whose gate is at this place
+Row = collections.namedtuple("Row", "place session kind payload")
+
+# what an OPEN row says
+Opening = collections.namedtuple("Opening", "key story digest seed columns rows budget")
 
 # how many inputs a session in use had since its OPEN row, whose gate is at this place
 Game = collections.namedtuple("Game", "place inputs")
@@ -19,19 +31,106 @@ Game = collections.namedtuple("Game", "place inputs")
 Area = collections.namedtuple("Area", "side gate place count length is_open written")
 
 
+class Damaged(Exception):
+    """A journal that is none (`place` is None), or is corrupt at a place."""
+
+    def __init__(self, place, why):
+        super().__init__(why)
+        self.place = place
+
+
+def opening_of(payload):
+    """What an OPEN row's payload says."""
+    size = payload[0] if payload else 0
+    if len(payload) != 1 + size + 52:
+        raise ValueError("an OPEN whose length isn't that of its fields")
+    fields = struct.unpack(">H32sQBBQ", payload[1 + size :])
+    return Opening(payload[1 : 1 + size].decode("ascii"), *fields)
+
+
+def fault_of(kind, payload):
+    """What is wrong with a row by itself, or nothing."""
+    try:
+        if kind == OPEN:
+            opening = opening_of(payload)
+            if not (1 <= len(opening.key) <= 32 and opening.key.isalnum()):
+                return "a key that is none"
+            in_range = opening.columns and opening.rows and 1 <= opening.budget <= 10**12
+            return "" if in_range else "a screen or a budget out of range"
+        if kind in (LINE, FILE):
+            text = payload[8:].decode() if kind == LINE else payload.decode()
+            if len(text) > 1024 or any(code < " " or "\x7f" <= code <= "\x9f" for code in text):
+                return "a text that is no player's"
+            if kind == FILE:
+                return ""
+            return "" if struct.unpack_from(">I", payload, 4)[0] in ENDS else "a LINE with a key that ends no line"
+        if kind == CHAR:
+            code = struct.unpack(">II", payload)[1]
+            known = code < 0xD800 or 0xE000 <= code < 0x110000 or code in KEYCODES
+            return "" if known else "a CHAR that is neither a character nor a key"
+        if kind == CLOSE:
+            return "a CLOSE with a payload" if payload else ""
+        return f"a row of kind {kind}"
+    except (ValueError, struct.error) as cause:
+        return str(cause)
+
+
+def rows_of(journal):
+    """The rows of a journal's bytes, one after the other; `Damaged` where the next one isn't whole."""
+    if not journal.startswith(JOURNAL_HEADER):
+        raise Damaged(None, "it doesn't begin as a journal does" if journal else "it is empty")
+    counts, used, at = collections.Counter(), set(), len(JOURNAL_HEADER)
+    while True:
+        if at >= len(journal):
+            raise Damaged(at, "it ends before its closing gate")
+        if journal[at] != 1:
+            return
+        if at + 5 > len(journal):
+            raise Damaged(at, "its last row is cut")
+        session, kind, length = struct.unpack_from(">BBH", journal, at + 1)
+        payload = journal[at + 5 : at + 5 + length]
+        counts[session] += 1
+        why = "its last row is cut" if len(payload) < length else fault_of(kind, payload)
+        if not why and session >= SESSIONS:
+            why = f"a session of number {session}"
+        elif not why and (kind == OPEN) == (session in used):
+            why = "an OPEN of a session in use" if kind == OPEN else "a row of a session that is free"
+        elif not why and counts[session] > MOST_ROWS:
+            why = f"more than {MOST_ROWS} rows of a session"
+        if why:
+            raise Damaged(at, why)
+        if kind in (OPEN, CLOSE):
+            used ^= {session}
+        yield Row(at, session, kind, payload)
+        at += 5 + length
+
+
+def journal_of(folder):
+    return (folder / "journal").read_bytes()
+
+
+def names_of(folder, session):
+    """The names of files that were given in the session's game, each once, the newest last."""
+    names = {}
+    for row in rows_of(journal_of(folder)):
+        if row.session == session and row.kind == OPEN:
+            names = {}
+        elif row.session == session and row.kind == FILE and row.payload:
+            names.pop(row.payload.decode(), None)
+            names[row.payload.decode()] = True
+    return list(names)
+
+
 def games_of(folder):
     """The games of the sessions in use, by number."""
-    journal = (folder / "journal").read_bytes()
-    games, at = {}, 16
-    while journal[at] == 1:
-        session, kind, length = struct.unpack_from(">BBH", journal, at + 1)
-        if kind == OPEN:
-            games[session] = Game(at, 0)
-        elif kind == CLOSE:
-            del games[session]
+    games = {}
+    for row in rows_of(journal_of(folder)):
+        if row.kind == OPEN:
+            games[row.session] = Game(row.place, 0)
+        elif row.kind == CLOSE:
+            del games[row.session]
         else:
-            games[session] = games[session]._replace(inputs=games[session].inputs + 1)
-        at += 5 + length
+            games[row.session] = games[row.session]._replace(inputs=games[row.session].inputs + 1)
     return games
 
 

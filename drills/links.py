@@ -10,6 +10,7 @@ status 9, and 17 workers are status 2. With `--long` a link sends 2^31 bytes wit
 must be ended by the limit of a connection. It ends with 1 where something is otherwise."""
 
 import argparse
+import os
 import pathlib
 import random
 import shutil
@@ -20,7 +21,7 @@ import sys
 import tempfile
 
 TOP = pathlib.Path(__file__).resolve().parent.parent
-PROGRAM = TOP / "crates" / "storyhost" / "out" / "storyhost"
+PROGRAM = pathlib.Path(os.environ.get("STORYHOST", TOP / "crates/storyhost/out/storyhost"))
 OPENED = b"SHOW 0 0\nW 1 3 0 0 80 24\nT 1 0 =>\nI 1 line 20 =\n.\n"
 
 

@@ -1,30 +1,70 @@
 """A story in storyhost, alone or in a session of a host: its windows, what it waits for, and moves."""
 import os
+import pathlib
 import socket
 import subprocess
+import sys
 import time
+import unicodedata
 
-HOST = os.path.join(os.path.dirname(os.path.abspath(__file__)), "../crates/storyhost/out/storyhost")
+TOP = pathlib.Path(__file__).resolve().parent.parent
+sys.path.append(str(TOP / "drills"))
+
+import folder as files  # noqa: E402
+
+# Where the program stands, the proved one first; `./begin` makes the other one.
+PROGRAMS = [TOP / "crates/storyhost/out/storyhost", TOP / "quick/storyhost"]
+HOST = os.environ.get("STORYHOST") or str(next((it for it in PROGRAMS if it.is_file()), PROGRAMS[0]))
 KEYS = {"{Left}": 0xFFFFFFFE, "{Right}": 0xFFFFFFFD, "{Up}": 0xFFFFFFFC, "{Down}": 0xFFFFFFFB,
         "{Return}": 0xFFFFFFFA, "{Delete}": 0xFFFFFFF9, "{Escape}": 0xFFFFFFF8, "{Tab}": 0xFFFFFFF7,
         "{PageUp}": 0xFFFFFFF6, "{PageDown}": 0xFFFFFFF5, "{Home}": 0xFFFFFFF4, "{End}": 0xFFFFFFF3,
         **{f"{{Func{n}}}": 0xFFFFFFF0 - n for n in range(1, 13)}, "{Space}": 32}
 REFUSALS = {
     "1": "a key has 1 to 32 letters and digits, a line at most 1,024 characters",
-    "2": "the session has another key, or its number isn't 0 to 63", "3": "the session is in use, with another key",
-    "4": "the host has no such story", "5": "a move before this one is missing",
-    "6": "the session is further on", "7": "another move has this number", "8": "the story doesn't wait for that",
-    "9": "the story is over", "10": "the session is full: it has 8,192 moves",
-    "11": "the disk failed; the move isn't accepted", "12": "the host wants memory",
-    "13": "the session was kept with another story", "14": "the line is too long",
+    "2": "the session is free or has another key, or its number isn't 0 to 63",
+    "3": "the session is in use, with another key: take another number, or the key of that game",
+    "4": "the host has no story of that number",
+    "5": "the session isn't so far on: it was closed and begun anew",
+    "6": "this session was played on from another place",
+    "7": "this session was played on from another place",
+    "8": "the story doesn't wait for that",
+    "9": "the story is over",
+    "10": "this number has its 8,192 moves for good: take another one. The game can still be read",
+    "11": "the host's disk failed, or is full; give the move again, or tell the keeper",
+    "12": "the host wants memory; give the move again",
+    "13": "the session was kept with another story file, which the host no longer has: tell the keeper",
+    "14": "the line is too long: a letter with an accent takes six places of its 2,048",
 }
+FAULTS = (
+    "", "a read outside its memory", "a write where it may not write", "its stack is full", "its stack is empty",
+    "a local that isn't there", "an instruction that isn't there", "an operand that isn't there",
+    "division by zero", "a quotient that is too large", "a search that makes no sense",
+    "a block of memory that isn't one", "a call of what is no function", "a return to nowhere",
+    "a throw to nowhere", "a text that isn't one", "no table of texts",
+    "an instruction that this host lacks, as those for fractions", "a stop for those who look for faults",
+    "a size of memory that can't be", "a call that this host lacks, as those of dates",
+    "a window, a stream or a file that isn't there", "a call with words that can't be",
+    "too much was printed in one turn", "one turn took too long",
+)
+# The usages and modes of a file prompt.
+USAGES = {0: "data", 1: "saved game", 2: "transcript", 3: "commands"}
+READ, WRITE = 2, 1
 GREATEST = 0xFFFFFFFF       # the greatest number of a command
+SLOW = 3                    # seconds, after which a player is told that the host hasn't answered
 # In the main window's text: what was printed in that turn before it was cleared isn't shown.
 CLEARED = "\f"
 
 
 class Stopped(Exception):
     """The host is gone."""
+
+
+class Refused(Exception):
+    """The session can't be played: its refusal, and the words for it."""
+
+    def __init__(self, reply):
+        super().__init__(refused(reply))
+        self.reply = reply
 
 
 def unescaped(text):
@@ -41,26 +81,31 @@ def unescaped(text):
 
 
 def escaped(text):
-    """The text as a line's last word."""
+    """The text as a line's last word; a control character becomes a space."""
+    plain = "".join(" " if unicodedata.category(code) == "Cc" else code for code in text)
     return "=" + "".join(
         chr(code) if 0x20 < code < 0x7F and code != 0x25 else f"%{code:02X}"
-        for code in text.encode("utf-8"))
+        for code in plain.encode("utf-8", "replace"))
 
 
 def refused(reply):
-    """A refusal, with its words."""
-    text = REFUSALS.get(reply.partition(" ")[2].partition(" ")[0])
-    return f"{reply} ({text})" if text else reply
+    """The words of a refusal."""
+    text = REFUSALS.get(code_of(reply))
+    return f"{text} ({reply})" if text else reply
+
+
+def code_of(reply):
+    return reply.partition(" ")[2].partition(" ")[0]
 
 
 def launched(words):
     """The program, with pipes for its streams."""
     pipes = {"stdin": subprocess.PIPE, "stdout": subprocess.PIPE, "stderr": subprocess.PIPE}
     try:
-        return subprocess.Popen(words, **pipes)
+        return subprocess.Popen(words, **pipes, start_new_session=True)
     except OSError as cause:
-        raise SystemExit(f"play.py: {words[0]} can't be run ({cause.strerror}). README.md says how "
-                         "it is built; --host names another program") from None
+        raise SystemExit(f"play.py: {words[0]} can't be run ({cause.strerror}). ./begin builds a program to look "
+                         "around with, README.md says how the proved one is built; --host names another") from None
 
 
 def close(pipe):
@@ -71,10 +116,23 @@ def close(pipe):
         pass
 
 
+def reply_of(file):
+    """The lines of a reply, or None where it doesn't come to its end."""
+    lines = []
+    for data in file:
+        if not data.endswith(b"\n"):
+            return None
+        lines.append(data.decode().rstrip("\n"))
+        if lines[-1] == "." or len(lines) == 1 and lines[0].startswith(("NO ", "bad ", "not ")):
+            return lines
+    return None
+
+
 class Window:
     def __init__(self, kind, x, y, width, height):
         self.kind, self.x, self.y, self.width, self.height = kind, x, y, width, height
         self.runs = []      # of a buffer, since it was cleared: style and text
+        self.past = []      # what stood there before
         self.rows = {}      # of a grid
 
     @property
@@ -90,22 +148,20 @@ class Game:
         self.shows, self.windows, self.main = shows, {}, None
         self.text = ""      # all that the main window was given, CLEARED where it was cleared
         self.waits, self.ended = [], None
+        self.turn = 0       # which of the waiting windows is meant
+        self.names = {}     # of files, by their usage, as far as they are known
         self.note = ""      # what a player is told of the host
 
-    def read_show(self):
-        """Reads a show to its line `.`; says whether that came."""
+    def show(self, lines):
+        """Takes the lines of a show."""
         seen, waits, ended = {}, [], None
-        for data in self.replies:
-            line = data.decode().rstrip("\n")
-            if self.shows:
-                print(line, file=self.shows)
-            if line == ".":
-                break
+        for line in lines:
             word, *rest = line.split(" ")
             if word == "W":
                 seen[int(rest[0])] = self.window(int(rest[0]), *map(int, rest[1:]))
             elif word == "C":
-                seen[int(rest[0])].runs = []
+                window = seen[int(rest[0])]
+                window.past, window.runs = [*window.past, *window.runs], []
                 self.add(int(rest[0]), CLEARED)
             elif word == "T":
                 text = unescaped(rest[2])
@@ -117,19 +173,16 @@ class Game:
                 ended = " ".join(rest)
             elif word in ("I", "P"):
                 waits.append((word, *rest))
-            else:
+            elif word != ".":
                 raise SystemExit(f"play.py: the host says: {line}")
-        else:
-            return False
         if seen or not ended:
             self.windows = seen
-        self.waits, self.ended = waits, ended
-        return True
+        self.waits, self.ended, self.turn = waits, ended, 0
 
     def window(self, number, kind, *place):
         made = Window(kind, *place)
         if number in self.windows:
-            made.runs = self.windows[number].runs
+            made.runs, made.past = self.windows[number].runs, self.windows[number].past
         if self.main is None and kind == 3:
             self.main = number
         return made
@@ -138,31 +191,69 @@ class Game:
         if number == self.main:
             self.text += text
 
+    def told(self, lines, mark=""):
+        """Writes lines of a conversation, where they are asked for."""
+        if self.shows:
+            for line in lines:
+                print(mark + line, file=self.shows)
+
+    def wait(self):
+        """The line of the show that says what is waited for."""
+        return self.waits[self.turn % len(self.waits)] if self.waits else (None,)
+
     def wanted(self):
         """P where a file's name is wanted, else char or line, and the window."""
-        if self.waits and self.waits[0][0] == "P":
+        word, *rest = self.wait()
+        if word == "P":
             return "P", 0
-        return (self.waits[0][2], int(self.waits[0][1])) if self.waits else (None, 0)
+        return (rest[1], int(rest[0])) if word else (None, 0)
+
+    def prompt(self):
+        """The usage and the mode of a file prompt."""
+        return int(self.wait()[1]) & 15, int(self.wait()[2])
 
     def begun(self):
         """The line that the story began for the player, where a line is wanted."""
-        return unescaped(self.waits[0][4]) if self.wanted()[0] == "line" else ""
+        return unescaped(self.wait()[4]) if self.wanted()[0] == "line" else ""
 
-    def line_of(self, move):
-        """The line of `run` that gives the story this move."""
-        kind, window = self.wanted()
+    def is_stuck(self):
+        """Whether the story goes on and waits for nothing that a player can give."""
+        return not self.waits and not self.ended
+
+    def end_words(self):
+        """How the game ended, for people."""
+        if self.is_stuck():
+            return "the story waits for nothing that a player can give, perhaps a timer: it can't go on"
+        word, _, code = (self.ended or "").partition(" ")
+        if word == "fault":
+            known = code.isdecimal() and int(code) < len(FAULTS)
+            return f"the story failed: {FAULTS[int(code)] if known else 'fault ' + code}"
+        return "the game is closed" if word == "closed" else "the story is over"
+
+    def give_line(self, text, key=0):
+        window = self.wanted()[1]
+        return self.put("LINE", f"{window} {escaped(text)}" + (f" {key}" if key else ""))
+
+    def give_character(self, code):
+        return self.put("CHAR", f"{self.wanted()[1]} {code}")
+
+    def give_name(self, name):
+        usage, mode = self.prompt()
+        known = self.names.setdefault(usage, [])
+        given = self.put("FILE", escaped(name))
+        if given and name and mode != READ:
+            self.names[usage] = [one for one in known if one != name] + [name]
+        return given
+
+    def give(self, move):
+        """Gives a move as the story waits for it; says whether it was taken."""
+        kind = self.wanted()[0]
         move = "" if move == "{empty}" and kind != "char" else move
         if kind == "P":
-            return "FILE " + escaped(move)
+            return self.give_name(move)
         if kind == "line":
-            return f"LINE {window} " + escaped(move)
-        return f"CHAR {window} {KEYS.get(move) or ord((move + ' ')[0])}"
-
-    def send(self, line):
-        if self.shows:
-            print("<", line, file=self.shows)
-        self.requests.write(line.encode() + b"\n")
-        self.requests.flush()
+            return self.give_line(move)
+        return self.give_character(KEYS.get(move) or ord((move + " ")[0]))
 
 
 class Host(Game):
@@ -172,21 +263,30 @@ class Host(Game):
         super().__init__(shows)
         words = [program, "run", story] + (["--budget", str(budget)] if budget else [])
         self.process, self.usage = launched(words), None
-        self.requests, self.replies = self.process.stdin, self.process.stdout
         self.read()
 
-    def give(self, move):
+    def put(self, word, rest):
+        self.told([f"{word} {rest}"], "< ")
         try:
-            self.send(self.line_of(move))
+            self.process.stdin.write(f"{word} {rest}\n".encode())
+            self.process.stdin.flush()
         except BrokenPipeError:
             pass    # The program is gone, and reading tells why.
-        self.read()
+        return self.read()
 
     def read(self):
-        if not self.read_show():
+        """Takes a reply; says whether it is a show."""
+        lines = reply_of(self.process.stdout)
+        if lines is None or lines[0].startswith(("bad ", "not ")):
             self.finish()
             said = self.process.stderr.read().decode().strip()
             raise SystemExit(said or f"play.py: the host ended with status {self.process.returncode}")
+        self.told(lines)
+        if lines[0].startswith("NO "):
+            self.note = f"[not taken: {refused(lines[0])}]"
+            return False
+        self.show(lines)
+        return True
 
     def finish(self):
         """Ends the input, and keeps what the program used."""
@@ -201,76 +301,85 @@ class Session(Game):
 
     def __init__(self, link, number, key, say, shows=None):
         super().__init__(shows)
-        self.link, self.number, self.key, self.say, self.count = link, number, key, say, 0
-        self.requests, self.replies = self.begun_link()
-
-    def begun_link(self):
-        """The link to the host, which may have been started just now."""
-        for more in reversed(range(10)):
-            try:
-                return self.link.begin()
-            except OSError:
-                if not more:
-                    raise SystemExit(f"play.py: no host answers at {self.link}") from None
-                time.sleep(0.5)
+        self.link, self.number, self.key, self.say = link, number, key, say
+        self.count = None       # of the commands that were accepted, where the game was seen
 
     def play_on(self, story, seed, size):
-        """Shows what the story said last; where the session is free, opens it."""
-        refusal = self.ask(f"LAST {self.number} {self.key}")
+        """Shows what the story said last; where the session is free, opens it. Says whether it did so."""
+        refusal = self.look()
         if refusal == "NO 2":
-            refusal = self.ask(f"OPEN {self.number} {self.key} {story} {seed} {size[0]} {size[1]}")
-        self.must(refusal, f"session {self.number} can't be played")
+            self.must(self.ask(f"OPEN {self.number} {self.key} {story} {seed} {size[0]} {size[1]}"))
+            return True
+        self.must(refusal)
+        known = self.link.names(self.number)
+        self.names = {usage: list(known) for usage in USAGES}
+        return False
 
-    def give(self, move):
-        word, rest = self.line_of(move).split(" ", 1)
-        request = f"{word} {self.number} {self.key} {self.count + 1} {rest}"
-        self.must(self.ask(request), "the move was refused")
+    def anew(self, story, seed, size):
+        """Ends the game and begins another one."""
+        self.close()
+        self.windows, self.main, self.count, self.names = {}, None, None, {}
+        self.must(self.ask(f"OPEN {self.number} {self.key} {story} {seed} {size[0]} {size[1]}"))
+
+    def look(self):
+        """Asks for the last show, and takes it where it is of another move than the one that was seen."""
+        return self.ask(f"LAST {self.number} {self.key}")
+
+    def put(self, word, rest):
+        """Says whether the command was taken. Where it wasn't, the game is looked at again."""
+        refusal = self.ask(f"{word} {self.number} {self.key} {self.count + 1} {rest}")
+        if refusal is None:
+            return True
+        before = self.count
+        looked = self.look()
+        if looked and code_of(looked) == "2":
+            raise Refused(looked)
+        if code_of(refusal) == "12" and self.count == before + 1:
+            return True     # It was kept all the same, and its show is there now.
+        self.note = f"[not taken: {refused(refusal)}]"
+        return False
 
     def close(self):
         """Ends the game of the session, and frees its number."""
-        failed = f"session {self.number} can't be closed"
         refusal = self.ask(f"CLOSE {self.number} {self.key} {GREATEST}")
-        if not (refusal or "").startswith("NO 5 "):
-            raise SystemExit(f"play.py: {failed}: {refused(refusal or 'it has no number left')}")
-        count = int(refusal.split()[2])
-        self.must(self.ask(f"CLOSE {self.number} {self.key} {count + 1}"), failed)
+        if code_of(refusal or "") != "5":
+            raise Refused(refusal or "NO 10")
+        self.must(self.ask(f"CLOSE {self.number} {self.key} {int(refusal.split()[2]) + 1}"))
 
-    def must(self, refusal, failed):
+    def must(self, refusal):
         if refusal:
-            raise SystemExit(f"play.py: {failed}: {refused(refusal)}")
+            raise Refused(refusal)
 
     def ask(self, line):
-        """The refusal of a request, or None where its show was read. Where the host is gone it is
+        """The refusal of a request, or None where its show was taken. Where the host is gone it is
         started again, or waited for a minute, and the request is sent again: a host that has kept
         it shows it, and applies it once."""
         for again in range(121):
             try:
-                if again:
-                    self.requests, self.replies = self.link.begin()
-                self.send(line)
-                return self.answer()
+                self.told([line], "< ")
+                lines = self.link.exchange(line, self.say)
+                break
             except (Stopped, OSError):
                 self.link.end()
-                self.note = "[the host had stopped; it is there again, and the game goes on]"
-                if again:
+                if self.count is None and again == 9:
+                    raise SystemExit(f"play.py: no host answers at {self.link}. Is it started?") from None
+                if self.count is None:
+                    self.say("[no host answers yet; it is waited for]")
+                else:
                     self.say("[the host has stopped; it is waited for, a minute]")
-                    time.sleep(0.5)
-        raise SystemExit("play.py: the host is gone; what it has answered is kept")
-
-    def answer(self):
-        head = self.replies.readline().decode().rstrip("\n")
-        if not head:
-            raise Stopped()
-        if head.startswith("NO "):
-            return head
-        if not head.startswith("SHOW "):
-            self.link.end(head)
-            raise SystemExit(f"play.py: the host says: {head}")
-        before = self.text
-        if not self.read_show():
-            self.text = before
-            raise Stopped()
-        self.count = int(head.split()[2])
+                    self.note = "[the host had stopped; it is there again, and the game goes on]"
+                time.sleep(0.5 if again else 0)
+        else:
+            raise SystemExit("play.py: the host is gone; what it has answered is kept")
+        self.told(lines)
+        if lines[0].startswith("NO "):
+            return lines[0]
+        if not lines[0].startswith("SHOW "):
+            raise SystemExit(f"play.py: the host says: {lines[0]}")
+        count = int(lines[0].split()[2])
+        if count != self.count or not line.startswith("LAST"):
+            self.count = count
+            self.show(lines[1:])
         return None
 
     def finish(self):
@@ -280,36 +389,83 @@ class Session(Game):
 class Pipe:
     """A host of a folder, that this program starts."""
 
-    def __init__(self, folder, story, program=HOST):
-        self.words, self.process = [program, "pipe", folder, story], None
+    def __init__(self, folder, story, program=HOST, budget=None):
+        self.folder, self.program, self.process = pathlib.Path(folder), program, None
+        self.words = [program, "pipe", str(folder), story] + (["--budget", str(budget)] if budget else [])
 
-    def begin(self):
-        self.process = launched(self.words)
-        return self.process.stdin, self.process.stdout
+    def __str__(self):
+        return str(self.folder)
+
+    def begin_folder(self):
+        """Makes the folder, where there is none."""
+        if not (self.folder / "journal").exists():
+            made = launched([self.program, "init", str(self.folder)])
+            _, said = made.communicate()
+            if made.returncode:
+                raise SystemExit(f"play.py: {self.folder} can't be begun: {said.decode().strip()}")
+
+    def names(self, session):
+        """The names of files that were given in this session's game."""
+        try:
+            return files.names_of(self.folder, session)
+        except (OSError, files.Damaged):
+            return []
+
+    def exchange(self, line, say):
+        if self.process is None:
+            self.process = launched(self.words)
+        self.process.stdin.write(line.encode() + b"\n")
+        self.process.stdin.flush()
+        lines = reply_of(self.process.stdout)
+        if lines is None or lines[0].startswith(("bad ", "not ")):
+            self.end(lines[0] if lines else "")
+            raise Stopped()
+        return lines
 
     def end(self, said=""):
         """Ends the host; where it ends by itself with a status, that is the end of this program."""
-        close(self.process.stdin)
-        if self.process.wait() > 0:
-            cause = self.process.stderr.read().decode().strip()
-            raise SystemExit(f"play.py: the host says: {said}\n{cause}" if said else cause)
+        process, self.process = self.process, None
+        if process is None:
+            return
+        close(process.stdin)
+        said = said or process.stdout.read().decode().strip()
+        if process.wait() > 0:
+            cause = process.stderr.read().decode().strip()
+            more = f"\nplay.py: `keeper.py {self.folder}` says more" if said.startswith("bad journal") else ""
+            raise SystemExit((f"play.py: the host says: {said}\n{cause}" if said else cause) + more)
 
 
 class Address:
-    """A host that answers at an address, which somebody else starts."""
+    """A host that answers at an address, which somebody else starts. Each request has a link of its
+    own, since a link holds a worker of the host: so more people play than there are workers."""
 
     def __init__(self, address):
         host, _, port = address.rpartition(":")
-        if not port.isdecimal():
+        if not port.isdecimal() or int(port) > 65535:
             raise SystemExit(f"play.py: {address} is no address; one is 127.0.0.1:4000")
-        self.address, self.socket = (host or "127.0.0.1", int(port)), None
+        self.address = (host.strip("[]") or "127.0.0.1", int(port))
 
     def __str__(self):
         return "{}:{}".format(*self.address)
 
-    def begin(self):
-        self.socket = socket.create_connection(self.address)
-        return self.socket.makefile("wb"), self.socket.makefile("rb")
+    def names(self, session):
+        return []
 
-    def end(self, said=""):
-        self.socket.close()
+    def exchange(self, line, say):
+        with socket.create_connection(self.address, timeout=10) as link:
+            link.settimeout(SLOW)
+            link.sendall(line.encode() + b"\n")
+            got = b""
+            while not got.endswith(b"\n.\n") and not (got.startswith(b"NO ") and got.endswith(b"\n")):
+                try:
+                    piece = link.recv(65536)
+                except TimeoutError:
+                    say("[the host hasn't answered yet: the turn is long, or others hold all its workers]")
+                    continue
+                if not piece:
+                    raise Stopped()
+                got += piece
+        return got.decode().split("\n")[:-1]
+
+    def end(self):
+        pass

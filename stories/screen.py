@@ -1,221 +1,615 @@
-"""A story's windows on a terminal, drawn where the story has put them, and a player's keys."""
-import curses
-import locale
+"""A story's windows on a terminal, drawn where the story has put them, and a player's lines and keys, over
+Debian's python3-prompt-toolkit. It draws in the terminal's own colours."""
+import asyncio
+import signal
+import sys
+import threading
+from collections import deque
 
+# Debian keeps its packages here, also where another Python is the first one.
+sys.path.append("/usr/lib/python3/dist-packages")
+
+from prompt_toolkit.application import Application
+from prompt_toolkit.buffer import Buffer
+from prompt_toolkit.data_structures import Point
+from prompt_toolkit.document import Document
+from prompt_toolkit.key_binding import KeyBindings
+from prompt_toolkit.key_binding.key_processor import KeyPress
+from prompt_toolkit.keys import Keys
+from prompt_toolkit.layout import DynamicContainer, Layout
+from prompt_toolkit.layout import Window as Area
+from prompt_toolkit.layout.controls import BufferControl, UIContent, UIControl
+from prompt_toolkit.utils import get_cwidth
+
+from host import KEYS, READ, Refused
+from play import prompt_words
+from wrapping import Wrapped, shown, wrapped
+
+BUFFER, GRID = 3, 4
+INPUT = 8       # the style in which a line that is typed stands
+# How a style of Glk is drawn: emphasized, header, subheader, alert, note and input stand out.
+STYLES = {1: "underline", 3: "bold", 4: "bold", 5: "reverse", 6: "italic", INPUT: "bold"}
 # A character of a player, as moves name it, for each key of the terminal that is none.
 NAMED = {
-    curses.KEY_LEFT: "{Left}", curses.KEY_RIGHT: "{Right}", curses.KEY_UP: "{Up}",
-    curses.KEY_DOWN: "{Down}", curses.KEY_ENTER: "{Return}", "\n": "{Return}", "\r": "{Return}",
-    curses.KEY_BACKSPACE: "{Delete}", "\x7f": "{Delete}", "\b": "{Delete}", "\x1b": "{Escape}",
-    "\t": "{Tab}", curses.KEY_PPAGE: "{PageUp}", curses.KEY_NPAGE: "{PageDown}",
-    curses.KEY_HOME: "{Home}", curses.KEY_END: "{End}", " ": "{Space}",
-    **{curses.KEY_F0 + n: f"{{Func{n}}}" for n in range(1, 13)},
+    Keys.Left: "{Left}", Keys.Right: "{Right}", Keys.Up: "{Up}", Keys.Down: "{Down}", Keys.ControlM: "{Return}",
+    Keys.ControlJ: "{Return}", Keys.ControlH: "{Delete}", Keys.Delete: "{Delete}", Keys.Escape: "{Escape}",
+    Keys.ControlI: "{Tab}", Keys.PageUp: "{PageUp}", Keys.PageDown: "{PageDown}", Keys.Home: "{Home}",
+    Keys.End: "{End}", **{f"f{n}": f"{{Func{n}}}" for n in range(1, 13)},
 }
-LEAVE = "\x04"      # control and D
-BLANKED = "\x15"    # control and U
+LEAVES = (Keys.ControlC, Keys.ControlD, Keys.SIGINT)
+SCROLLS = {Keys.PageUp: -1, Keys.ShiftPageUp: -1, Keys.ControlPageUp: -1,
+           Keys.PageDown: 1, Keys.ShiftPageDown: 1, Keys.ControlPageDown: 1}
 
 
-def attribute(style):
-    """How a style of Glk is drawn: emphasized, header, subheader, alert, note and input stand out."""
-    return {1: curses.A_UNDERLINE, 3: curses.A_BOLD, 4: curses.A_BOLD, 5: curses.A_REVERSE,
-            6: curses.A_DIM, 8: curses.A_BOLD}.get(style, curses.A_NORMAL)
+def cells_of(text, style=""):
+    """What is drawn for a text: characters, their style and columns."""
+    cells = []
+    for code in text:
+        drawn = shown(code)
+        if drawn and get_cwidth(drawn):
+            cells.append((drawn, style, get_cwidth(drawn)))
+        elif drawn and cells:
+            cells[-1] = (cells[-1][0] + drawn, style, cells[-1][2])
+    return cells
 
 
-def lines_of(runs, width):
-    """The lines of a buffer: lists of characters with their styles; no word is cut that fits a line."""
-    lines = [[]]
-    for style, text in runs:
-        for character in text:
-            if character == "\n":
-                lines.append([])
-                continue
-            line = lines[-1]
-            line.append((character, style))
-            if len(line) > width:
-                spaces = [at for at, (code, _) in enumerate(line) if code == " "]
-                cut = spaces[-1] if spaces and character != " " else width
-                lines[-1], rest = line[:cut], line[cut:]
-                lines.append(rest[1:] if rest and rest[0][0] == " " else rest)
-    return lines
+def columns_of(cells):
+    return sum(cell[2] for cell in cells)
 
 
-class Player:
+class Canvas:
+    """What stands on the terminal, by row and column; None is the second column of a character."""
+
+    def __init__(self, columns, rows):
+        self.columns, self.rows = columns, rows
+        self.cells = [[(" ", "")] * columns for _ in range(rows)]
+
+    def put(self, y, x, cells, end=None):
+        """Draws cells from a place on, up to a column."""
+        end = self.columns if end is None else min(end, self.columns)
+        for drawn, style, columns in cells:
+            if not 0 <= y < self.rows or x + columns > end:
+                return
+            self.cells[y][x] = (drawn, style)
+            if columns == 2:
+                self.cells[y][x + 1] = None
+            x += columns
+
+    def line(self, y):
+        """A row as prompt_toolkit has it: styles and texts."""
+        return [(cell[1], cell[0].replace("\u00a0", " ")) for cell in self.cells[y] if cell]
+
+    def cursor(self, y, x):
+        """A place, counted in characters of its row."""
+        y, x = min(max(y, 0), self.rows - 1), min(max(x, 0), self.columns - 1)
+        return Point(sum(len(cell[0]) for cell in self.cells[y][:x] if cell), y)
+
+
+def spread(places, whole, least):
+    """Where the edges of windows stand on a terminal of another size: where so much is left to the last
+    windows these alone grow or shrink, else all do."""
+    last, inner = places[-1], places[-2] if len(places) > 1 else 0
+    if not last or whole - inner >= min(last - inner, least):
+        return {**{place: place for place in places}, last: whole}
+    found, at = {0: 0}, 0
+    for place in places[1:]:
+        at = min(max(at + 1, place * whole // last), whole)
+        found[place] = at
+    return {**found, last: whole}
+
+
+def fitted(windows, columns, rows):
+    """The rectangle of each window on a terminal of so many columns and rows."""
+    across = spread(sorted({0} | {at for it in windows.values() for at in (it.x, it.x + it.width)}), columns, 20)
+    down = spread(sorted({0} | {at for it in windows.values() for at in (it.y, it.y + it.height)}), rows, 4)
+    return {
+        number: (across[it.x], down[it.y], across[it.x + it.width] - across[it.x], down[it.y + it.height] - down[it.y])
+        for number, it in windows.items()
+    }
+
+
+def squeezed(cells, width):
+    """A status line that fits: its longest blanks are shortened."""
+    while cells and cells[-1][0] == " ":
+        cells = cells[:-1]
+    while columns_of(cells) > width:
+        longest, at, size = 1, 0, 0
+        for place, cell in enumerate(cells):
+            size = size + 1 if cell[0] == " " else 0
+            if size > longest:
+                longest, at = size, place
+        if longest == 1:
+            return cells
+        cells = cells[:at] + cells[at + 1 :]
+    return cells
+
+
+class View:
+    """The lines of a buffer, and which of them are seen."""
+
+    def __init__(self, width):
+        self.text, self.runs, self.taken, self.past = Wrapped(width, get_cwidth), None, 0, 0
+        self.floor = 0      # the first line behind the last clearing
+        self.seen = 0       # how many lines the player has seen
+        self.end = None     # where the lines that are shown end, where these aren't the last ones
+
+    def take(self, window):
+        """Takes what came to a window; what is there already isn't broken into lines again."""
+        if self.runs is not window.runs:
+            if self.runs is None:
+                for style, text in window.past:
+                    self.text.add(style, text)
+            else:
+                for style, text in window.past[self.past + self.taken :]:
+                    self.text.add(style, text)
+            if window.past:
+                self.text.add(0, "\n")
+            self.floor = len(self.text.lines) - 1
+            self.seen = max(self.seen, self.floor)
+            self.runs, self.taken, self.past = window.runs, 0, len(window.past)
+        fresh = window.runs[self.taken :]
+        for style, text in fresh:
+            self.text.add(style, text)
+        self.taken += len(fresh)
+
+    def count(self):
+        return len(self.text.lines)
+
+    def page(self, height):
+        """Goes on to the next page of what wasn't seen; says whether more is behind it."""
+        page = max(height - 1, 1)
+        if self.count() - self.seen <= max(height, 1):
+            self.end, self.seen = None, self.count() - 1
+            return False
+        self.seen += page
+        self.end = self.seen
+        return True
+
+    def scroll(self, pages, height):
+        end = self.count() if self.end is None else self.end
+        end += pages * max(height - 1, 1)
+        self.end = None if end >= self.count() else max(end, min(height, self.count()))
+
+
+class Screen:
     """A person at a terminal who plays a story of a host."""
 
-    def __init__(self, terminal, make):
-        self.terminal, self.read_lines, self.past = terminal, {}, []
-        self.above = 0      # how many of the game's rows stand above the terminal's first
-        terminal.keypad(True)
-        rows, columns = terminal.getmaxyx()
-        self.remark("[the story is begun, or where it is kept played to where it was]")
-        self.host = make((max(min(columns, 255), 1), max(min(rows - 1, 255), 1)), self.remark)
-        self.host.note = self.host.note or self.measure()
+    def __init__(self, place):
+        self.place, self.host, self.failure = place, None, None
+        self.busy, self.keys, self.mode = True, deque(), "start"
+        self.remark = "[the story is begun, or where it is kept played to where it was]"
+        self.views, self.size, self.places = {}, (80, 24), {}
+        self.windows, self.wants = {}, (None, 0)    # as they are drawn, while the host is asked too
+        self.line = Buffer(multiline=False, on_text_changed=self.limit)
+        self.name = Buffer(multiline=False)
+        self.typing = Typing(self)
+        self.waiting = Waiting(self)
+        self.areas = {it: Area(it, wrap_lines=False) for it in (self.typing, self.waiting)}
+        self.app = Application(
+            layout=Layout(DynamicContainer(lambda: self.areas[self.control()])), full_screen=True,
+            include_default_pygments_style=False, mouse_support=False,
+        )
+        self.app.ttimeoutlen, self.app.timeoutlen = 0.05, 0.3
+        self.processor = self.app.key_processor
+        self.take_keys = self.processor.process_keys
+        self.processor.process_keys = self.process_keys
 
-    def measure(self):
-        """Whether the game's screen is larger than this one, of which its last rows are shown then."""
-        rows, columns = self.terminal.getmaxyx()
-        windows = self.host.windows.values()
-        wide = max((window.x + window.width for window in windows), default=0)
-        high = max((window.y + window.height for window in windows), default=0)
-        self.above = max(high - rows, 0)
-        if self.above or wide > columns:
-            return f"[the game has {wide} columns and {high} rows: make the terminal larger]"
-        return ""
+    # The player's keys.
+
+    def control(self):
+        return self.typing if self.mode in ("line", "file") else self.waiting
+
+    def process_keys(self):
+        """Takes keys one after the other; while the host is asked all wait but those that leave."""
+        self.keys.extend(self.processor.input_queue)
+        self.processor.input_queue.clear()
+        while self.keys and not self.busy:
+            self.processor.input_queue.append(self.keys.popleft())
+            self.take_keys()
+        if self.busy and any(press.key in LEAVES for press in self.keys):
+            self.leave()
+
+    def pasted(self, text):
+        """What is pasted counts as typed, a line after the other."""
+        lines = text.replace("\r\n", "\n").replace("\r", "\n")
+        presses = [KeyPress(Keys.ControlM if code == "\n" else code, code) for code in lines]
+        self.keys.extendleft(reversed(presses))
+
+    def leave(self):
+        if not self.app.is_done:
+            self.app.exit()
+
+    def scroll(self, pages):
+        view = self.views.get(self.scrolled())
+        if view:
+            view.scroll(pages, self.places[self.scrolled()][3])
+            self.app.invalidate()
+
+    def scrolled(self):
+        """The window whose text is looked back at: the one that waits, or the largest one."""
+        if self.wants[1] in self.views:
+            return self.wants[1]
+        return max(self.views, key=lambda it: self.places[it][2] * self.places[it][3], default=0)
+
+    def unscroll(self):
+        for view in self.views.values():
+            view.end = None
+
+    def limit(self, buffer):
+        """A line has at most as many characters as the story takes."""
+        self.unscroll()
+        if self.busy or self.mode != "line":
+            return
+        most = int(self.host.wait()[3])
+        if len(buffer.text) > most:
+            self.remark = f"[the story takes {most} characters]"
+            buffer.document = Document(buffer.text[:most], min(buffer.cursor_position, most))
+
+    def entered(self):
+        """The line or the name is given."""
+        if self.mode == "line":
+            self.ask(self.host.give_line, self.line.text)
+        elif self.is_known(self.name.text) and not self.remark.startswith("[there is"):
+            self.remark = f"[there is a file {self.name.text}: Return writes over it, Escape cancels]"
+        else:
+            self.ask(self.host.give_name, self.name.text)
+
+    def is_known(self, name):
+        usage, mode = self.host.prompt()
+        return mode == 1 and name in self.host.names.get(usage, [])
+
+    def ended(self, code):
+        """A key that may end a line; most stories ask for none."""
+        if self.mode == "file":
+            if code == KEYS["{Escape}"]:
+                self.ask(self.host.give_name, "")
+        else:
+            self.ask(self.host.give_line, self.line.text, code)
+
+    def next_name(self):
+        """Another window that waits for a line; at a file prompt the next name that is known."""
+        if self.mode == "line":
+            self.host.turn += 1
+            self.wait()
+            return
+        names = self.host.names.get(self.host.prompt()[0])
+        if names:
+            at = names.index(self.name.text) if self.name.text in names else 0
+            self.name.document = Document(names[at - 1])
+
+    def character(self, move):
+        """A key where the story waits for one, or where a page, or the end, waits for the player."""
+        self.unscroll_unless_more()
+        if self.mode == "more":
+            self.turn_page()
+        elif self.mode == "char":
+            self.ask(self.host.give, move)
+        elif self.mode == "over" and move in ("n", "N"):
+            self.ask(self.place.anew, self.host, self.game_size())
+        elif self.mode == "over" and move == "{Return}":
+            self.leave()
+
+    def unscroll_unless_more(self):
+        if self.mode != "more":
+            self.unscroll()
+
+    # The host.
+
+    def game_size(self):
+        """The columns and rows of a game that is begun on this terminal: its last row is for remarks."""
+        columns, rows = self.size
+        return max(min(columns, 255), 1), max(min(rows - 1, 255), 1)
+
+    def say(self, text):
+        self.remark = text
+        self.app.invalidate()
+
+    def ask(self, work, *given):
+        """Asks the host for something, while keys wait."""
+        self.busy, self.remark = True, ""
+        self.app.create_background_task(self.asked(work, given))
+
+    async def asked(self, work, given):
+        before, loop = self.host, asyncio.get_running_loop()
+        answer = loop.create_future()
+
+        def run():
+            try:
+                told = work(*given), None
+            except BaseException as cause:      # It is raised again behind the screen's end.
+                told = None, cause
+            try:
+                loop.call_soon_threadsafe(answer.set_result, told)
+            except RuntimeError:
+                pass    # The player has left meanwhile.
+
+        threading.Thread(target=run, daemon=True).start()
+        value, self.failure = await answer
+        if self.failure:
+            self.leave()
+            return
+        if before is None:
+            self.host = value
+        self.busy = False
+        if work == self.place.anew:
+            self.views = {}
+        if value is not False:
+            self.line.reset(append_to_history=bool(self.mode == "line" and self.line.text))
+            self.name.reset()
+        self.shown(value is not False)
+        self.process_keys()
+
+    def shown(self, is_new=True):
+        """Behind a show: what it says is paged, and then what the story waits for is asked."""
+        self.remark, self.host.note = self.host.note or ("" if is_new else self.remark), ""
+        self.windows = dict(self.host.windows)
+        self.views = {number: view for number, view in self.views.items() if number in self.windows}
+        self.fit()
+        self.turn_page()
+
+    def fit(self):
+        """Puts the windows of the game on this terminal, whatever the size with which it was opened. (A game
+        that may change its size would be asked for it here.)"""
+        columns, rows = self.size
+        self.places = fitted(self.windows, columns, max(rows - 1, 1))
+        for number, window in self.windows.items():
+            if window.kind != BUFFER:
+                continue
+            view, width = self.views.get(number), max(self.places[number][2], 1)
+            if view is None or view.text.width != width:
+                fresh = View(width)
+                fresh.take(window)
+                fresh.seen = fresh.count() - 1 if view else fresh.floor
+                if view and view.end is not None:       # Who looks back stays at about that place.
+                    fresh.end = view.end * fresh.count() // view.count()
+                self.views[number] = fresh
+            else:
+                view.take(window)
+
+    def turn_page(self):
+        """Shows the next page of each buffer, or waits for the player once all was shown."""
+        more = [view.page(self.places[number][3]) for number, view in self.views.items() if self.places[number][3]]
+        if any(more):
+            self.turn_to("more")
+        else:
+            self.wait()
+
+    def wait(self):
+        """Waits for what the story waits for."""
+        self.wants = self.host.wanted()
+        kind = self.wants[0]
+        if kind is None:
+            self.turn_to("over")
+        elif kind == "P":
+            names = self.host.names.get(self.host.prompt()[0])
+            self.turn_to("file")
+            self.name.document = Document(names[-1] if names else "")
+        elif kind == "char":
+            self.turn_to("char")
+        else:
+            self.turn_to("line")
+            if not self.line.text:
+                self.line.document = Document(self.host.begun())
+
+    def turn_to(self, mode):
+        self.mode = mode
+        self.typing.buffer = self.name if mode == "file" else self.line
+        self.app.layout.focus(self.areas[self.control()])
+        self.app.invalidate()
+
+    # What is drawn.
+
+    def content(self, columns, rows):
+        """All that stands on the terminal."""
+        if (columns, rows) != self.size:
+            self.size = columns, rows
+            if self.host:
+                self.fit()
+                if self.mode == "more":
+                    self.turn_page()
+        canvas, place = Canvas(columns, rows), (rows - 1, 0)
+        for number, window in sorted(self.windows.items()):
+            if window.kind == GRID:
+                self.draw_grid(canvas, window, *self.places[number])
+        for number, window in sorted(self.windows.items()):
+            if window.kind == BUFFER and self.places[number][2] and self.places[number][3]:
+                end = self.draw_buffer(canvas, number, *self.places[number])
+                place = end if number == self.scrolled() else place
+        if self.wants[1] in self.windows and self.windows[self.wants[1]].kind == GRID:
+            place = self.draw_typed(canvas, *self.end_of_grid(self.wants[1]))
+        place = self.draw_remark(canvas) or place
+        return UIContent(canvas.line, rows, cursor_position=canvas.cursor(*place), show_cursor=self.mode != "start")
+
+    def draw_grid(self, canvas, window, x, y, width, height):
+        style = "reverse" if window.height == 1 else ""
+        for row in range(height):
+            cells = cells_of(window.rows.get(row, ""), style)
+            cells = squeezed(cells, width) if window.height == 1 else cells
+            canvas.put(y + row, x, cells_of(" " * width, style), x + width)
+            canvas.put(y + row, x, cells, x + width)
+
+    def draw_buffer(self, canvas, number, x, y, width, height):
+        """Draws the lines of a buffer, with what is typed behind them; gives the cursor's place."""
+        view = self.views[number]
+        lines, end, cursor = view.text.lines, view.end, None
+        if end is None:
+            lines, cursor = self.with_typed(number, lines, width)
+            end = len(lines)
+        top = max(end - height, 0)
+        if view.end is None:
+            top = max(top, min(view.floor, end - 1))
+        top = max(top, end - height + 1) if view.end is not None and height > 1 else top
+        for row, line in enumerate(lines[top:end]):
+            canvas.put(y + row, x, [(drawn, STYLES.get(style, ""), size) for drawn, style, size in line], x + width)
+        if view.end is not None:
+            words = "[more]" if self.mode == "more" else "[PageDown goes on]"
+            canvas.put(y + height - 1, x, cells_of(words, "reverse"), x + width)
+            return y + height - 1, min(x + len(words), x + width - 1)
+        row, column = cursor or (len(lines) - 1, columns_of(lines[-1]))
+        return y + row - top, min(x + column, x + width - 1)
+
+    def with_typed(self, number, lines, width):
+        """The lines, the typed one behind the last of them, and the cursor's row and column."""
+        if self.mode != "line" or self.wants[1] != number:
+            return lines, None
+        lines, at = [*lines[:-1], list(lines[-1])], None
+        used = columns_of(lines[-1])
+        for place, code in enumerate(self.line.text + " "):
+            for cell in cells_of(code, INPUT) or [("", INPUT, 0)]:
+                if used + cell[2] > width:
+                    lines.append([])
+                    used = 0
+                if place == self.line.cursor_position and at is None:
+                    at = len(lines) - 1, used
+                if cell[0]:
+                    lines[-1].append(cell)
+                    used += cell[2]
+        return lines, at
+
+    def end_of_grid(self, number):
+        """Behind the last text of a grid, where a line is typed, and up to which column it may go."""
+        x, y, width, height = self.places[number]
+        rows = self.windows[number].rows
+        row = max((row for row, text in rows.items() if text.strip() and row < height), default=0)
+        cells = cells_of(rows.get(row, "").rstrip(), "")
+        column = columns_of(cells) + 1 if cells else 0
+        return y + row, x + min(column, max(width - 2, 0)), x + width
+
+    def draw_typed(self, canvas, y, x, end, buffer=None):
+        """Draws what is typed in one row, its end where it is longer; gives the cursor's place."""
+        if buffer is None and self.mode != "line":
+            return y, min(x, end - 1)
+        buffer = buffer or self.line
+        before = cells_of(buffer.text[: buffer.cursor_position], STYLES[INPUT])
+        after = cells_of(buffer.text[buffer.cursor_position :], STYLES[INPUT])
+        while before and columns_of(before) > end - x - 1:
+            before = before[1:]
+        canvas.put(y, x, cells_of(" " * (end - x)), end)
+        canvas.put(y, x, before + after, end)
+        return y, x + columns_of(before)
+
+    def draw_remark(self, canvas):
+        """Draws the last rows; gives the cursor's place where a name is typed there."""
+        y, columns = canvas.rows - 1, canvas.columns
+        text = self.remark
+        if self.mode == "over" and not self.busy:
+            text = f"[{self.host.end_words()}. N begins a new game; this one's files go with it. Return leaves]"
+        if self.mode != "file" or self.busy:
+            self.draw_words(canvas, y, text)
+            return None
+        if not text:
+            names = self.host.names.get(self.host.prompt()[0])
+            text = f"[so far: {', '.join(names)}; Tab takes one, Escape cancels]" if names else "[Escape cancels]"
+        self.draw_words(canvas, y - 1, text)
+        words = cells_of(prompt_words(*self.host.prompt()) + " ", "reverse")
+        canvas.put(y, 0, cells_of(" " * columns))
+        canvas.put(y, 0, words)
+        return self.draw_typed(canvas, y, min(columns_of(words), columns - 2), columns, self.name)
+
+    def draw_words(self, canvas, y, text):
+        """Draws a remark whose last line stands in this row."""
+        lines = wrapped(text, canvas.columns).split("\n") if text else []
+        for row, line in enumerate(lines, y - len(lines) + 1):
+            canvas.put(row, 0, cells_of(line.ljust(canvas.columns), "reverse"))
 
     def play(self):
-        self.show()
-        while not self.host.ended:
-            move = self.ask()
-            if move is None:
-                break
-            self.host.give(move)
-            self.show()
-        if self.host.ended:
-            self.remark("[the story is over; press a key]")
-            self.key()
-        self.host.finish()
-        return 0
+        def begin():
+            size = self.app.output.get_size()
+            self.size = size.columns, size.rows
+            loop = asyncio.get_running_loop()
+            for number in (signal.SIGTERM, signal.SIGHUP):
+                loop.add_signal_handler(number, self.leave)
+            self.ask(self.place.game, self.game_size(), self.say)
+            self.remark = "[the story is begun, or where it is kept played to where it was]"
 
-    def show(self):
-        """Draws all windows, a page of each buffer at a time where more came than it holds."""
-        self.measure()
-        self.terminal.erase()
-        for number, window in sorted(self.host.windows.items()):
-            if window.kind == 4:
-                self.draw_grid(window)
-        for number, window in sorted(self.host.windows.items()):
-            if window.kind == 3 and window.width and window.height:
-                self.page(number, window)
-        if self.host.note:
-            self.remark(self.host.note)
-            self.host.note = ""
-        self.terminal.refresh()
+        self.app.run(pre_run=begin)
+        self.farewell()
+        if self.failure:
+            raise self.failure
+        if self.host and not self.busy:
+            self.host.finish()
 
-    def page(self, number, window):
-        lines = lines_of(window.runs, window.width)
-        seen = min(self.read_lines.get(number, 0), max(len(lines) - 1, 0))
-        while len(lines) - seen > window.height > 1:
-            end = seen + window.height - 1
-            self.draw_lines(window, lines[seen:end])
-            self.put(window.y + window.height - 1, window.x, "[more]"[: window.width],
-                     curses.A_REVERSE)
-            self.terminal.refresh()
-            self.key()
-            seen = end
-        self.draw_lines(window, lines[-window.height :])
-        self.read_lines[number] = len(lines) - 1
-
-    def draw_lines(self, window, lines):
-        for row in range(window.height):
-            self.put(window.y + row, window.x, " " * window.width)
-            for at, (character, style) in enumerate(lines[row] if row < len(lines) else []):
-                self.put(window.y + row, window.x + at, character, attribute(style))
-
-    def draw_grid(self, window):
-        drawn = curses.A_REVERSE if window.height == 1 else curses.A_NORMAL
-        for row in range(window.height):
-            text = window.rows.get(row, "").ljust(window.width)[: window.width]
-            self.put(window.y + row, window.x, text, drawn)
-
-    def put(self, y, x, text, drawn=curses.A_NORMAL):
-        """Draws a text at a place of the game's screen."""
-        rows, columns = self.terminal.getmaxyx()
-        if 0 <= y - self.above < rows and 0 <= x < columns:
-            shown = "".join(code if code.isprintable() else "?" for code in text[: columns - x])
-            try:
-                self.terminal.addstr(y - self.above, x, shown, drawn)
-            except curses.error:
-                pass    # The terminal's last cell is drawn, and then the cursor has no place.
-
-    def move(self, y, x):
-        """Puts the cursor at a place of the game's screen."""
-        rows, columns = self.terminal.getmaxyx()
-        self.terminal.move(min(max(y - self.above, 0), rows - 1), min(max(x, 0), columns - 1))
-
-    def last_row(self):
-        """The row of the game's screen that is the terminal's last."""
-        return self.terminal.getmaxyx()[0] - 1 + self.above
-
-    def remark(self, text):
-        """Says something of the host in the terminal's last line."""
-        columns = self.terminal.getmaxyx()[1]
-        self.put(self.last_row(), 0, text[:columns].ljust(columns - 1), curses.A_REVERSE)
-        self.terminal.refresh()
-
-    def key(self):
-        while True:
-            try:
-                key = self.terminal.get_wch()
-            except KeyboardInterrupt:
-                return LEAVE
-            except curses.error:
-                continue
-            if key != curses.KEY_RESIZE:
-                return key
-            self.show()
-
-    def ask(self):
-        """What the player gives the story, or None where the player leaves."""
-        kind, number = self.host.wanted()
-        if kind == "char":
-            self.move(*self.end_of(number))
-            return self.character()
-        if kind == "P":
-            asked = "The name of a file (nothing cancels): "
-            self.remark(asked)
-            room = self.terminal.getmaxyx()[1] - len(asked) - 1
-            return self.line(self.last_row(), len(asked), room, "", 255)
-        y, x = self.end_of(number)
-        window = self.host.windows[number]
-        most = int(self.host.waits[0][3])
-        return self.line(y, x, window.x + window.width - x, self.host.begun(), most)
-
-    def character(self):
-        while True:
-            key = self.key()
-            if key == LEAVE:
-                return None
-            if key in NAMED:
-                return NAMED[key]
-            if isinstance(key, str) and key.isprintable():
-                return key
-
-    def end_of(self, number):
-        """The place behind a window's text."""
-        window = self.host.windows[number]
-        if window.kind == 4:
-            return window.y + max(window.height - 1, 0), window.x
-        lines = lines_of(window.runs, max(window.width, 1))
-        row = min(len(lines), max(window.height, 1)) - 1
-        return window.y + row, window.x + min(len(lines[-1]), max(window.width - 1, 0))
-
-    def line(self, y, x, room, text, most):
-        """A line of at most `most` characters, drawn in `room` columns; its end where it is longer."""
-        room, past, place = max(room, 1), self.past + [""], len(self.past)
-        while True:
-            shown = text[-(room - 1) :] if room > 1 else ""
-            self.put(y, x, shown.ljust(room), attribute(8))
-            self.move(y, x + len(shown))
-            key = self.key()
-            if key in ("\n", "\r", curses.KEY_ENTER):
-                self.past += [text] if text else []
-                return text or "{empty}"
-            if key == LEAVE:
-                return None
-            if key in (curses.KEY_BACKSPACE, "\x7f", "\b"):
-                text = text[:-1]
-            elif key == BLANKED:
-                text = ""
-            elif key in (curses.KEY_UP, curses.KEY_DOWN):
-                place += -1 if key == curses.KEY_UP else 1
-                place = max(min(place, len(past) - 1), 0)
-                text = past[place][:most]
-            elif isinstance(key, str) and key.isprintable() and len(text) < most:
-                text += key
+    def farewell(self):
+        """Leaves the last page of the text on the terminal."""
+        if self.host and self.scrolled() in self.views:
+            lines = self.views[self.scrolled()].text.lines[-(self.size[1] - 4) :]
+            print("\n".join("".join(cell[0] for cell in line).replace("\u00a0", " ") for line in lines).strip("\n"))
 
 
-def play(make):
-    """Plays the story of the host that `make` gives for a screen's columns and rows."""
-    locale.setlocale(locale.LC_ALL, "")
-    curses.set_escdelay(25)
-    return curses.wrapper(lambda terminal: Player(terminal, make).play())
+def common_keys(screen):
+    """What keys do wherever the game stands."""
+    keys = KeyBindings()
+    keys.add(Keys.ControlC, eager=True)(lambda event: screen.leave())
+    keys.add(Keys.SIGINT, eager=True)(lambda event: screen.leave())
+    keys.add(Keys.ControlZ, eager=True)(lambda event: event.app.suspend_to_background())
+    keys.add(Keys.BracketedPaste, eager=True)(lambda event: screen.pasted(event.data))
+    return keys
+
+
+class Typing(BufferControl):
+    """Where a line or a name is typed, with the editing of prompt_toolkit."""
+
+    def __init__(self, screen):
+        self.screen, keys = screen, common_keys(screen)
+
+        @keys.add(Keys.ControlD, eager=True)
+        def leave(event):
+            if event.current_buffer.text:
+                event.current_buffer.delete()
+            else:
+                screen.leave()
+
+        keys.add(Keys.ControlM, eager=True)(lambda event: screen.entered())
+        keys.add(Keys.ControlJ, eager=True)(lambda event: screen.entered())
+        keys.add(Keys.ControlI, eager=True)(lambda event: screen.next_name())
+        for key, move in NAMED.items():
+            if move == "{Escape}" or move.startswith("{Func"):
+                keys.add(key)(lambda event, move=move: screen.ended(KEYS[move]))
+        for key, pages in SCROLLS.items():
+            keys.add(key, eager=True)(lambda event, pages=pages: screen.scroll(pages))
+        super().__init__(buffer=screen.line, key_bindings=keys)
+
+    def create_content(self, width, height, preview_search=False):
+        self.buffer.load_history_if_not_yet_loaded()
+        return self.screen.content(width, height)
+
+
+class Waiting(UIControl):
+    """Where a key is waited for, or the host."""
+
+    def __init__(self, screen):
+        self.screen, self.keys = screen, common_keys(screen)
+        self.keys.add(Keys.ControlD, eager=True)(lambda event: screen.leave())
+        self.keys.add(Keys.Any)(lambda event: self.typed(event.data))
+        for key, move in NAMED.items():
+            self.keys.add(key, eager=True)(lambda event, key=key, move=move: self.named(key, move))
+        for key, pages in SCROLLS.items():
+            if key not in NAMED:
+                self.keys.add(key, eager=True)(lambda event, pages=pages: screen.scroll(pages))
+
+    def typed(self, text):
+        if text and text.isprintable():
+            self.screen.character("{Space}" if text == " " else text)
+
+    def named(self, key, move):
+        """The story gets PageUp and PageDown where it waits for a key; elsewhere they look back."""
+        if key in SCROLLS and self.screen.mode == "over":
+            self.screen.scroll(SCROLLS[key])
+        else:
+            self.screen.character(move)
+
+    def is_focusable(self):
+        return True
+
+    def get_key_bindings(self):
+        return self.keys
+
+    def create_content(self, width, height):
+        return self.screen.content(width, height)
+
+
+def play(place):
+    """Plays the story of a place on the terminal, and gives the game as the player left it."""
+    screen = Screen(place)
+    screen.play()
+    return screen.host

@@ -156,7 +156,7 @@ class Gateway:
     async def sweep(self):
         """Ends connections of browsers that take nothing, and links that nobody wants."""
         while True:
-            await asyncio.sleep(SEND_SECONDS / 4)
+            await asyncio.sleep(1)
             self.links.end_idle()
             before = time.monotonic() - SEND_SECONDS
             for player in list(self.players):

@@ -99,6 +99,7 @@ pub record FindsNoMemory
   pub clock : moment new ≡ moment old
   pub reads : seen new ≡ seen old
   pub images : NoneNew (may_leave old) (may_leave new)
+  pub none_lost : NoneNew (may_leave new) (may_leave old)
 
 -- what no call changes
 pub record SameDisk

@@ -34,6 +34,11 @@ pub record IsDiskImage (p : DiskState) (c : List ℕ) : Type 0 where
       (i : ℕ) → i < length p.synced → Untouched i p.ranges
       → slice_index c i ≡ slice_index p.synced i
 
+-- an image that has the greatest size
+pub record IsLanded (p : DiskState) (c : List ℕ) : Type 0 where
+  pub image : IsDiskImage p c
+  pub size : length c ≡ greatest_end p.ranges (length p.synced)
+
 -- all of it synced, and nothing written since
 abbrev pub settled : List ℕ → DiskState
 settled start = record { synced = start; seen = start; ranges = [] }
@@ -54,6 +59,18 @@ after_write good at piece p =
 -- after a sync: one that fails changes nothing
 abbrev pub after_sync : Bool → DiskState → DiskState
 after_sync good p = if good then settled p.seen else p
+
+-- what is asked of a disk: its size or what it reads as, a write, or a sync
+pub data Asked : Type 0 where
+  Looked : Asked
+  Wrote : ℕ → List ℕ → Asked
+  Synced : Asked
+
+-- after what was asked, where that was good and where it failed
+abbrev pub after_asked : Asked → Bool → DiskState → DiskState
+after_asked Looked good p = p
+after_asked (Wrote at piece) good p = after_write good at piece p
+after_asked Synced good p = after_sync good p
 
 -- a state as calls make it: as it reads it is one of its images, and it is within 2^40 bytes
 pub record IsWell (p : DiskState) : Type 0 where

@@ -2,10 +2,11 @@
 
 ghost use Rattle.std.specs.Prelude.{◌≡◌, ◌⊎◌, ◌+◌, ◌<◌, ◌≤◌, ◌^◌};
 ghost use Rattle.std.specs.Prelude.{ℕ, Bool, List, length, max};
-ghost use Rattle.std.specs.Prelude.{IsTrue, IsOk, IsErr, IfOk, OnOk, OnErr};
+ghost use Rattle.std.specs.Prelude.{IsTrue, IsOk, IsErr, IfOk, OnOk, OnErr, is_ok};
 ghost use Rattle.disk_model.specs.Disk.{ReadsFile, file_written, Torn, Follows, NoneNew, Only};
 ghost use Rattle.disk_model.specs.Disk.{Elapses};
 ghost use Rattle.disk_model.specs.Disk.{CountsErrors, SameDisk, FindsNoMemory};
+ghost use Rattle.disk_model.specs.DiskState.{Asked, Looked, Wrote, Synced};
 
 /// The call failed, and was counted.
 #[derive(Clone, Copy, Debug, PartialEq, Eq)]
@@ -48,6 +49,10 @@ pub trait Disk {
     /// By which its outside knows it.
     ghost label: { Self → ℕ };
 
+    /// What a call makes of it, said whole: the disk before, what was asked, whether that was good,
+    /// and the disk after. One that keeps this default says nothing more than the clauses below.
+    ghost makes: { Self → Asked → Bool → Self → Type 0 } = { λ _ _ _ _. Unit {0} };
+
     /// How many bytes it holds.
     fn size(&mut self) -> Result<u64, Failed>
         ensures ok { IfOk result (λ n. (n ≤ room self.old)
@@ -63,12 +68,17 @@ pub trait Disk {
         ensures seen { OnOk result (IsTrue (tells self.old) → seen self.new ≡ seen self.old) }
         ensures crash { IsTrue (tells self.old)
             → NoneNew (may_leave self.old) (may_leave self.new) }
+        ensures none_lost { IsTrue (tells self.old)
+            → NoneNew (may_leave self.new) (may_leave self.old) }
         ensures time { Elapses (moment self.old) (moment self.new)
             (left_since self.old) (left_since self.new) (may_leave self.new) }
-        ensures clock { OnOk result (IsTrue (tells self.old)
-            → moment self.new ≡ moment self.old + 1) }
+        // Each call counts a moment, but for one that found no memory.
+        ensures clock { IsTrue (tells self.old)
+            → (moment self.new ≡ moment self.old + 1)
+            ⊎ (IsErr result × FindsNoMemory seen may_leave moment self.old self.new) }
         ensures reach { reach self.new ≡ reach self.old }
-        ensures kept { SameDisk tells room label self.old self.new };
+        ensures kept { SameDisk tells room label self.old self.new }
+        ensures whole { makes self.old Looked (is_ok result) self.new };
 
     /// Fills `into` with the bytes from this place on, and with zeros past the end.
     fn read_at(&mut self, place: u64, into: &mut [u8]) -> Result<(), Failed>
@@ -85,12 +95,17 @@ pub trait Disk {
         ensures seen { OnOk result (IsTrue (tells self.old) → seen self.new ≡ seen self.old) }
         ensures crash { IsTrue (tells self.old)
             → NoneNew (may_leave self.old) (may_leave self.new) }
+        ensures none_lost { IsTrue (tells self.old)
+            → NoneNew (may_leave self.new) (may_leave self.old) }
         ensures time { Elapses (moment self.old) (moment self.new)
             (left_since self.old) (left_since self.new) (may_leave self.new) }
-        ensures clock { OnOk result (IsTrue (tells self.old)
-            → moment self.new ≡ moment self.old + 1) }
+        // Each call counts a moment, but for one that found no memory.
+        ensures clock { IsTrue (tells self.old)
+            → (moment self.new ≡ moment self.old + 1)
+            ⊎ (IsErr result × FindsNoMemory seen may_leave moment self.old self.new) }
         ensures reach { reach self.new ≡ reach self.old }
-        ensures kept { SameDisk tells room label self.old self.new };
+        ensures kept { SameDisk tells room label self.old self.new }
+        ensures whole { makes self.old Looked (is_ok result) self.new };
 
     /// Puts the piece at this place, with zeros where that leaves a gap past the old end.
     /// A write that fails may have put any bytes in its range, but none past the room.
@@ -115,10 +130,13 @@ pub trait Disk {
             → Follows (Torn place (length piece.now)) (may_leave self.old) (may_leave self.new) }
         ensures time { Elapses (moment self.old) (moment self.new)
             (left_since self.old) (left_since self.new) (may_leave self.new) }
-        ensures clock { OnOk result (IsTrue (tells self.old)
-            → moment self.new ≡ moment self.old + 1) }
+        // Each call counts a moment, but for one that found no memory.
+        ensures clock { IsTrue (tells self.old)
+            → (moment self.new ≡ moment self.old + 1)
+            ⊎ (IsErr result × FindsNoMemory seen may_leave moment self.old self.new) }
         ensures reach { reach self.new ≡ max (reach self.old) (place + length piece.now) }
-        ensures kept { SameDisk tells room label self.old self.new };
+        ensures kept { SameDisk tells room label self.old self.new }
+        ensures whole { makes self.old (Wrote place piece.now) (is_ok result) self.new };
 
     /// After one that answers Ok a stop leaves what a read gives, and nothing else.
     /// One that fails makes no image, though a read may give other bytes from then on.
@@ -138,10 +156,13 @@ pub trait Disk {
             → NoneNew (may_leave self.old) (may_leave self.new) }
         ensures time { Elapses (moment self.old) (moment self.new)
             (left_since self.old) (left_since self.new) (may_leave self.new) }
-        ensures clock { OnOk result (IsTrue (tells self.old)
-            → moment self.new ≡ moment self.old + 1) }
+        // Each call counts a moment, but for one that found no memory.
+        ensures clock { IsTrue (tells self.old)
+            → (moment self.new ≡ moment self.old + 1)
+            ⊎ (IsErr result × FindsNoMemory seen may_leave moment self.old self.new) }
         ensures reach { reach self.new ≡ reach self.old }
-        ensures kept { SameDisk tells room label self.old self.new };
+        ensures kept { SameDisk tells room label self.old self.new }
+        ensures whole { makes self.old Synced (is_ok result) self.new };
 
     /// The count of calls that failed.
     fn faults(&self) -> u64

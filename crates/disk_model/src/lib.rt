@@ -4,6 +4,7 @@
 mod call;
 mod disk;
 mod flat;
+mod landed;
 mod memory;
 mod note;
 mod plain;

@@ -8,6 +8,7 @@ ghost use Rattle.disk_model.specs.DiskState.{IsDiskImage, IsWell, settled};
 ghost use Rattle.disk_model.specs.Calls.{state_after, LeftSince};
 
 use crate::call::Call;
+use crate::landed::landed;
 use crate::note::{note_look, note_sync, put, read_into};
 use crate::stop::draw_image;
 use crate::{Disk, Failed};
@@ -93,13 +94,14 @@ impl MemDisk {
     ghost use Rattle.disk_model.specs.Memory.{disk_state_in, calls_in, failing_in, faults_in};
     ghost use Rattle.disk_model.specs.Memory.{reach_in};
     ghost use Rattle.disk_model.specs.Memory.{label_in};
+    ghost use Rattle.disk_model.specs.Memory.{landed_in};
     ghost use Rattle.disk_model.specs.Drawn.{IsDrawn};
 
     /// A disk that holds one of the images that a stop at this moment may leave, drawn from a
     /// number by its lowest five bits. Nothing is pending in it, and none of its calls is to fail.
     ///
-    /// An odd choice has the greatest size. Its next four bits keep, at the places that are 0, 1, 2
-    /// and 3 modulo 4, what was written.
+    /// An odd choice has the greatest size, and in it writes that failed may have landed. Its next
+    /// four bits keep, at the places that are 0, 1, 2 and 3 modulo 4, what was written.
     pub fn after_stop(&self, alloc: Global, choice: u64) -> Result<MemDisk, AllocError>
         ensures ok { IfOk result
             (λ d. IsDiskImage (disk_state_in self.now) (disk_state_in d).seen) }
@@ -108,9 +110,17 @@ impl MemDisk {
             (calls_in d ≡ []) × (failing_in d ≡ []) × (faults_in d ≡ 0)) }
         ensures anew { IfOk result (λ d. (reach_in d ≡ 0) × (label_in d ≡ label_in self.now)) }
         ensures drawn { IfOk result (λ d.
-            IsDrawn (disk_state_in self.now) choice (disk_state_in d).seen) }
+            IsDrawn (disk_state_in self.now) (landed_in self.now) choice (disk_state_in d).seen) }
     {
-        let start = draw_image(alloc, &self.synced, &self.bytes, &self.ranges, choice)?;
+        let landed = landed(alloc, &self.start, &self.calls)?;
+        let start = draw_image(
+            alloc,
+            &self.synced,
+            &self.bytes,
+            &landed,
+            &self.ranges,
+            choice,
+        )?;
         let bytes = start.as_slice().to_vec(alloc)?;
         let synced = start.as_slice().to_vec(alloc)?;
         Ok(MemDisk {
@@ -142,6 +152,7 @@ impl Disk for MemDisk {
     ghost use Rattle.std.proofs.Common.{arith, sym, subst};
     ghost use Rattle.std.proofs.lemmas.List.{take_all};
     ghost use Rattle.disk_model.specs.declared.call.Call.{Call};
+    ghost use Rattle.disk_model.specs.Memory.{IsMade};
 
     ghost tells = { λ _. true };
 
@@ -164,6 +175,8 @@ impl Disk for MemDisk {
     ghost room = { λ _. 2 ^ 40 };
 
     ghost label = { λ m. m.label };
+
+    ghost makes = { IsMade };
 
     fn size(&mut self) -> Result<u64, Failed> {
         let good = !self.is_failing();

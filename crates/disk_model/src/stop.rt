@@ -1,9 +1,9 @@
 //! An image that a stop may leave, drawn from a number.
 
-ghost use Rattle.std.specs.Prelude.{◌≡◌, ◌≤◌, ◌<◌, ◌%◌, true, false, IfOk, length};
-ghost use Rattle.std.specs.Prelude.{slice_index};
-ghost use Rattle.disk_model.specs.DiskState.{DiskState, greatest_end, IsDiskImage};
-ghost use Rattle.disk_model.specs.Drawn.{keeps, IsDrawn};
+ghost use Rattle.std.specs.Prelude.{◌≡◌, ◌≤◌, ◌<◌, ◌%◌, ◌++◌, true, false, IfOk, OnOk, length};
+ghost use Rattle.std.specs.Prelude.{drop, slice_index};
+ghost use Rattle.disk_model.specs.DiskState.{DiskState, greatest_end, IsDiskImage, IsLanded};
+ghost use Rattle.disk_model.specs.Drawn.{keeps, written_by, IsDrawn};
 
 use std::alloc::{AllocError, Global};
 
@@ -37,15 +37,24 @@ fn keeps(choice: u64, place: u64) -> bool
     (choice >> (place % 4 + 1)) % 2 == 1
 }
 
-// The choice says whether the byte that is read is kept or lost; what was never there is rubbish.
-fn image_byte(synced: &[u8], seen: &[u8], choice: u64, place: u64) -> u8
-    ensures kept { place < length seen.now → keeps choice place ≡ true
-        → result ≡ slice_index seen.now place }
+// Of which writes the choice keeps.
+fn written_by<'a>(seen: &'a [u8], landed: &'a [u8], choice: u64) -> &'a [u8]
+    ensures { result.now ≡ written_by choice seen.now landed.now }
+{
+    if choice % 2 == 1 { landed } else { seen }
+}
+
+// The choice says whether the byte that was written is kept or lost; what was never there is
+// rubbish.
+fn image_byte(synced: &[u8], written: &[u8], choice: u64, place: u64) -> u8
+    ensures kept { place < length written.now → keeps choice place ≡ true
+        → result ≡ slice_index written.now place }
     ensures lost { place < length synced.now → keeps choice place ≡ false
         → result ≡ slice_index synced.now place }
+    ensures rubbish { length synced.now ≤ place → keeps choice place ≡ false → result ≡ 255 }
 {
-    if keeps(choice, place) && place < seen.len() as u64 {
-        return seen[place as usize];
+    if keeps(choice, place) && place < written.len() as u64 {
+        return written[place as usize];
     }
     if place < synced.len() as u64 {
         return synced[place as usize];
@@ -53,26 +62,44 @@ fn image_byte(synced: &[u8], seen: &[u8], choice: u64, place: u64) -> u8
     255
 }
 
-/// An image of what a sync left, what it reads as and what was written since.
+// Behind the last range nothing was written: the synced bytes stay.
+fn add_rest(image: &mut Vec<u8>, synced: &[u8]) -> Result<(), AllocError>
+    ensures { OnOk result (image.new.items
+        ≡ image.old.items ++ drop (length image.old.items) synced.now) }
+{
+    if image.len() < synced.len() {
+        image.extend_from_slice(&synced[image.len()..])?;
+    }
+    Ok(())
+}
+
+/// An image of what a sync left, what it reads as, what would have landed, and where was written
+/// since.
 pub fn draw_image(
     alloc: Global,
     synced: &[u8],
     seen: &[u8],
+    landed: &[u8],
     ranges: &[(u64, u64)],
     choice: u64,
 ) -> Result<Vec<u8>, AllocError>
-    requires { IsDiskImage
+    requires seen { IsDiskImage
         (record { synced = synced.now; seen = seen.now; ranges = ranges.now }) seen.now }
+    requires landed { IsLanded
+        (record { synced = synced.now; seen = seen.now; ranges = ranges.now }) landed.now }
     ensures image { IfOk result (λ image. IsDiskImage
         (record { synced = synced.now; seen = seen.now; ranges = ranges.now }) image.items) }
     ensures drawn { IfOk result (λ image. IsDrawn
         (record { synced = synced.now; seen = seen.now; ranges = ranges.now })
-        choice image.items) }
+        landed.now choice image.items) }
 {
+    let written = written_by(seen, landed, choice);
     let end = image_size(ranges, synced.len() as u64, choice);
+    let touched = last_end(ranges, 0).min(end);
     let mut image = Vec::new(alloc);
-    for place in 0..end {
-        image.push(image_byte(synced, seen, choice, place))?;
+    for place in 0..touched {
+        image.push(image_byte(synced, written, choice, place))?;
     }
+    add_rest(&mut image, synced)?;
     Ok(image)
 }

@@ -3,6 +3,7 @@
 ghost use Rattle.std.specs.Prelude.{◌≡◌, ◌+◌, ◌≤◌, IsTrue, IsOk, OnOk, length, max};
 ghost use Rattle.disk_model.specs.Disk.{file_written, Only, LeavesOnly, CountsErrors, SameDisk};
 ghost use Rattle.disk_model.specs.Disk.{AfterWrite};
+ghost use Rattle.disk_model.specs.Work.{MakesCalls};
 
 use crate::{Disk, Failed};
 
@@ -21,6 +22,9 @@ pub fn write_through<D: Disk>(disk: &mut D, place: u64, piece: &[u8]) -> Result<
         (AfterWrite place (length piece.now) (D.may_leave disk.old)) }
     ensures reach { D.reach disk.new ≡ max (D.reach disk.old) (place + length piece.now) }
     ensures kept { SameDisk D.tells D.room D.label disk.old disk.new }
+    ensures calls { IsTrue (D.tells disk.old)
+        → MakesCalls D.fails_at D.moment D.room (place + length piece.now) 2
+        result disk.old disk.new }
 {
     disk.write_at(place, piece)?;
     disk.sync()?;

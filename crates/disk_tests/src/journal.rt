@@ -226,6 +226,62 @@ fn a_stop_in_an_append_leaves_the_rows_before_or_one_more(rt: HostRuntime) -> Re
     Ok(())
 }
 
+// Whether some choice of a stop leaves so many rows, where this call failed.
+fn may_leave(alloc: Global, fails: u64, rows: u64) -> Result<bool, Fail> {
+    for choice in 0..32 {
+        if rows_left(alloc, fails, choice)? == rows {
+            return Ok(true);
+        }
+    }
+    Ok(false)
+}
+
+// The gate's write, or the sync after it, failed.
+#[test]
+fn a_gate_whose_write_or_sync_failed_may_be_open_or_not(rt: HostRuntime) -> Result<(), Fail> {
+    for fails in [12, 13] {
+        for rows in [1, 2] {
+            assert!(rt; may_leave(rt.alloc(), fails, rows)?);
+        }
+    }
+    Ok(())
+}
+
+// The LINE's second sync failed, and the write of the repair in the next append.
+fn repair_failed(alloc: Global) -> Result<Boxed, Fail> {
+    let mut disk = MemDisk::new(alloc);
+    disk.fail_at(13)?;
+    disk.fail_at(14)?;
+    init(&mut disk).ok().ok_or("init")?;
+    let mut journal = opened(alloc, disk)?;
+    let command = opening(alloc)?;
+    let _ = added(alloc, &mut journal, 0, &command)?;
+    let _ = line_added(alloc, &mut journal)?;
+    if line_added(alloc, &mut journal)? != Err(DiskFault { from: 1, to: 2 }) {
+        return Err("the repair".into());
+    }
+    Ok(journal)
+}
+
+// Whether some choice of a stop leaves so many rows then.
+fn unrepaired_may_leave(alloc: Global, rows: u64) -> Result<bool, Fail> {
+    for choice in 0..32 {
+        let journal = stopped(alloc, repair_failed(alloc)?, choice)?;
+        if journal.row_count() == rows {
+            return Ok(true);
+        }
+    }
+    Ok(false)
+}
+
+#[test]
+fn a_gate_whose_repair_failed_may_be_open_or_not(rt: HostRuntime) -> Result<(), Fail> {
+    for rows in [1, 2] {
+        assert!(rt; unrepaired_may_leave(rt.alloc(), rows)?);
+    }
+    Ok(())
+}
+
 // Whether the LINE's append tells of a fault, and an OPEN behind it takes its place.
 fn takes_its_place(alloc: Global, journal: &mut Journal<MemDisk>) -> Result<bool, Fail> {
     let line = line_added(alloc, journal)?;

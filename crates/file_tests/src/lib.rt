@@ -5,3 +5,5 @@
 mod container;
 #[cfg(test)]
 mod save;
+#[cfg(test)]
+mod state;

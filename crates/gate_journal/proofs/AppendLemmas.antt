@@ -48,6 +48,15 @@ module _
       rw (← same, ← is) (λ told c now.
       stands_closed (rows_of log.entries) log.uncertain c sound.next (sound.images told c now))
 
+  -- what stands in them, by name
+  pub images_stand : (disk : D)
+      → log.disk ≡ disk
+      → EachImage tells may_leave disk (StandsInImage (rows_of old.entries) old.uncertain)
+  images_stand disk same = rw (← same, ← is) sound.images
+
+  pub uncertain_next : IfSome old.uncertain (IsNext (rows_of old.entries))
+  uncertain_next = rw (← is) sound.next
+
 -- the row at this end
 abbrev row_at : ℕ → ℕ → Command → Row
 row_at end session command =

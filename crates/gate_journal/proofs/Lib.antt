@@ -12,3 +12,4 @@ pub mod StopLemmas
 mod ReadingLemmas
 pub mod AppendLemmas
 pub mod SinceLemmas
+pub mod StageLemmas

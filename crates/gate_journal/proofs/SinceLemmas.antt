@@ -2,8 +2,8 @@
 use Rattle.std.proofs.Common.{◌≡◌, ◌⊎◌, inl, inr, ⊎_elim, ℕ, ◌+◌, ◌≤◌, max, Bool}
 use Rattle.std.proofs.Common.{List, [], ◌∷◌, ◌++◌, length, take, drop, refl, sym, ◌∙◌, ap}
 use Rattle.std.proofs.Common.{arith, append_assoc, length-append, Option, Some, None}
-use Rattle.std.specs.Prelude.{IsTrue}
-use Rattle.std.proofs.lemmas.List.{take-append-le, take-append-drop}
+use Rattle.std.specs.Prelude.{IsTrue, IfSome}
+use Rattle.std.proofs.lemmas.List.{take-append-le, take-append-drop, drop-append-le}
 use Rattle.disk_model.specs.Disk.{EachImage, LeavesOnly, SameDisk}
 use Rattle.disk_model.proofs.Moments.{weaker}
 use Rattle.gate_journal.proofs.Opening.{and_more}
@@ -16,6 +16,7 @@ use Rattle.gate_journal.specs.declared.entry.Entry.TheVariants.{Kept, Faulted}
 use Rattle.gate_journal.specs.Rows.{row_body, payload_of, rows_behind_open_gates}
 use Rattle.gate_journal.specs.Rows.{journal_bytes, EachNext, IsJournal, MayStand}
 use Rattle.gate_journal.specs.Log.{Log, IsBetween, IsOfSession, IsSinceOpened, entry_number}
+use Rattle.gate_journal.specs.Log.{EndsInFaultBy}
 use Rattle.gate_journal.specs.Log.{IsSoundJournal, rows_kept, MayOpen, MaySpell}
 use Rattle.gate_journal.specs.Log.{Meanwhile, next_row, rows_of}
 use Rattle.gate_journal.proofs.LimitLemmas.{payload_most}
@@ -89,6 +90,30 @@ rows_after found entries =
     sym (ap rows_of (take-append-drop found entries))
     ∙ rows_of-append (take found entries) (drop found entries)
 
+-- no gate is uncertain
+pub unsure_none :
+    {uncertain : Option Row} (P : Row → Type 0) → uncertain ≡ None → IfSome uncertain P
+unsure_none P so = rw so tt
+
+faulted_again :
+    (uncertain : Option Row) (entries : List Entry) (by from to : ℕ)
+    → IfSome uncertain (λ q. EndsInFaultBy q.by entries)
+    → IfSome uncertain (λ q. EndsInFaultBy q.by (entries ++ Faulted by from to ∷ []))
+faulted_again None entries by from to unsure = tt
+faulted_again (Some q) entries by from to unsure = record {
+  front = unsure.front;
+  from = unsure.from;
+  to = unsure.to;
+  later = unsure.later ++ Faulted by from to ∷ [];
+  fault =
+      ap (λ (es : List Entry). es ++ Faulted by from to ∷ []) unsure.fault
+      ∙ append_assoc unsure.front (Faulted q.by unsure.from unsure.to ∷ unsure.later)
+      (Faulted by from to ∷ []);
+  no_row =
+      rows_of-append unsure.later (Faulted by from to ∷ [])
+      ∙ ap (λ (rows : List Row). rows ++ []) unsure.no_row;
+}
+
 -- one piece of work on a disk after another
 pub same_then :
     {D : Type 0} {tells : D → Bool} {room label : D → ℕ} {a b c : D}
@@ -112,10 +137,43 @@ module _
   abbrev found_in : List Entry → List Row
   found_in entries = rows_of (take log.opening.found entries)
 
+  -- the entries since the opening, with one more
+  dropped :
+      (entries : List Entry) (e : Entry) → entries ≡ log.entries ++ e ∷ []
+      → drop log.opening.found entries ≡ drop log.opening.found log.entries ++ e ∷ []
+  dropped entries e pushed =
+      ap (λ (es : List Entry). drop log.opening.found es) pushed
+      ∙ drop-append-le log.opening.found log.entries (e ∷ []) since.many
+
+  -- a gate stays uncertain behind one fault more
+  pub unsure_still :
+      {entries : List Entry} {uncertain : Option Row} (by from to : ℕ)
+      → entries ≡ log.entries ++ Faulted by from to ∷ [] → uncertain ≡ log.uncertain
+      → IfSome uncertain (λ q. EndsInFaultBy q.by (drop log.opening.found entries))
+  unsure_still {entries = entries} by from to pushed so =
+      rw (so, dropped entries (Faulted by from to) pushed)
+      (faulted_again log.uncertain (drop log.opening.found log.entries) by from to since.unsure)
+
+  -- it becomes so with the fault of its row
+  pub unsure_now :
+      {entries : List Entry} {uncertain : Option Row} (q : Row) (by from to : ℕ)
+      → entries ≡ log.entries ++ Faulted by from to ∷ [] → uncertain ≡ Some q → by ≡ q.by
+      → IfSome uncertain (λ q. EndsInFaultBy q.by (drop log.opening.found entries))
+  unsure_now {entries = entries} q by from to pushed so same =
+      rw (so, dropped entries (Faulted by from to) pushed, same) (record {
+        front = drop log.opening.found log.entries;
+        from = from;
+        to = to;
+        later = [];
+        fault = refl;
+        no_row = refl;
+      })
+
   -- one entry more, of this session, after the calls of an append
   pub since_more :
       {disk : D} {entries : List Entry} {ready : Bool} (uncertain : Option Row) (e : Entry)
       → entries ≡ log.entries ++ e ∷ [] → entry_number e ≡ session + 1
+      → IfSome uncertain (λ q. EndsInFaultBy q.by (drop log.opening.found entries))
       → SameDisk tells room label log.disk disk
       → (IsTrue (tells old.disk) → LeavesOnly moment left_since old.disk disk
       (Meanwhile (rows_of old.entries) old.uncertain
@@ -123,7 +181,7 @@ module _
       → reach disk ≤ max (reach log.disk) (length (journal_bytes (rows_of log.entries)) + 4110)
       → IsSinceOpened tells may_leave room label reach moment left_since
       (record log { disk = disk; entries = entries; uncertain = uncertain; ready = ready })
-  since_more {disk = disk} {entries = entries} uncertain e pushed numbered same leaves asked =
+  since_more {disk = disk} {entries = entries} uncertain e pushed numbered unsure same leaves asked =
       record {
         same = same_then since.same same;
         many = omega (arith, since.many, ap length pushed, length-append log.entries (e ∷ []));
@@ -131,6 +189,7 @@ module _
           (omega (arith, numbered), omega (arith, numbered, stands.below)),
           tt,
         ));
+        unsure = unsure;
         meanwhile = λ start journal may told. images start journal may told;
         reaches = omega (arith, since.reaches, asked, longer);
       }
@@ -216,6 +275,7 @@ since_begun {D} {tells} {may_leave} {room} {label} {reach} {moment} {left_since}
       same = same;
       many = omega (arith, many);
       numbers = rw fresh (numbers_of [] (rows_of entries) journal);
+      unsure = tt;
       meanwhile = λ start is_journal may told.
           weaker moment left_since given now (MayOpen start)
           (λ c. MayOpen start c ⊎ IsBetween (rows_of (take found entries)) (rows_of entries) c)

@@ -47,6 +47,13 @@ IsNoFault (Corrupt place) = Unit {0}
 IsNoFault (on_disk fault) = ⊥
 IsNoFault NoMemory = Unit {0}
 
+-- a refusal for a fault of the disk
+abbrev pub IsDiskFault : JournalFault → Type 0
+IsDiskFault NotJournal = ⊥
+IsDiskFault (Corrupt place) = ⊥
+IsDiskFault (on_disk fault) = Unit {0}
+IsDiskFault NoMemory = ⊥
+
 -- it holds unless the disk failed
 abbrev pub UnlessFault : {T : Type 0} → Result T JournalFault → Type 0 → Type 0
 UnlessFault result P = MatchResult result (λ _. P) (λ e. IsNoFault e → P)

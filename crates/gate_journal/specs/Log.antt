@@ -1,7 +1,7 @@
 -- A journal as contracts see it, and what a stop may leave of it (own).
-use Rattle.std.specs.Prelude.{◌≡◌, ◌⊎◌, ℕ, ◌+◌, ◌<◌, ◌≤◌, Bool, IsTrue}
+use Rattle.std.specs.Prelude.{◌≡◌, ◌⊎◌, ℕ, zero, suc, ◌+◌, ◌<◌, ◌≤◌, Bool, IsTrue}
 use Rattle.std.specs.Prelude.{max, Option, Some, None}
-use Rattle.std.specs.Prelude.{IfSome, List, [], ◌∷◌, ◌++◌, length, map, slice_index, take}
+use Rattle.std.specs.Prelude.{IfSome, List, [], ◌∷◌, ◌++◌, length, map, slice_index, take, drop}
 use Rattle.turn_cell.specs.History.{Each}
 use Rattle.disk_model.specs.Disk.{Holds, Rose, EachImage, LeavesOnly, SameDisk}
 use Rattle.gate_journal.specs.Gate.{IsShut, IsUnsure}
@@ -66,6 +66,27 @@ next_row rows session command =
 -- the end of what an append of this row writes: the row, and a zero byte for the next gate
 abbrev pub row_end : Row → ℕ
 row_end r = r.place + length (row_body r) + 2
+
+-- Of each device call of an append: the row behind the uncertain gate, where that call fails. Where
+-- a gate is uncertain, a write and a sync close it first. Then come the row behind its gate, a sync,
+-- the row's gate and a sync.
+abbrev pub gates_left : Option Row → Row → List (Option Row)
+gates_left None r = None ∷ None ∷ Some r ∷ Some r ∷ []
+gates_left (Some u) r = Some u ∷ Some u ∷ None ∷ None ∷ Some r ∷ Some r ∷ []
+
+-- how many device calls close a gate that holds this byte: a write and a sync, or none
+abbrev pub closing_calls : ℕ → ℕ
+closing_calls zero = 0
+closing_calls (suc byte) = 2
+
+-- how many device calls an opening makes: a sync, a size, a read, and those that close the gate
+abbrev pub opening_calls : List ℕ → ℕ → ℕ
+opening_calls bytes gate = 3 + closing_calls (slice_index bytes gate)
+
+-- how many of an append's close a gate first
+abbrev pub repair_calls : Option Row → ℕ
+repair_calls None = 0
+repair_calls (Some u) = 2
 
 -- nothing but the room changes
 pub record SameLog {D : Type 0} (old new : Log D) : Type 0 where
@@ -147,14 +168,24 @@ pub record IsBetween (first last : List Row) (c : List ℕ) : Type 0 where
   pub spells : MaySpell (first ++ since) one_more c
   pub opens : MayOpen (first ++ since) c
 
+-- a fault of this number stands among the entries, and no row behind it
+pub record EndsInFaultBy (by : ℕ) (entries : List Entry) : Type 0 where
+  pub front : List Entry
+  pub from : ℕ
+  pub to : ℕ
+  pub later : List Entry
+  pub fault : entries ≡ front ++ Faulted by from to ∷ later
+  pub no_row : rows_of later ≡ []
+
 -- the entry is of a session below 64
 abbrev pub IsOfSession : Entry → Type 0
 IsOfSession e = (0 < entry_number e) × (entry_number e ≤ 64)
 
 -- What holds of each journal since it was opened: it is on the same disk, which wasn't written
 -- farther behind the closing gate than the longest row reaches; its entries are those found and
--- more. Each image of that time is one that the opening may meet, or spells the rows found and the
--- first of those written since, or these and one row more.
+-- more. A gate is uncertain only behind a fault of its row's session, of an append since then, and
+-- no row was kept after that fault. Each image of that time is one that the opening may meet, or
+-- spells the rows found and the first of those written since, or these and one row more.
 pub record IsSinceOpened
     {D : Type 0}
     (tells : D → Bool)
@@ -165,6 +196,8 @@ pub record IsSinceOpened
   pub same : SameDisk tells room label log.opening.disk log.disk
   pub many : log.opening.found ≤ length log.entries
   pub numbers : Each IsOfSession log.entries
+  pub unsure :
+      IfSome log.uncertain (λ r. EndsInFaultBy r.by (drop log.opening.found log.entries))
   pub meanwhile :
       (start : List Row) → IsJournal start
       → EachImage tells may_leave log.opening.disk (MayOpen start)

@@ -1,9 +1,9 @@
 //! The device calls of an append, and of the repair before it (own).
 
 ghost use Rattle.std.specs.Prelude.{◌≡◌, ◌⊎◌, ◌+◌, ◌<◌, ◌≤◌, ◌++◌, ◌∷◌};
-ghost use Rattle.std.specs.Prelude.{ℕ, List, IsErrOf, OnOk, length};
+ghost use Rattle.std.specs.Prelude.{ℕ, List, IsErrOf, IsTrue, OnOk, length};
 ghost use Rattle.disk_model.specs.Disk.{Holds, EachImage};
-ghost use Rattle.disk_model.specs.Work.{Ran, Triple};
+ghost use Rattle.disk_model.specs.Work.{Ran, Triple, GoodCalls, FailedCall, MakesCalls};
 ghost use Rattle.gate_journal.specs.Gate.{IsShut, IsUnsure};
 
 use disk_model::{Disk, Failed, write_through};
@@ -24,6 +24,8 @@ pub fn repair<D: Disk>(disk: &mut D, gate: u64) -> Result<(), Failed>
         (IsUnsure front past) (IsUnsure front past) (IsShut front) }
     ensures ran { Ran D.tells D.steady D.room D.label D.faults D.reach (gate + 1)
         result disk.old disk.new }
+    ensures calls { IsTrue (D.tells disk.old)
+        → MakesCalls D.fails_at D.moment D.room (gate + 1) 2 result disk.old disk.new }
 {
     write_through(disk, gate, &[0])
 }
@@ -47,6 +49,14 @@ pub fn write_row<D: Disk>(disk: &mut D, gate: u64, past: &[u8]) -> Result<(), Ro
     ensures fits { OnOk result (gate + 1 + length past.now ≤ D.room disk.old) }
     ensures ran { Ran D.tells D.steady D.room D.label D.faults D.reach
         (gate + 1 + length past.now) result disk.old disk.new }
+    ensures calls { OnOk result (IsTrue (D.tells disk.old)
+        → GoodCalls D.fails_at D.moment 4 disk.old disk.new) }
+    ensures row_failed { IsErrOf result RowFault.Before → IsTrue (D.tells disk.old)
+        → (k : ℕ) × (k < 2) × FailedCall D.fails_at D.moment D.room
+        (gate + 1 + length past.now) k disk.old disk.new }
+    ensures gate_failed { IsErrOf result RowFault.AtGate → IsTrue (D.tells disk.old)
+        → (k : ℕ) × (k < 2) × FailedCall D.fails_at D.moment D.room
+        (gate + 1 + length past.now) (2 + k) disk.old disk.new }
 {
     let Ok(()) = write_through(disk, gate + 1, past) else {
         return Err(RowFault::Before);

@@ -1,12 +1,13 @@
 //! The journal (own).
 
-ghost use Rattle.std.specs.Prelude.{◌≡◌, ◌⊎◌, ◌+◌, ◌≤◌, ◌++◌, [], ◌∷◌};
-ghost use Rattle.std.specs.Prelude.{◌↔◌, List, true};
-ghost use Rattle.std.specs.Prelude.{IsTrue, IsOk, IfOk, IfErr, OnOk, MatchOption, MatchResult};
+ghost use Rattle.std.specs.Prelude.{◌≡◌, ◌⊎◌, ◌+◌, ◌<◌, ◌≤◌, ◌++◌, [], ◌∷◌};
+ghost use Rattle.std.specs.Prelude.{◌↔◌, ℕ, List, true, Option, IfSome};
+ghost use Rattle.std.specs.Prelude.{IsTrue, IsOk, IfOk, IfErr, OnOk, OnErr, MatchOption, MatchResult};
 ghost use Rattle.std.specs.Prelude.{Some, None, length, max, slice_get, slice_index};
 ghost use Rattle.disk_model.specs.Disk.{EachImage, LeavesOnly, SameDisk, OnlyLooks};
-ghost use Rattle.gate_journal.specs.Rows.{journal_bytes, IsJournal, MayStand, SpellsRows};
-ghost use Rattle.gate_journal.specs.Faults.{Explains, IsFault, IsNoFault, HasCause};
+ghost use Rattle.disk_model.specs.Work.{GoodCalls, FailedCall};
+ghost use Rattle.gate_journal.specs.Rows.{journal_bytes, IsJournal, IsNext, MayStand, SpellsRows};
+ghost use Rattle.gate_journal.specs.Faults.{Explains, IsFault, IsNoFault, IsDiskFault, HasCause};
 ghost use Rattle.gate_journal.specs.declared.row.Row.{Row};
 ghost use Rattle.gate_journal.specs.declared.entry.Entry.TheVariants.{Kept, Faulted};
 
@@ -92,8 +93,8 @@ impl<D: Disk> Told for Journal<D> {
 
 impl<D: Disk> Journal<D> {
     ghost use Rattle.gate_journal.specs.Log.{rows_of, rows_kept, Rises, SameLog, next_row, row_end};
-    ghost use Rattle.gate_journal.specs.Log.{MaySpell, MayOpen, Meanwhile, ReachesGate};
-    ghost use Rattle.gate_journal.specs.Log.{IsSinceOpened};
+    ghost use Rattle.gate_journal.specs.Log.{MaySpell, MayOpen, MayFind, Meanwhile, ReachesGate};
+    ghost use Rattle.gate_journal.specs.Log.{IsSinceOpened, StandsInImage, gates_left, opening_calls};
 
     /// The journal of a disk, with the rows that its bytes spell. It syncs first. A refusal hands
     /// the disk back.
@@ -107,6 +108,14 @@ impl<D: Disk> Journal<D> {
             → Explains (D.seen disk) e.0) }
         ensures cause { MatchResult result (λ j. D.faults j.disk ≡ D.faults disk)
             (λ e. HasCause (D.faults disk) (D.faults e.1) e.0) }
+
+        // After Ok so many device calls were good; after a fault of the disk one of them failed,
+        // behind good ones: it was to fail, or found no memory.
+        ensures calls { IsTrue (D.tells disk) → MatchResult result
+            (λ j. GoodCalls D.fails_at D.moment (opening_calls (D.seen disk)
+            (length (journal_bytes (rows_of j.entries)))) disk j.disk)
+            (λ e. IsDiskFault e.0 → (k : ℕ) × (k < 5)
+            × FailedCall D.fails_at D.moment D.room 0 k disk e.1) }
 
         ensures steady { IsTrue (D.steady disk) → MatchResult result
             (λ j. IsTrue (D.steady j.disk)) (λ e. IsTrue (D.steady e.1)) }
@@ -126,6 +135,16 @@ impl<D: Disk> Journal<D> {
             → MatchResult result
             (λ j. LeavesOnly D.moment D.left_since disk j.disk (MayOpen rows))
             (λ e. LeavesOnly D.moment D.left_since disk e.1 (MayOpen rows)) }
+        // Where these rows stand in each image, and no row or this one behind an uncertain gate, it
+        // stays so meanwhile, and these are found, or these and that one.
+        ensures stands { (rows : List Row) (uncertain : Option Row) → IsJournal rows
+            → IfSome uncertain (IsNext rows)
+            → EachImage D.tells D.may_leave disk (StandsInImage rows uncertain)
+            → IsTrue (D.tells disk)
+            → MatchResult result
+            (λ j. LeavesOnly D.moment D.left_since disk j.disk (StandsInImage rows uncertain)
+            × MayFind rows uncertain (rows_of j.entries))
+            (λ e. LeavesOnly D.moment D.left_since disk e.1 (StandsInImage rows uncertain)) }
         ensures reach { MatchResult result
             (λ j. D.reach j.disk ≤ max (D.reach disk) (D.room disk))
             (λ e. D.reach e.1 ≤ max (D.reach disk) (D.room disk)) }
@@ -207,6 +226,19 @@ impl<D: Disk> Journal<D> {
             ⊎ (self.new.uncertain ≡ None)
             ⊎ (self.new.uncertain
             ≡ Some (next_row (rows_of self.old.entries) session command.now)))) }
+        // After Ok all its device calls were good. After Err one of them failed, behind good ones,
+        // and the gate is as that one leaves it.
+        ensures calls { OnOk result (IsTrue (D.tells self.old.disk)
+            → GoodCalls D.fails_at D.moment (length (gates_left self.old.uncertain
+            (next_row (rows_of self.old.entries) session command.now)))
+            self.old.disk self.new.disk) }
+        ensures stage { OnErr result (IsTrue (D.tells self.old.disk)
+            → (k : ℕ) × FailedCall D.fails_at D.moment D.room
+            (row_end (next_row (rows_of self.old.entries) session command.now)) k
+            self.old.disk self.new.disk
+            × (slice_get (gates_left self.old.uncertain
+            (next_row (rows_of self.old.entries) session command.now)) k
+            ≡ Some self.new.uncertain)) }
         ensures cause { MatchResult result
             (λ _. D.faults self.new.disk ≡ D.faults self.old.disk)
             (λ e. IsFault e (D.faults self.old.disk) (D.faults self.new.disk)) }
@@ -267,6 +299,9 @@ impl<D: Disk> Journal<D> {
             (MaySpell (rows_of self.now.entries) self.now.uncertain) }
         ensures opens { EachImage D.tells D.may_leave self.now.disk
             (MayOpen (rows_of self.now.entries)) }
+        ensures next { IfSome self.now.uncertain (IsNext (rows_of self.now.entries)) }
+        ensures stands { EachImage D.tells D.may_leave self.now.disk
+            (StandsInImage (rows_of self.now.entries) self.now.uncertain) }
     {
         self.history.row_count()
     }
@@ -286,6 +321,9 @@ impl<D: Disk> Journal<D> {
         ensures images { EachImage D.tells D.may_leave result
             (MaySpell (rows_of self.entries) self.uncertain) }
         ensures opens { EachImage D.tells D.may_leave result (MayOpen (rows_of self.entries)) }
+        ensures next { IfSome self.uncertain (IsNext (rows_of self.entries)) }
+        ensures stands { EachImage D.tells D.may_leave result
+            (StandsInImage (rows_of self.entries) self.uncertain) }
         ensures rises { Rises (D.faults self.opening.disk) self.entries (D.faults result) }
         ensures since { IsSinceOpened D.tells D.may_leave D.room D.label D.reach D.moment
             D.left_since self }

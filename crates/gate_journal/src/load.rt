@@ -1,13 +1,16 @@
 //! The device calls of an opening (own).
 
 ghost use Rattle.std.specs.Prelude.{◌≡◌, ◌+◌, ◌<◌, ◌≤◌, List, IsTrue, IfOk, IfErr};
-ghost use Rattle.std.specs.Prelude.{length, max, slice_index};
+ghost use Rattle.std.specs.Prelude.{length, max, slice_index, Option, IfSome};
 ghost use Rattle.disk_model.specs.Disk.{EachImage, LeavesOnly, SameDisk, OnlyLooks};
 ghost use Rattle.gate_journal.specs.Faults.{Explains, IsOfDisk, IsNoFault, UnlessFault};
-ghost use Rattle.gate_journal.specs.Faults.{IsFault, CountsOpening};
+ghost use Rattle.gate_journal.specs.Faults.{IsFault, CountsOpening, IsDiskFault};
+ghost use Rattle.disk_model.specs.Work.{GoodCalls, FailedCall};
 ghost use Rattle.gate_journal.specs.Gate.{IsShut};
-ghost use Rattle.gate_journal.specs.Rows.{journal_bytes, SpellsRows, IsJournal};
-ghost use Rattle.gate_journal.specs.Log.{MayOpen, ReachesGate, rows_of, rows_kept};
+ghost use Rattle.gate_journal.specs.Rows.{journal_bytes, SpellsRows, IsJournal, IsNext};
+ghost use Rattle.gate_journal.specs.Log.{MayOpen, ReachesGate, StandsInImage, rows_of, rows_kept};
+ghost use Rattle.gate_journal.specs.Log.{opening_calls};
+ghost use Rattle.std.specs.Prelude.{ℕ, MatchResult};
 ghost use Rattle.gate_journal.specs.declared.row.Row.{Row};
 ghost use Rattle.gate_journal.specs.declared.fault.JournalFault.TheVariants.{DiskFault as on_disk};
 
@@ -37,6 +40,10 @@ fn read_all<D: Disk>(alloc: Global, disk: &mut D) -> Result<Vec<u8>, JournalFaul
         → D.seen disk.new ≡ D.seen disk.old) }
     ensures kept { OnlyLooks D.tells D.may_leave D.moment D.left_since D.reach D.room D.label
         disk.old disk.new }
+    ensures calls { IsTrue (D.tells disk.old) → MatchResult result
+        (λ _. GoodCalls D.fails_at D.moment 2 disk.old disk.new)
+        (λ e. IsDiskFault e → (k : ℕ) × (k < 2)
+        × FailedCall D.fails_at D.moment D.room 0 k disk.old disk.new) }
 {
     let from = disk.faults();
     let Ok(size) = disk.size() else {
@@ -74,6 +81,11 @@ pub fn load<D: Disk>(alloc: Global, disk: &mut D) -> Result<Parsed, JournalFault
         → EachImage D.tells D.may_leave disk.old (MayOpen rows)
         → IsTrue (D.tells disk.old)
         → LeavesOnly D.moment D.left_since disk.old disk.new (MayOpen rows) }
+    ensures stands { (rows : List Row) (uncertain : Option Row) → IsJournal rows
+        → IfSome uncertain (IsNext rows)
+        → EachImage D.tells D.may_leave disk.old (StandsInImage rows uncertain)
+        → IsTrue (D.tells disk.old)
+        → LeavesOnly D.moment D.left_since disk.old disk.new (StandsInImage rows uncertain) }
     ensures reach { D.reach disk.new ≤ max (D.reach disk.old) (D.room disk.old) }
     ensures told_reach { IsTrue (D.tells disk.old)
         → D.reach disk.new ≤ max (D.reach disk.old) (length (D.seen disk.old)) }
@@ -84,6 +96,11 @@ pub fn load<D: Disk>(alloc: Global, disk: &mut D) -> Result<Parsed, JournalFault
     ensures untouched { IfOk result (λ p. IsTrue (D.tells disk.old)
         → slice_index (D.seen disk.old) p.end ≡ 0 → D.reach disk.new ≡ D.reach disk.old) }
     ensures kept { SameDisk D.tells D.room D.label disk.old disk.new }
+    ensures calls { IsTrue (D.tells disk.old) → MatchResult result
+        (λ p. GoodCalls D.fails_at D.moment (opening_calls (D.seen disk.old) p.end)
+        disk.old disk.new)
+        (λ e. IsDiskFault e → (k : ℕ) × (k < 5)
+        × FailedCall D.fails_at D.moment D.room 0 k disk.old disk.new) }
 {
     let from = disk.faults();
     let Ok(()) = disk.sync() else {

@@ -1,9 +1,9 @@
 //! The repair of an uncertain gate (own).
 
-ghost use Rattle.std.specs.Prelude.{◌≡◌, ◌+◌, List, MatchResult, length, None, Some};
-ghost use Rattle.disk_model.specs.Work.{Ran, Triple};
+ghost use Rattle.std.specs.Prelude.{◌≡◌, ◌+◌, List, IsTrue, MatchResult, length, None, Some};
+ghost use Rattle.disk_model.specs.Work.{Ran, Triple, MakesCalls};
 ghost use Rattle.gate_journal.specs.Rows.{journal_bytes};
-ghost use Rattle.gate_journal.specs.Log.{StandsInImage};
+ghost use Rattle.gate_journal.specs.Log.{StandsInImage, repair_calls};
 ghost use Rattle.gate_journal.specs.declared.row.Row.{Row};
 
 use crate::gate::repair;
@@ -21,6 +21,8 @@ pub fn settle<D: Disk>(disk: &mut D, uncertain: &mut Option<Row>, end: u64) -> R
     ensures untouched { uncertain.old ≡ None → disk.new ≡ disk.old }
     ensures ran { Ran D.tells D.steady D.room D.label D.faults D.reach (end + 1)
         result disk.old disk.new }
+    ensures calls { IsTrue (D.tells disk.old) → MakesCalls D.fails_at D.moment D.room (end + 1)
+        (repair_calls uncertain.old) result disk.old disk.new }
 {
     if uncertain.is_none() {
         return Ok(());

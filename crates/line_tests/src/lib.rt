@@ -1,13 +1,6 @@
-//! Texts, lines, conversations and shows: what no clause says.
+//! Conversations over a link in memory whose calls fail: what no clause says and no row shows. The
+//! values of `proofs/StandardFacts.antt` are of definitions whose calls the rows run.
 #![tactic(auto)]
 
 #[cfg(test)]
-mod lines;
-#[cfg(test)]
-mod show;
-#[cfg(test)]
 mod talk;
-#[cfg(test)]
-mod text;
-#[cfg(test)]
-mod world;

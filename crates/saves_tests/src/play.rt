@@ -1,19 +1,15 @@
-//! Games of the Echo story, and what they show once they are warmed.
+//! Games of the Echo story, and the snapshots of a session.
 
-ghost use Rattle.std.specs.Prelude.{◌≡◌, ◌≤◌, length};
-
-use disk_model::{Disk, MemDisk};
+use disk_model::MemDisk;
 use gate_journal::Command;
 use line_words::Key;
 use session_core::world_of;
 use session_saves::{Missed, Saves};
 use snap_store::{Store, make};
 use std::alloc::{AllocError, Global};
-use std::marker::Brand;
-use std::sync::ledger::{Blank, Ledger};
 use std::test::*;
 use story_make::echo_story;
-use story_run::{Steps, Story};
+use story_run::Story;
 use story_text::Text;
 
 /// The place of the OPEN row's gate, where it is the journal's first row.
@@ -90,11 +86,6 @@ pub fn made(alloc: Global, fails: u64) -> Option<Boxed> {
     opened(alloc, new_file(alloc, fails)?)
 }
 
-/// The disk of these snapshots.
-pub fn disk_of(saves: Boxed) -> MemDisk {
-    Box::into_inner(saves).into_store().into_disk()
-}
-
 /// Whether the snapshot of a game of so many inputs is given to be kept, as of the first OPEN row.
 pub fn keeps(
     alloc: Global,
@@ -123,57 +114,5 @@ fn keeps_world(
             true
         }
         _ => false,
-    }
-}
-
-fn shows_counted<L: Ledger>(
-    alloc: Global,
-    saves: &mut Boxed,
-    stories: &[Story<'_>],
-    game: &[Command],
-    place: u64,
-    wanted: &[u8],
-    blank: Blank,
-) -> bool
-    requires name { blank.name ≡ L.name }
-    requires parts { blank.parts ≡ L.parts }
-    requires one { L.parts ≡ 1 }
-    requires within { length game.now ≤ 8192 }
-{
-    let mut steps = Steps::<L>::new(blank);
-    match saves.warm(alloc, stories, place, game, &mut steps) {
-        Ok(Some(world)) => world.last() == wanted,
-        _ => false,
-    }
-}
-
-// Whether a game shows this once it is warmed.
-fn shows(
-    alloc: Global,
-    saves: &mut Boxed,
-    stories: &[Story<'_>],
-    game: &[Command],
-    place: u64,
-    wanted: &[u8],
-) -> bool {
-    if game.len() > 8192 {
-        return false;
-    }
-    shows_counted::<Brand>(alloc, saves, stories, game, place, wanted, Blank::new(1))
-}
-
-/// Whether a game of so many inputs, of this OPEN row, shows this once it is warmed.
-pub fn warms_to(
-    alloc: Global,
-    saves: &mut Boxed,
-    stories: &[Story<'_>; 1],
-    word: &[u8],
-    count: usize,
-    place: u64,
-    wanted: &[u8],
-) -> bool {
-    match game(alloc, &stories[0], word, count) {
-        Ok(game) => shows(alloc, saves, stories, &game, place, wanted),
-        Err(_) => false,
     }
 }

@@ -2,6 +2,7 @@ use Rattle.std.proofs.Common.{◌⊎◌, inl, inr, [], ◌∷◌, ◌+◌, ◌++
 use Rattle.disk_model.specs.Disk.{Holds}
 use Rattle.disk_model.proofs.Moments.{holds_now, weaker}
 use Rattle.disk_model.proofs.WorkLaws.{through, then_, looser, failed}
+use Rattle.disk_model.proofs.CountLaws.{good_then, failed_then}
 use Rattle.gate_journal.specs.Gate.{IsShut, IsUnsure}
 use Rattle.gate_journal.proofs.Steps.{shut_torn, shut_written, unsure_torn, unsure_opened}
 use Rattle.gate_journal.proofs.gate.write_row.Goals as goal
@@ -79,3 +80,23 @@ returns-clause-triple g c front is =
     (through c.args.gate (1 ∷ []) _ (g.met.D.Disk.seen_may_stay c.write_through.new.disk)
     c.in-Ok-write_through.ensures.ok c.write_through-2.ensures.crash
     (unsure_torn front past c.args.gate is) (unsure_opened front past c.args.gate is)))
+
+-- the device calls: the first two are of the row, the next two of its gate
+pub returns-in_default-clause-row_failed : goal.returns-in_default-clause-row_failed
+returns-in_default-clause-row_failed g c is_before told = c.in_default.ensures.calls told
+
+pub returns-in_default-write_through-clause-gate_failed :
+    goal.returns-in_default-write_through-clause-gate_failed
+returns-in_default-write_through-clause-gate_failed g c is_at told =
+    let told_then = rw (← c.write_through.ensures.kept.telling) at told in
+    let at = c.in_default-write_through.ensures.calls told_then in (
+      at.0,
+      at.1,
+      failed_then 2 at.0 _ _ (c.in-Ok.ensures.calls told) c.write_through.ensures.kept.size
+          (omega arith) at.2,
+    )
+
+pub returns-clause-calls : goal.returns-clause-calls
+returns-clause-calls g c told =
+    let told_then = rw (← c.write_through.ensures.kept.telling) at told in
+    good_then 2 2 (c.in-Ok.ensures.calls told) (c.in-Ok-write_through.ensures.calls told_then)

@@ -7,6 +7,8 @@ use Rattle.gate_journal.proofs.AppendLemmas.{faulted_rows, kept_rows, crash_repa
 use Rattle.gate_journal.proofs.AppendLemmas.{crash_row, sound_unrepaired}
 use Rattle.gate_journal.proofs.AppendLemmas.{sound_before, sound_at_gate, sound_row}
 use Rattle.gate_journal.proofs.SinceLemmas.{since_more, asked_row, same_then}
+use Rattle.gate_journal.proofs.SinceLemmas.{unsure_still, unsure_now, unsure_none}
+use Rattle.gate_journal.proofs.StageLemmas.{stage_repair, stage_row, stage_gate, calls_row}
 use Rattle.gate_journal.proofs.journal.Journal.append.Goals as goal
 
 -- the repair failed
@@ -29,7 +31,9 @@ invariant_of-self g c =
           c.note_fault.ensures.entry c.settle.ensures.ran.same.size c.faults-from.ensures.value
           c.faults-to.ensures.value refl c.in_default.ensures.ran.counts,
       since_more c.self.view_is c.self.invariant.1 c.requires.stands _ _ c.note_fault.ensures.entry
-          (omega (arith, c.from-by.ensures)) c.settle.ensures.ran.same
+          (omega (arith, c.from-by.ensures))
+          (unsure_still c.self.view_is c.self.invariant.1 c.requires.stands _ _ _
+          c.note_fault.ensures.entry c.in_default.ensures.gate) c.settle.ensures.ran.same
           (returns-in_default-clause-crash g c)
           (omega (arith, sound.ends, c.settle.ensures.ran.asked)),
     )
@@ -61,6 +65,7 @@ invariant_of-self-in-Ok-write_row g c =
           (omega (arith, c.in-Ok-write_row.ensures.fits, c.write_row.ensures.ran.same.size, size)),
       since_more c.self.view_is c.self.invariant.1 c.requires.stands _ _ c.note_row.ensures
           (ap (λ (q : Row). q.by) c.fill-row.ensures.row)
+          (unsure_none _ c.in-Ok.ensures.gate)
           (same_then c.settle.ensures.ran.same c.write_row.ensures.ran.same)
           (returns-in-Ok-write_row-clause-crash g c)
           (asked_row c.self.view_is c.self.invariant.1 c.requires.stands _ _ _ _
@@ -91,6 +96,7 @@ invariant_of-self-in-Err-Before g c = (
       c.in-Err-Before.ensures.ran.counts,
   since_more c.self.view_is c.self.invariant.1 c.requires.stands _ _
       c.note_fault-in-Err-Before.ensures.entry (omega (arith, c.from-by.ensures))
+      (unsure_none _ c.in-Ok.ensures.gate)
       (same_then c.settle.ensures.ran.same c.write_row.ensures.ran.same)
       (returns-in-Err-Before-clause-crash g c)
       (asked_row c.self.view_is c.self.invariant.1 c.requires.stands _ _ _ _ c.self.invariant.0.ends
@@ -121,6 +127,9 @@ invariant_of-self-in-Err-AtGate g c = (
       c.in-Err-AtGate.ensures.ran.counts,
   since_more c.self.view_is c.self.invariant.1 c.requires.stands _ _
       c.note_fault-in-Err-AtGate.ensures.entry (omega (arith, c.from-by.ensures))
+      (unsure_now c.self.view_is c.self.invariant.1 c.requires.stands c.fill-row.result.0 _ _ _
+      c.note_fault-in-Err-AtGate.ensures.entry c.note_uncertain.ensures
+      (omega (arith, c.from-by.ensures, ap (λ (q : Row). q.by) c.fill-row.ensures.row)))
       (same_then c.settle.ensures.ran.same c.write_row.ensures.ran.same)
       (crash_row c.self.view_is c.self.invariant.0 c.requires.stands c.in-Ok.ensures.triple
       c.settle.ensures.ran.same.telling c.fill-row.ensures.row
@@ -129,3 +138,33 @@ invariant_of-self-in-Err-AtGate g c = (
       c.fill-row.ensures.row (c.deref.ensures.value ∙ c.fill-row.ensures.bytes)
       c.settle.ensures.ran.asked c.write_row.ensures.ran.asked),
 )
+
+-- which device call failed
+pub returns-in_default-clause-stage : goal.returns-in_default-clause-stage
+returns-in_default-clause-stage g c =
+    stage_repair g.D.Disk.tells g.D.Disk.fails_at g.D.Disk.moment g.D.Disk.room c.args.session
+    c.args.command.now c.self.view_is c.self.invariant.0.ends c.in_default.ensures.calls
+    c.in_default.ensures.gate
+
+pub returns-in-Err-Before-clause-stage : goal.returns-in-Err-Before-clause-stage
+returns-in-Err-Before-clause-stage g c =
+    stage_row g.D.Disk.tells g.D.Disk.fails_at g.D.Disk.moment g.D.Disk.room c.args.session
+    c.args.command.now c.self.view_is c.self.invariant.0.ends c.in-Ok.ensures.calls
+    c.settle.ensures.ran.same.telling c.settle.ensures.ran.same.size c.fill-row.ensures.row
+    (c.deref.ensures.value ∙ c.fill-row.ensures.bytes)
+    (c.in-Err-Before.ensures.row_failed (search rules)) c.in-Ok.ensures.gate
+
+pub returns-clause-stage : goal.returns-clause-stage
+returns-clause-stage g c =
+    stage_gate g.D.Disk.tells g.D.Disk.fails_at g.D.Disk.moment g.D.Disk.room c.args.session
+    c.args.command.now c.self.view_is c.self.invariant.0.ends c.in-Ok.ensures.calls
+    c.settle.ensures.ran.same.telling c.settle.ensures.ran.same.size c.fill-row.ensures.row
+    (c.deref.ensures.value ∙ c.fill-row.ensures.bytes)
+    (c.in-Err-AtGate.ensures.gate_failed (search rules)) c.note_uncertain.ensures
+
+pub returns-in-Ok-write_row-clause-calls : goal.returns-in-Ok-write_row-clause-calls
+returns-in-Ok-write_row-clause-calls g c =
+    calls_row g.D.Disk.tells g.D.Disk.fails_at g.D.Disk.moment g.D.Disk.room c.args.session
+    c.args.command.now c.self.view_is c.self.invariant.0.ends c.in-Ok.ensures.calls
+    c.settle.ensures.ran.same.telling c.settle.ensures.ran.same.size c.fill-row.ensures.row
+    (c.deref.ensures.value ∙ c.fill-row.ensures.bytes) c.in-Ok-write_row.ensures.calls

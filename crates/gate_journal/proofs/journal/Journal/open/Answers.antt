@@ -1,7 +1,8 @@
 use Rattle.std.proofs.Common.{ℕ, ◌∙◌, ap, arith}
 use Rattle.std.specs.Prelude.{slice_index}
 use Rattle.gate_journal.specs.Log.{rows_of}
-use Rattle.gate_journal.proofs.LogLemmas.{rises-all}
+use Rattle.gate_journal.proofs.LogLemmas.{rises-all, stands_well}
+use Rattle.gate_journal.proofs.StopLemmas.{found_in}
 use Rattle.gate_journal.proofs.SinceLemmas.{since_begun}
 use Rattle.gate_journal.proofs.journal.Journal.open.Goals as goal
 
@@ -29,3 +30,15 @@ pub returns-clause-untouched : goal.returns-clause-untouched
 returns-clause-untouched g c told closed =
     c.in-Ok.ensures.untouched told
     (ap (λ (k : ℕ). slice_index (g.D.Disk.seen c.args.disk) k) c.in-Ok.ensures.journal.1 ∙ closed)
+
+pub returns-clause-stands : goal.returns-clause-stands
+returns-clause-stands g c rows u all next each told =
+    let seen = g.D.Disk.seen c.args.disk in (
+      c.load.ensures.stands rows u all next each told,
+      found_in rows u (rows_of c.in-Ok.parsed.history.list) seen
+          (stands_well rows u seen all next (each told seen (g.met.D.Disk.seen_may_stay _)))
+          (c.in-Ok.ensures.ok told),
+    )
+
+pub returns-clause-calls : goal.returns-clause-calls
+returns-clause-calls g c told = rw (← c.in-Ok.ensures.journal.1) (c.in-Ok.ensures.calls told)

@@ -1,0 +1,204 @@
+-- Laws of device calls that are counted: one, and one piece of work after another.
+use Rattle.std.proofs.Common.{◌≡◌, ◌⊎◌, inl, inr, ℕ, ◌+◌, ◌-◌, ◌<◌, ◌≤◌, Bool, arith, refl, ◌∙◌}
+use Rattle.std.specs.Prelude.{IsTrue}
+use Rattle.std.proofs.lemmas.Bool.{cases_lt}
+use Rattle.disk_model.specs.Work.{GoodCalls, FailedCall}
+
+module _ {D : Type 0} {fails_at : D → ℕ → Bool} {moment : D → ℕ} where
+  -- no call
+  pub good_none : (d : D) → GoodCalls fails_at moment 0 d d
+  good_none d = record {
+    clock = omega arith;
+    unlisted = λ k lt. absurd (omega (arith, lt));
+    list = refl;
+  }
+
+  -- the same moments, said of the disk before
+  moved :
+      {old mid : D} {n j : ℕ} (k : ℕ) → GoodCalls fails_at moment n old mid → j ≡ n + k
+      → IsTrue (fails_at old (moment old + j)) → IsTrue (fails_at mid (moment mid + k))
+  moved {old} {mid} {n} {j} k good is told =
+      let same : moment mid + k ≡ moment old + j = omega (arith, good.clock, is) in
+      rw (same, good.list) told
+
+  pub moved_back :
+      {old mid : D} {n j : ℕ} (k : ℕ) → GoodCalls fails_at moment n old mid → j ≡ n + k
+      → IsTrue (fails_at mid (moment mid + k)) → IsTrue (fails_at old (moment old + j))
+  moved_back {old} {mid} {n} {j} k good is told =
+      let same : moment mid + k ≡ moment old + j = omega (arith, good.clock, is) in
+      rw (same, good.list) at told
+
+  none_in_front :
+      {old mid : D} {n m : ℕ} → GoodCalls fails_at moment n old mid
+      → ((k : ℕ) → k < m → IsTrue (fails_at mid (moment mid + k)) → ⊥)
+      → (k : ℕ) → k < n + m → IsTrue (fails_at old (moment old + k)) → ⊥
+  none_in_front {old} {mid} {n} {m} good none k lt told = elim (cases_lt k n) [
+    | inl first ↦ good.unlisted k first told
+    | inr later ↦
+        none (k - n) (omega (arith, lt, later)) (moved (k - n) good (omega (arith, later)) told)
+  ]
+
+  -- good ones behind good ones
+  pub good_then :
+      {old mid new : D} (n m : ℕ) → GoodCalls fails_at moment n old mid
+      → GoodCalls fails_at moment m mid new → GoodCalls fails_at moment (n + m) old new
+  good_then n m first second = record {
+    clock = omega (arith, first.clock, second.clock);
+    unlisted = none_in_front first second.unlisted;
+    list = second.list ∙ first.list;
+  }
+
+  -- one call that was good
+  pub good_one :
+      {old new : D} → (IsTrue (fails_at old (moment old)) → ⊥) → moment new ≡ moment old + 1
+      → fails_at new ≡ fails_at old → GoodCalls fails_at moment 1 old new
+  good_one {old} none clock list = record {
+    clock = clock;
+    unlisted = λ k lt told.
+        let here : moment old + k ≡ moment old = omega (arith, lt) in
+        none (rw here at told);
+    list = list;
+  }
+
+  -- as its answer says
+  pub answered :
+      {E F : Type 0} {old new : D} → (E → ⊥)
+      → (IsTrue (fails_at old (moment old)) → E)
+      → (moment new ≡ moment old + 1) ⊎ (E × F)
+      → fails_at new ≡ fails_at old → GoodCalls fails_at moment 1 old new
+  answered never err (inl clock) list = good_one (λ told. never (err told)) clock list
+  answered never err (inr found) list = absurd (never found.0)
+
+module _ {D : Type 0} {fails_at : D → ℕ → Bool} {moment room : D → ℕ} where
+  -- one that failed behind good ones
+  pub failed_then :
+      {old mid new : D} (n k end far : ℕ) → GoodCalls fails_at moment n old mid
+      → room mid ≡ room old → end ≤ far
+      → FailedCall fails_at moment room end k mid new
+      → FailedCall fails_at moment room far (n + k) old new
+  failed_then {old} {mid} {new} n k end far good same le fault = record {
+    unlisted = none_in_front good fault.unlisted;
+    failed = go fault.failed;
+    list = fault.list ∙ good.list;
+  }
+    where
+      why :
+          IsTrue (fails_at mid (moment mid + k)) ⊎ (room mid < end)
+          → IsTrue (fails_at old (moment old + (n + k))) ⊎ (room old < far)
+      why (inl listed) = inl (moved_back k good refl listed)
+      why (inr full) = inr (omega (arith, full, same, le))
+
+      go :
+          (moment new ≡ moment mid + k)
+          ⊎ ((moment new ≡ moment mid + k + 1)
+          × (IsTrue (fails_at mid (moment mid + k)) ⊎ (room mid < end)))
+          → (moment new ≡ moment old + (n + k))
+          ⊎ ((moment new ≡ moment old + (n + k) + 1)
+          × (IsTrue (fails_at old (moment old + (n + k))) ⊎ (room old < far)))
+      go (inl none) = inl (omega (arith, none, good.clock))
+      go (inr counted) = inr (omega (arith, counted.0, good.clock), why counted.1)
+
+  -- with an end that is farther
+  pub failed_farther :
+      {old new : D} {k end far : ℕ} → end ≤ far → FailedCall fails_at moment room end k old new
+      → FailedCall fails_at moment room far k old new
+  failed_farther {old} {new} {k} {end} {far} le fault = record {
+    unlisted = fault.unlisted;
+    failed = go fault.failed;
+    list = fault.list;
+  }
+    where
+      go :
+          (moment new ≡ moment old + k)
+          ⊎ ((moment new ≡ moment old + k + 1)
+          × (IsTrue (fails_at old (moment old + k)) ⊎ (room old < end)))
+          → (moment new ≡ moment old + k)
+          ⊎ ((moment new ≡ moment old + k + 1)
+          × (IsTrue (fails_at old (moment old + k)) ⊎ (room old < far)))
+      go (inl none) = inl none
+      go (inr (clock, inl listed)) = inr (clock, inl listed)
+      go (inr (clock, inr full)) = inr (clock, inr (omega (arith, full, le)))
+
+  -- within the room, one that failed was to fail or found no memory
+  pub failed_within :
+      {old new : D} {k end : ℕ} → end ≤ room old → FailedCall fails_at moment room end k old new
+      → FailedCall fails_at moment room 0 k old new
+  failed_within {old} {new} {k} {end} le fault = record {
+    unlisted = fault.unlisted;
+    failed = go fault.failed;
+    list = fault.list;
+  }
+    where
+      go :
+          (moment new ≡ moment old + k)
+          ⊎ ((moment new ≡ moment old + k + 1)
+          × (IsTrue (fails_at old (moment old + k)) ⊎ (room old < end)))
+          → (moment new ≡ moment old + k)
+          ⊎ ((moment new ≡ moment old + k + 1)
+          × (IsTrue (fails_at old (moment old + k)) ⊎ (room old < 0)))
+      go (inl none) = inl none
+      go (inr (clock, inl listed)) = inr (clock, inl listed)
+      go (inr (clock, inr full)) = absurd (omega (arith, full, le))
+
+  -- Where this is the first that was to fail, it is the one that failed, or none up to it found
+  -- memory.
+  pub first_listed :
+      {old new : D} {k end : ℕ} (j : ℕ) → end ≤ room old
+      → ((i : ℕ) → i < j → IsTrue (fails_at old (moment old + i)) → ⊥)
+      → IsTrue (fails_at old (moment old + j)) → FailedCall fails_at moment room end k old new
+      → ((k ≡ j) × (moment new ≡ moment old + j + 1))
+      ⊎ ((moment new ≡ moment old + k) × (k ≤ j))
+  first_listed {old} {new} {k} {end} j le none listed fault = elim (cases_lt j k) [
+    | inl past ↦ absurd (fault.unlisted j past listed)
+    | inr upto ↦ go upto fault.failed
+  ]
+    where
+      go :
+          k ≤ j
+          → (moment new ≡ moment old + k)
+          ⊎ ((moment new ≡ moment old + k + 1)
+          × (IsTrue (fails_at old (moment old + k)) ⊎ (room old < end)))
+          → ((k ≡ j) × (moment new ≡ moment old + j + 1))
+          ⊎ ((moment new ≡ moment old + k) × (k ≤ j))
+      go upto (inl found) = inr (found, upto)
+      go upto (inr (clock, inr full)) = absurd (omega (arith, full, le))
+      go upto (inr (clock, inl told)) = elim (cases_lt k j) [
+        | inl early ↦ absurd (none k early told)
+        | inr late ↦
+            let same : k ≡ j = omega (arith, upto, late) in
+            inl (same, omega (arith, clock, same))
+      ]
+
+  -- one call that failed
+  pub failed_one :
+      {old new : D} (end : ℕ)
+      → (moment new ≡ moment old)
+      ⊎ ((moment new ≡ moment old + 1) × (IsTrue (fails_at old (moment old)) ⊎ (room old < end)))
+      → fails_at new ≡ fails_at old → FailedCall fails_at moment room end 0 old new
+  failed_one {old} {new} end why list = record {
+    unlisted = λ j lt. absurd (omega (arith, lt));
+    failed = go why;
+    list = list;
+  }
+    where
+      go :
+          (moment new ≡ moment old)
+          ⊎ ((moment new ≡ moment old + 1) × (IsTrue (fails_at old (moment old)) ⊎ (room old < end)))
+          → (moment new ≡ moment old + 0)
+          ⊎ ((moment new ≡ moment old + 0 + 1)
+          × (IsTrue (fails_at old (moment old + 0)) ⊎ (room old < end)))
+      go (inl none) = inl (omega (arith, none))
+      go (inr (clock, inl listed)) =
+          let here : moment old + 0 ≡ moment old = omega arith in
+          inr (omega (arith, clock), inl (rw here listed))
+      go (inr (clock, inr full)) = inr (omega (arith, clock), inr full)
+
+  -- as its answer says
+  pub refused :
+      {E F : Type 0} {old new : D} (end : ℕ) → (F → moment new ≡ moment old)
+      → F ⊎ IsTrue (fails_at old (moment old)) ⊎ (room old < end)
+      → (moment new ≡ moment old + 1) ⊎ (E × F)
+      → fails_at new ≡ fails_at old → FailedCall fails_at moment room end 0 old new
+  refused end none (inl found) clock list = failed_one end (inl (none found)) list
+  refused end none (inr why) (inl counted) list = failed_one end (inr (counted, why)) list
+  refused end none (inr why) (inr found) list = failed_one end (inl (none found.1)) list
