@@ -55,13 +55,16 @@ class Page:
         words.binary_location = "/usr/bin/chromium"
         service = webdriver.chrome.service.Service("/usr/bin/chromedriver")
         self.driver = webdriver.Chrome(service=service, options=words)
-        if dark:
-            self.cdp("Emulation.setEmulatedMedia", features=[{"name": "prefers-color-scheme", "value": "dark"}])
+        self.dark(dark)
         self.resize(size)
         self.driver.get(address)
 
     def cdp(self, name, **parts):
         return self.driver.execute_cdp_cmd(name, parts)
+
+    def dark(self, is_dark):
+        value = "dark" if is_dark else "light"
+        self.cdp("Emulation.setEmulatedMedia", features=[{"name": "prefers-color-scheme", "value": value}])
 
     def resize(self, size):
         self.cdp("Emulation.setDeviceMetricsOverride", width=size[0], height=size[1], deviceScaleFactor=1, mobile=False)
@@ -201,6 +204,15 @@ def see(second, game):
     return "saw each move that was looked for"
 
 
+def by_keyboard(page):
+    """Begins the game by the keyboard alone."""
+    for _ in range(12):
+        if page.driver.switch_to.active_element.get_attribute("id") == "begin-key":
+            return page.type("anna7" + Keys.RETURN)
+        page.type(Keys.TAB)
+    raise Otherwise("the field for a key isn't reached by the keyboard")
+
+
 def play(address, host, gateway, story, program, pictures):
     page = Page(address, LARGE)
     try:
@@ -213,7 +225,7 @@ def play_in(page, address, host, gateway, story, program, pictures):
     page.wait("the menu has its stories", lambda: page.driver.execute_script("return !!document.getElementById('begin-story').value"))
     page.picture(pictures, "menu")
     run = Run(str(story), str(program))
-    page.submit("begin", key="anna7")
+    by_keyboard(page)
     page.wait("the story is begun", page.is_ready)
     game = Game(page, run)
     game.look("begin")
@@ -248,6 +260,9 @@ def play_in(page, address, host, gateway, story, program, pictures):
             meanwhile = stop_host
         if at == 30:
             resized(page, MIDDLE)
+            page.dark(True)
+            page.picture(pictures, "middle")
+            page.dark(False)
         if at == 34:
             gateway.kill()
             time.sleep(0.5)
