@@ -2,6 +2,7 @@
 ways to spoil a snapshot file by hand. The drills, stories/play.py and stories/keeper.py read by it."""
 
 import collections
+import os
 import struct
 
 SESSIONS = 64
@@ -134,6 +135,20 @@ def games_of(folder):
     return games
 
 
+def without_last(journal, session, moves):
+    """The journal's bytes without the last moves of a session's game; none where it hasn't so many."""
+    rows = list(rows_of(journal))
+    inputs = []
+    for at, row in enumerate(rows):
+        if row.session == session:
+            inputs = [] if row.kind in (OPEN, CLOSE) else [*inputs, at]
+    if not 1 <= moves <= len(inputs):
+        return None
+    gone = set(inputs[-moves:])
+    kept = [journal[row.place : row.place + 5 + len(row.payload)] for at, row in enumerate(rows) if at not in gone]
+    return JOURNAL_HEADER + b"".join(kept) + b"\0"
+
+
 def snapshot_file(folder, session):
     return folder / f"snap{session:02}"
 
@@ -170,6 +185,8 @@ def write_at(path, place, piece):
     with open(path, "r+b") as file:
         file.seek(place)
         file.write(piece)
+        file.flush()
+        os.fsync(file.fileno())
 
 
 def close_area(draw, path, area):
@@ -182,6 +199,21 @@ def tear_area(draw, path, area):
     size = 16 + area.length
     first = draw.randrange(size)
     write_at(path, STARTS[area.side] + first, draw.randbytes(draw.randint(1, size - first)))
+
+
+def take_back(folder, session):
+    """Takes the last row of a journal away, where it is a move of this session: its gate is shut, and before that the
+    gate of a snapshot behind it. Says whether it was so."""
+    rows = list(rows_of(journal_of(folder)))
+    if not rows or rows[-1].session != session or rows[-1].kind in (OPEN, CLOSE):
+        return False
+    inputs = games_of(folder)[session].inputs
+    path = snapshot_file(folder, session)
+    for area in areas_of(folder, session) if path.exists() else ():
+        if area.is_open and area.count >= inputs:
+            write_at(path, 8 + area.side, b"\0")
+    write_at(folder / "journal", rows[-1].place, b"\0")
+    return True
 
 
 def cut_area(draw, path, area):

@@ -122,6 +122,9 @@ class Player(threading.Thread):
 
 def many_players(room):
     host = Host(room / "many", COTTAGE).start()
+    words = [sys.executable, STORIES / "keeper.py", "watch", host.folder]
+    watch = subprocess.Popen(words, stdout=subprocess.PIPE, text=True)
+    want("keeper.py watches", "watching" in watch.stdout.readline())
     try:
         players, copies = [Player(host, number) for number in range(PLAYERS)], []
         for player in players:
@@ -138,8 +141,17 @@ def many_players(room):
         taken = script("keeper.py", "close", host.folder, "9", f"127.0.0.1:{host.port}")
         want("keeper.py closes a game", "session 9 is closed" in taken.stdout, taken.stdout + taken.stderr)
         want("and it is gone", 9 not in files.games_of(host.folder))
+        seen = ""
+        while "session 9 (k9) is closed" not in seen:
+            line = watch.stdout.readline()
+            want("keeper.py watches on", line, seen)
+            seen += line
+        for words in "session 63 (k63) begins story 0", f"session 5 (k5) has its move {MOVES}":
+            want("keeper.py watch tells each command", words in seen, words)
     finally:
         host.kill()
+        watch.kill()
+        watch.wait()
     draw = random.Random(1)
     chosen = [copies[0], *draw.sample(copies[1:], min(4, len(copies) - 1))]
     for at, (before, journal, behind) in enumerate(chosen):
@@ -190,6 +202,14 @@ def keeper(room):
     host = ran(PROGRAM, "pipe", room / "mended", COTTAGE, input="LAST 0 k0\n")
     want("the copy is a host's folder", host.returncode == 0 and host.stdout.startswith("SHOW 0 "), host.stdout[:80])
     want("and has what stood before", len(list(files.rows_of(files.journal_of(room / "mended")))) == len(rows) - 40)
+    moves = {number: game.inputs for number, game in files.games_of(room / "mended").items()}
+    number = max(moves, key=moves.get)
+    done = script("keeper.py", "back", room / "mended", number, "2", room / "back")
+    want("moves are taken back", done.returncode == 0, done.stdout + done.stderr)
+    left = {number: game.inputs for number, game in files.games_of(room / "back").items()}
+    want("of that game alone", left == {**moves, number: moves[number] - 2}, str(left))
+    host = ran(PROGRAM, "pipe", room / "back", COTTAGE, input=f"LAST {number} k{number}\n")
+    want("and it goes on", host.stdout.startswith(f"SHOW {number} {moves[number] - 2}\n"), host.stdout[:80])
 
 
 # The small client.
@@ -314,7 +334,12 @@ def played_alone(room):
         terminal.type("", "Enter")
         terminal.wait(r">restore\nOk\.", "a file of yesterday")
         terminal.move("quit", "Are you sure")
-        terminal.move("yes", "the story is over. N begins a new game")
+        terminal.move("yes", "the story is over. B takes the last move back, N begins a new game")
+        terminal.type("b")
+        terminal.wait("the last move is taken back", "a move that is taken back")
+        terminal.move("no", r"no\n\n>")
+        terminal.move("quit", "Are you sure")
+        terminal.move("yes", "the story is over. B takes")
         terminal.type("n")
         terminal.wait(r"THE WELL HOUSE.*\n>", "a new game")
         terminal.type("", "C-c")
@@ -328,7 +353,7 @@ def told_of_ends(room):
     terminal = Terminal(room, sys.executable, STORIES / "play.py", MILL, "--unkept")
     try:
         terminal.wait(r"\n>", "the opening")
-        terminal.move("count 100000", r"the story failed: one turn took too\s+long. N begins a new game")
+        terminal.move("count 100000", r"the story failed: one turn took too\s+long. B takes the last move back")
         terminal.type("", "Enter")
         terminal.wait("status 0", "Return at the end")
     finally:

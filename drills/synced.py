@@ -9,7 +9,7 @@ stand four calls on the journal's own descriptor, each of which had ended well: 
 gate, a sync, a write of the gate alone, a sync; a repeat makes none. A put makes its calls in order on the
 snapshot file's own descriptor: a zero to the gate unless it is closed, a sync, the area's first 16 bytes,
 the others, a sync, the gate, a sync. The listener of `serve` is at 127.0.0.1. It ends with 1 where something
-is otherwise, and says so and ends with 0 where `strace` isn't there."""
+is otherwise, and says so and ends with 0 where `strace` isn't there or may not trace."""
 
 import argparse
 import collections
@@ -249,12 +249,20 @@ def check_serve(program, root, story, folder):
         raise Otherwise(f"serve listens at {[call.words for call in bound]}")
 
 
+def may_trace():
+    """Whether `strace` is there and the system lets it trace."""
+    if not shutil.which("strace"):
+        return False
+    tried = subprocess.run(["strace", "-f", "-o", os.devnull, "true"], capture_output=True)
+    return tried.returncode == 0
+
+
 def main():
     words = argparse.ArgumentParser(description=__doc__.splitlines()[0])
     words.add_argument("--program", type=pathlib.Path, default=crash.PROGRAM)
     program = words.parse_args().program.resolve()
-    if not shutil.which("strace"):
-        print("strace isn't here, so drills/synced.py was NOT run")
+    if not may_trace():
+        print("strace isn't here, or may not trace, so drills/synced.py was NOT run")
         return 0
     folder = pathlib.Path(tempfile.mkdtemp()).resolve()
     try:

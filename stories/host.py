@@ -46,9 +46,18 @@ FAULTS = (
     "a window, a stream or a file that isn't there", "a call with words that can't be",
     "too much was printed in one turn", "one turn took too long",
 )
+# Why a story file is refused, by the words and the number of a `bad` line.
+BAD_STORIES = {
+    "image 1": "it is too short for a story", "image 2": "it is no Glulx story",
+    "image 3": "it is of a version of Glulx that isn't played", "image 4": "its header makes no sense",
+    "image 5": "it wants more than 16 MiB of memory, or 1 MiB of stack", "blorb 1": "it is no Blorb container",
+    "blorb 2": "it is a container that was cut", "blorb 3": "it is a container without a story",
+    "blorb 4": "it is a container of another kind of story",
+}
 # The usages and modes of a file prompt.
 USAGES = {0: "data", 1: "saved game", 2: "transcript", 3: "commands"}
-READ, WRITE = 2, 1
+SAVED_GAME = 1
+WRITE, READ = 1, 2
 GREATEST = 0xFFFFFFFF       # the greatest number of a command
 SLOW = 3                    # seconds, after which a player is told that the host hasn't answered
 # In the main window's text: what was printed in that turn before it was cleared isn't shown.
@@ -92,6 +101,19 @@ def refused(reply):
     """The words of a refusal."""
     text = REFUSALS.get(code_of(reply))
     return f"{text} ({reply})" if text else reply
+
+
+def bad_words(said, story):
+    """The words for what the program says of a story file that it doesn't take, or of a journal."""
+    word, _, rest = said.partition(" ")
+    why = BAD_STORIES.get(rest.partition(" ")[2]) if word == "bad" else None
+    if not why:
+        return said
+    with open(story, "rb") as file:
+        first = file.read(4)
+    if first and 1 <= first[0] <= 8:
+        why = f"it is a story for the Z-machine, version {first[0]}, and only Glulx is played"
+    return f"{story}: {why} ({said})"
 
 
 def code_of(reply):
@@ -212,6 +234,14 @@ class Game:
         """The usage and the mode of a file prompt."""
         return int(self.wait()[1]) & 15, int(self.wait()[2])
 
+    def prompt_words(self):
+        """What a file prompt asks for."""
+        usage, mode = self.prompt()
+        if usage == SAVED_GAME:
+            return "Restore which saved game?" if mode == READ else "Save the game under which name?"
+        named = USAGES.get(usage, "file")
+        return f"Read which file of {named}?" if mode == READ else f"Write the {named} to which file?"
+
     def begun(self):
         """The line that the story began for the player, where a line is wanted."""
         return unescaped(self.wait()[4]) if self.wanted()[0] == "line" else ""
@@ -262,7 +292,7 @@ class Host(Game):
     def __init__(self, story, program=HOST, budget=None, shows=None):
         super().__init__(shows)
         words = [program, "run", story] + (["--budget", str(budget)] if budget else [])
-        self.process, self.usage = launched(words), None
+        self.story, self.process, self.usage = story, launched(words), None
         self.read()
 
     def put(self, word, rest):
@@ -279,7 +309,7 @@ class Host(Game):
         lines = reply_of(self.process.stdout)
         if lines is None or lines[0].startswith(("bad ", "not ")):
             self.finish()
-            said = self.process.stderr.read().decode().strip()
+            said = f"play.py: {bad_words(lines[0], self.story)}" if lines else self.process.stderr.read().decode().strip()
             raise SystemExit(said or f"play.py: the host ended with status {self.process.returncode}")
         self.told(lines)
         if lines[0].startswith("NO "):
@@ -305,7 +335,8 @@ class Session(Game):
         self.count = None       # of the commands that were accepted, where the game was seen
 
     def play_on(self, story, seed, size):
-        """Shows what the story said last; where the session is free, opens it. Says whether it did so."""
+        """Shows what the story said last; where the session is free, opens it. Says whether it did so. (A host that
+        tells earlier turns would be asked for them here.)"""
         refusal = self.look()
         if refusal == "NO 2":
             self.must(self.ask(f"OPEN {self.number} {self.key} {story} {seed} {size[0]} {size[1]}"))
@@ -338,6 +369,16 @@ class Session(Game):
             return True     # It was kept all the same, and its show is there now.
         self.note = f"[not taken: {refused(refusal)}]"
         return False
+
+    def back(self):
+        """Takes the last move back, on a folder of this program's own: it goes on from its journal without that."""
+        folder = self.link.folder
+        self.finish()
+        if not files.take_back(folder, self.number):
+            raise SystemExit("play.py: there is no move to take back")
+        self.windows, self.main, self.count = {}, None, None
+        self.must(self.look())
+        self.note = "[the last move is taken back]"
 
     def close(self):
         """Ends the game of the session, and frees its number."""
@@ -431,8 +472,9 @@ class Pipe:
         said = said or process.stdout.read().decode().strip()
         if process.wait() > 0:
             cause = process.stderr.read().decode().strip()
-            more = f"\nplay.py: `keeper.py {self.folder}` says more" if said.startswith("bad journal") else ""
-            raise SystemExit((f"play.py: the host says: {said}\n{cause}" if said else cause) + more)
+            if said.startswith("bad journal"):
+                raise SystemExit(f"play.py: {self.folder}: {said}. `keeper.py {self.folder}` says more")
+            raise SystemExit(f"play.py: {bad_words(said, self.words[3])}" if said else cause)
 
 
 class Address:

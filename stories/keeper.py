@@ -4,12 +4,15 @@
 usage: keeper.py DIR [STORY ..] [--host PROGRAM]    the sessions: number, key, story, moves, how far; with story
                                                     files also which they are, and whether each game is over
        keeper.py wants DIR FILE ..                  which of some files the folder's journal wants, and in what order
+       keeper.py watch DIR                          tells each command that a host keeps there from now on, with the time
        keeper.py close DIR SESSION HOST:PORT        ends a game of a host that runs there, with the key of the journal
        keeper.py repair DIR COPY                    writes a copy of DIR without what is damaged, and says what is lost
+       keeper.py back DIR SESSION MOVES COPY        writes a copy of DIR without the last moves of a session's game, as
+                                                    where a story has failed, or its player said `quit`
 
 Listing only reads, also while a host runs. To tell whether a game is over the journal is copied, and a host of the
-copy plays it. `repair` leaves DIR as it is, wants a COPY that isn't there, and refuses while a host runs on DIR. It
-reads by docs/FORMATS.md ("The journal", "Snapshot files"), with drills/folder.py."""
+copy plays it. `repair` and `back` leave DIR as it is, want a COPY that isn't there, and refuse while a host runs on DIR.
+All reading is by docs/FORMATS.md ("The journal", "Snapshot files"), with drills/folder.py."""
 
 import argparse
 import collections
@@ -202,6 +205,35 @@ def wants(given):
     return 1 if missing or twice else 0
 
 
+def watch(given):
+    """A line for each row that is added, with its time: whose it is, and nothing of what was typed."""
+    keys, counts, told, changed = {}, {}, None, None
+    while True:
+        about = (given.dir / "journal").stat()
+        if (about.st_mtime_ns, about.st_size) == changed:
+            time.sleep(0.3)
+            continue
+        changed = about.st_mtime_ns, about.st_size
+        try:
+            rows = list(files.rows_of(journal_of(given.dir)))
+        except files.Damaged as damage:
+            raise Wrong(f"the journal is damaged: {damage}") from None
+        for row in rows[told or 0 :]:
+            if row.kind == files.OPEN:
+                opening = files.opening_of(row.payload)
+                keys[row.session], counts[row.session] = opening.key, 0
+                done = f"begins story {opening.story}"
+            else:
+                counts[row.session] += 1
+                done = "is closed" if row.kind == files.CLOSE else f"has its move {counts[row.session]}"
+            if told is not None:
+                now = time.strftime("%Y-%m-%d %H:%M:%S")
+                print(f"{now} session {row.session} ({keys[row.session]}) {done}", flush=True)
+        if told is None:
+            print(f"watching {given.dir}, which has {len(rows)} rows", flush=True)
+        told = len(rows)
+
+
 def close(given):
     games, _, _ = games_of(journal_of(given.dir))
     if given.session not in games:
@@ -243,6 +275,24 @@ def repair(given):
     return 0
 
 
+def back(given):
+    folder, copy = given.dir, given.copy
+    if copy.exists():
+        raise Wrong(f"{copy} is there already; a new name is wanted")
+    with held(folder):
+        try:
+            journal = files.without_last(journal_of(folder), given.session, given.moves)
+        except files.Damaged as damage:
+            raise Wrong(f"the journal is damaged: {damage}. `keeper.py repair` first") from None
+    if journal is None:
+        raise Wrong(f"session {given.session} hasn't {given.moves} moves")
+    Pipe(copy, "", given.host).begin_folder()
+    (copy / "journal").write_bytes(journal)
+    print(f"{copy} has all games, session {given.session} without its last {given.moves}. It has no snapshots: the first"
+          " line of each game waits for all its moves")
+    return 0
+
+
 def reset(folder, session, game):
     """Closes the areas of a snapshot file that are of no moment of this game; says how many."""
     closed = 0
@@ -257,23 +307,29 @@ def reset(folder, session, game):
 def main():
     about, _, rest = __doc__.partition("\n\nusage: ")
     usage, _, more = rest.partition("\n\n")
-    task = sys.argv[1] if len(sys.argv) > 1 and sys.argv[1] in ("wants", "close", "repair") else None
+    tasks = {"wants": wants, "watch": watch, "close": close, "repair": repair, "back": back}
+    task = sys.argv[1] if len(sys.argv) > 1 and sys.argv[1] in tasks else None
     words = argparse.ArgumentParser(usage=usage, description=about, epilog=more,
                                     formatter_class=argparse.RawDescriptionHelpFormatter)
     if task:
         words.add_argument("task")
     words.add_argument("dir", type=pathlib.Path)
-    if task == "close":
+    if task in ("close", "back"):
         words.add_argument("session", type=int)
+    if task == "close":
         words.add_argument("address")
-    elif task == "repair":
+    if task == "back":
+        words.add_argument("moves", type=int)
+    if task in ("repair", "back"):
         words.add_argument("copy", type=pathlib.Path)
-    else:
+    if task in ("wants", None):
         words.add_argument("files", nargs="+" if task else "*")
     words.add_argument("--host", default=HOST)
     given = words.parse_args()
     try:
-        return {"wants": wants, "close": close, "repair": repair, None: listed}[task](given)
+        return tasks.get(task, listed)(given)
+    except KeyboardInterrupt:
+        return 130
     except (Wrong, OSError) as cause:
         print(f"keeper.py: {cause}", file=sys.stderr)
         return 1

@@ -6,7 +6,6 @@ pub mod StateLaws
 pub mod PlainLaws
 pub mod PieceLaws
 pub mod CallLaws
-pub mod DrawLaws
 pub mod LandedLaws
 pub mod WorkLaws
 pub mod CountLaws

@@ -1,5 +1,5 @@
 -- Laws of lists of ranges: their greatest end, and the places outside them (own).
-use Rattle.std.proofs.Common.{◌≡◌, ◌⊎◌, inr, ℕ, ◌<◌, ◌≤◌, max}
+use Rattle.std.proofs.Common.{◌≡◌, ◌⊎◌, ℕ, ◌<◌, ◌≤◌, max}
 use Rattle.std.proofs.Common.{[], ◌∷◌, ◌++◌}
 use Rattle.std.proofs.Common.{refl, arith}
 use Rattle.disk_model.specs.DiskState.{Ranges, greatest_end, Untouched}
@@ -36,16 +36,3 @@ pub untouched-last :
     → Untouched i (ranges ++ r ∷ []) → (i < r.0) ⊎ (r.1 ≤ i)
 untouched-last i [] r all = all.0
 untouched-last i (x ∷ ranges) r all = untouched-last i ranges r all.1
-
--- no range has a place behind their greatest end
-pub untouched_behind :
-    (ranges : Ranges) (n i : ℕ) → greatest_end ranges n ≤ i → Untouched i ranges
-untouched_behind [] n i le = tt
-untouched_behind (x ∷ ranges) n i le =
-    (inr (omega (arith, le)), untouched_behind ranges n i (omega (arith, le)))
-
--- of a size or none
-pub greatest_end-size :
-    (ranges : Ranges) (n : ℕ) → greatest_end ranges n ≡ max (greatest_end ranges 0) n
-greatest_end-size [] n = omega arith
-greatest_end-size (x ∷ ranges) n = omega (arith, greatest_end-size ranges n)

@@ -1,7 +1,7 @@
 //! An image that a stop may leave, drawn from a number.
 
-ghost use Rattle.std.specs.Prelude.{◌≡◌, ◌≤◌, ◌<◌, ◌%◌, ◌++◌, true, false, IfOk, OnOk, length};
-ghost use Rattle.std.specs.Prelude.{drop, slice_index};
+ghost use Rattle.std.specs.Prelude.{◌≡◌, ◌≤◌, ◌<◌, ◌%◌, true, false, IfOk, length};
+ghost use Rattle.std.specs.Prelude.{slice_index};
 ghost use Rattle.disk_model.specs.DiskState.{DiskState, greatest_end, IsDiskImage, IsLanded};
 ghost use Rattle.disk_model.specs.Drawn.{keeps, written_by, IsDrawn};
 
@@ -62,17 +62,6 @@ fn image_byte(synced: &[u8], written: &[u8], choice: u64, place: u64) -> u8
     255
 }
 
-// Behind the last range nothing was written: the synced bytes stay.
-fn add_rest(image: &mut Vec<u8>, synced: &[u8]) -> Result<(), AllocError>
-    ensures { OnOk result (image.new.items
-        ≡ image.old.items ++ drop (length image.old.items) synced.now) }
-{
-    if image.len() < synced.len() {
-        image.extend_from_slice(&synced[image.len()..])?;
-    }
-    Ok(())
-}
-
 /// An image of what a sync left, what it reads as, what would have landed, and where was written
 /// since.
 pub fn draw_image(
@@ -95,11 +84,9 @@ pub fn draw_image(
 {
     let written = written_by(seen, landed, choice);
     let end = image_size(ranges, synced.len() as u64, choice);
-    let touched = last_end(ranges, 0).min(end);
     let mut image = Vec::new(alloc);
-    for place in 0..touched {
+    for place in 0..end {
         image.push(image_byte(synced, written, choice, place))?;
     }
-    add_rest(&mut image, synced)?;
     Ok(image)
 }

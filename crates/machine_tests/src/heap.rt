@@ -2,7 +2,7 @@
 
 use std::alloc::{AllocError, Global};
 use std::test::Fail;
-use vm_heap::{Block, Call, Heap, HeapFault, held_after, is_heap};
+use vm_heap::{Block, Call, Heap, held_after, is_heap};
 
 // Whether a heap behind 0x1000 answers each call so: the address of a new block, if there is room,
 // and 0 for one that is freed.
@@ -18,41 +18,6 @@ fn answers(heap: &mut Heap, rows: &[(Call, Option<u32>)]) -> Result<bool, AllocE
         }
     }
     Ok(true)
-}
-
-const TWO: &[(Call, Option<u32>)] = &[
-    (Call::Malloc(16), Some(0x1000)),
-    (Call::Malloc(32), Some(0x1010)),
-];
-
-const MORE: &[(Call, Option<u32>)] = &[
-    (Call::Free(0x1000), Some(0)),
-    (Call::Malloc(8), Some(0x1000)),
-    (Call::Malloc(8), Some(0x1008)),
-    (Call::Malloc(16_777_216), None),
-    (Call::Free(0x1008), Some(0)),
-    (Call::Free(0x1000), Some(0)),
-    (Call::Free(0x1010), Some(0)),
-];
-
-// Whether blocks stand so in a new heap, which has none in the end.
-fn are_least(heap: &mut Heap) -> Result<bool, AllocError> {
-    Ok(
-        answers(heap, TWO)?
-            && heap.end() == 0x1100
-            && answers(heap, MORE)?
-            && heap.start() == 0
-            && !heap.active()
-            && heap.end() == 0
-            && heap.free(0x1000) == Err(HeapFault::BadBlock(0x1000)),
-    )
-}
-
-#[test]
-fn blocks_stand_at_the_least_addresses(rt: HostRuntime) -> Result<(), Fail> {
-    let mut heap = Heap::new(rt.alloc());
-    assert!(rt; are_least(&mut heap)?);
-    Ok(())
 }
 
 const LOADED: [Block; 2] = [

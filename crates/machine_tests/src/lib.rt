@@ -1,19 +1,25 @@
-//! The machine's parts: what no clause says.
+//! Parts of the machine, of files and of Glk: what no clause says and no row shows.
 #![tactic(auto)]
 
 #[cfg(test)]
-mod flow;
+mod container;
 #[cfg(test)]
 mod heap;
 #[cfg(test)]
+mod input;
+#[cfg(test)]
 mod memory;
 #[cfg(test)]
-mod operand;
+mod numbers;
 #[cfg(test)]
-mod search;
+mod save;
 #[cfg(test)]
 mod stack;
 #[cfg(test)]
-mod string;
+mod state;
+#[cfg(test)]
+mod streams;
 #[cfg(test)]
 mod undo;
+#[cfg(test)]
+mod windows;

@@ -1,51 +1,41 @@
-//! The stack opcodes' and the call frame's rows, and stacks that were saved.
+//! Frames and their stubs, and stacks that were saved.
 
 use std::alloc::{AllocError, Global};
 use std::test::Fail;
 use vm_stack::{Stack, StackFault, Stub, is_chain};
 
-/// A call of a stack. Places of locals are told by their width.
+/// A call of a stack.
 #[derive(Drop)]
-pub(crate) enum Call {
+enum Call {
     Enter(&'static [u8]),
     Leave,
     Push(u32),
     Pop,
-    Peek(u32),
     Count,
-    Roll(u32, u32),
     Cut(u32),
-    Byte(u32),
-    Short(u32),
-    Word(u32),
-    SetShort(u32, u32),
     PushStub(Stub),
     TakeStub,
 }
 
 /// What a call answers.
 #[derive(Clone, Copy, PartialEq)]
-pub(crate) enum Answer {
+enum Answer {
     Done,
     Number(u32),
     Stub(Stub),
 }
 
 /// An empty stack of this size. No clause says what it is, so no proof computes with it.
-pub(crate) fn sized(alloc: Global, size: u16) -> Result<Stack, AllocError> {
+fn sized(alloc: Global, size: u16) -> Result<Stack, AllocError> {
     Stack::with_size(alloc, u32::from(size))
 }
 
-pub(crate) type Row = (Call, Result<Answer, StackFault>);
+type Row = (Call, Result<Answer, StackFault>);
 
 fn told(stack: &mut Stack, call: &Call) -> Result<Answer, StackFault> {
     let number = match call {
         Call::Pop => stack.pop()?,
-        Call::Peek(depth) => stack.peek(*depth)?,
         Call::Count => stack.count(),
-        Call::Byte(offset) => stack.local(*offset, 1)?,
-        Call::Short(offset) => stack.local(*offset, 2)?,
-        Call::Word(offset) => stack.local(*offset, 4)?,
         Call::TakeStub => return Ok(Answer::Stub(stack.take_stub()?)),
         _ => {
             change(stack, call)?;
@@ -60,9 +50,7 @@ fn change(stack: &mut Stack, call: &Call) -> Result<(), StackFault> {
         Call::Enter(format) => stack.enter(format)?,
         Call::Leave => stack.leave(),
         Call::Push(value) => stack.push(*value)?,
-        Call::Roll(count, by) => stack.roll(*count, *by)?,
         Call::Cut(to) => stack.cut(*to)?,
-        Call::SetShort(offset, value) => stack.set_local(*offset, 2, *value)?,
         Call::PushStub(stub) => stack.push_stub(*stub)?,
         _ => {}
     }
@@ -70,7 +58,7 @@ fn change(stack: &mut Stack, call: &Call) -> Result<(), StackFault> {
 }
 
 /// Whether the stack answers each call so.
-pub(crate) fn answers(stack: &mut Stack, rows: &[Row]) -> bool {
+fn answers(stack: &mut Stack, rows: &[Row]) -> bool {
     for (call, wanted) in rows {
         if told(stack, call) != *wanted {
             return false;
@@ -79,102 +67,20 @@ pub(crate) fn answers(stack: &mut Stack, rows: &[Row]) -> bool {
     true
 }
 
-// Whether the current frame has these values, the last on top.
-fn has(stack: &Stack, values: &[u32]) -> bool {
-    let mut depth = stack.count();
-    for value in values {
-        if depth == 0 || stack.peek(depth - 1) != Ok(*value) {
-            return false;
-        }
-        depth -= 1;
-    }
-    depth == 0
-}
-
 const DONE: Result<Answer, StackFault> = Ok(Answer::Done);
 
 // A frame of 12 bytes.
 const FRAME: Row = (Call::Enter(&[0, 0]), DONE);
-
-const NINE: &[Row] = &[
-    FRAME,
-    (Call::Push(8), DONE),
-    (Call::Push(7), DONE),
-    (Call::Push(6), DONE),
-    (Call::Push(5), DONE),
-    (Call::Push(4), DONE),
-    (Call::Push(3), DONE),
-    (Call::Push(2), DONE),
-    (Call::Push(1), DONE),
-    (Call::Push(0), DONE),
-    (Call::Roll(5, 1), DONE),
-];
-
-const TURNED: &[Row] = &[
-    (Call::Roll(10, 1), Err(StackFault::Underflow)),
-    (Call::Peek(2), Ok(Answer::Number(8))),
-    (Call::Peek(9), Err(StackFault::Underflow)),
-];
-
-const BACK: &[Row] = &[(Call::Roll(9, 0xFFFF_FFFD), DONE)];
-
-// Whether a new stack's values turn so.
-fn turns(stack: &mut Stack) -> bool {
-    answers(stack, NINE)
-        && has(stack, &[8, 7, 6, 5, 0, 4, 3, 2, 1])
-        && answers(stack, BACK)
-        && has(stack, &[5, 0, 4, 3, 2, 1, 8, 7, 6])
-        && answers(stack, TURNED)
-}
-
-#[test]
-fn values_turn_towards_the_top(rt: HostRuntime) -> Result<(), Fail> {
-    let mut stack = sized(rt.alloc(), 256)?;
-    assert!(rt; turns(&mut stack));
-    Ok(())
-}
-
-// Whether a new stack takes a frame and 61 values, and no more.
-fn takes_61(stack: &mut Stack) -> bool {
-    if !answers(stack, &[FRAME]) {
-        return false;
-    }
-    for _ in 0..61 {
-        if stack.push(1).is_err() {
-            return false;
-        }
-    }
-    stack.push(1) == Err(StackFault::Overflow) && stack.length() == 256
-}
-
-#[test]
-fn a_small_stack_takes_61_values(rt: HostRuntime) -> Result<(), Fail> {
-    let mut stack = sized(rt.alloc(), 256)?;
-    assert!(rt; takes_61(&mut stack));
-    Ok(())
-}
 
 // The frame of three locals of one byte and one of two.
 const FRESH: [u8; 24] = [
     0, 0, 0, 24, 0, 0, 0, 16, 1, 3, 2, 1, 0, 0, 0, 0, 0, 0, 0, 0, 0, 0, 0, 0,
 ];
 
-const LOCALS: &[Row] = &[
-    (Call::SetShort(4, 0x12345), DONE),
-    (Call::Short(4), Ok(Answer::Number(0x2345))),
-    (Call::Short(7), Err(StackFault::BadLocal)),
-    (Call::Word(0), Ok(Answer::Number(0))),
-];
-
-const LOCALS_ENTERED: &[Row] = &[(Call::Enter(&[1, 3, 2, 1, 0, 0]), DONE)];
-
-// Whether a new stack has that frame, and its locals are read and set so.
+// Whether a new stack has that frame.
 fn is_aligned(alloc: Global, stack: &mut Stack) -> Result<bool, AllocError> {
-    Ok(
-        answers(stack, LOCALS_ENTERED)
-            && stack.copy_bytes(alloc)?.as_slice() == FRESH.as_slice()
-            && answers(stack, LOCALS),
-    )
+    let entered = answers(stack, &[(Call::Enter(&[1, 3, 2, 1, 0, 0]), DONE)]);
+    Ok(entered && stack.copy_bytes(alloc)?.as_slice() == FRESH.as_slice())
 }
 
 #[test]
