@@ -25,6 +25,7 @@ from host import KEYS, WRITE
 from wrapping import wrapped
 
 BUFFER, GRID = 3, 4
+LEAST_SIZE = (40, 12)
 INPUT = 8       # the style in which a line that is typed stands
 # How a style of Glk is drawn: emphasized, header, subheader, alert, note and input stand out.
 STYLES = {1: "underline", 3: "bold", 4: "bold", 5: "reverse", 6: "italic", INPUT: "bold"}
@@ -167,9 +168,10 @@ class Screen:
     # The host.
 
     def game_size(self):
-        """The columns and rows of a game that is begun on this terminal: its last row is for remarks."""
+        """The columns and rows of a game that is begun on this terminal: its last row is for remarks. On a very
+        small one it is begun larger, since windows that had no room then would have none later."""
         columns, rows = self.size
-        return max(min(columns, 255), 1), max(min(rows - 1, 255), 1)
+        return max(min(columns, 255), LEAST_SIZE[0]), max(min(rows - 1, 255), LEAST_SIZE[1])
 
     def say(self, text):
         self.remark = text
@@ -231,7 +233,7 @@ class Screen:
                 fresh = View(width)
                 fresh.take(window)
                 fresh.seen = fresh.count() - 1 if view else fresh.floor
-                if view and view.end is not None:       # Who looks back stays at about that place.
+                if view and view.end is not None and self.mode != "more":   # Who looks back stays about there.
                     fresh.end = view.end * fresh.count() // view.count()
                 self.views[number] = fresh
             else:
