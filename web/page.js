@@ -8,7 +8,8 @@ const KEYS = {
   Delete: "delete", Escape: "escape", PageUp: "pageup", PageDown: "pagedown", Home: "home", End: "end",
 };
 const BUTTONS = [
-  ["Space", " "], ["Return", "return"], ["Esc", "escape"], ["↑", "up"], ["↓", "down"], ["←", "left"], ["→", "right"],
+  ["Space", " "], ["Return", "return"], ["Esc", "escape"], ["↑", "up"], ["↓", "down"], ["←", "left"],
+  ["→", "right"],
 ];
 const UNREACHED = "The gateway isn't reached. It is tried again.";
 const FILES = { save: "saved game", transcript: "transcript", command: "command script", data: "file" };
@@ -515,6 +516,7 @@ $("key").oninput = () => {
 };
 for (const [name, value] of BUTTONS) {
   const button = element("button", name, { type: "button" });
+  button.setAttribute("aria-label", value === " " ? "Space" : value);
   button.onclick = () => giveKey(value);
   $("keys").append(button);
 }
