@@ -26,20 +26,18 @@ fn lock(file: &File) -> io::Result<()> {
     }
 }
 
+/// A file system that doesn't know a call says so.
+fn is_unknown(kind: ErrorKind) -> bool {
+    matches!(kind, ErrorKind::InvalidInput | ErrorKind::Unsupported)
+}
+
 /// Syncs a folder, so that a stop doesn't take a file out of it. A file system that knows no such
 /// sync lets it pass.
 fn sync_folder<R: Files<File = File>>(rt: &R, folder: Path<'_>) -> io::Result<()> {
-    let path = if folder.as_str().is_empty() {
-        "."
-    } else {
-        folder.as_str()
-    };
+    let name = folder.as_str();
+    let path = if name.is_empty() { "." } else { name };
     match fs::open(rt, path)?.sync_all() {
-        Err(error)
-            if matches!(
-                error.kind(),
-                ErrorKind::InvalidInput | ErrorKind::Unsupported
-            ) => { Ok(()) }
+        Err(error) if is_unknown(error.kind()) => Ok(()),
         answer => answer,
     }
 }
