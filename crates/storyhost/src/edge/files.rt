@@ -63,10 +63,10 @@ impl<'r, R> SystemFiles<'r, R> {
     }
 }
 
-/// Keeps what went wrong, unless something did before.
-fn keep(first: &mut Option<Trouble>, trouble: Trouble) {
+/// Keeps what went wrong, where something did, unless something else did before.
+fn keep(first: &mut Option<Trouble>, trouble: Option<Trouble>) {
     if first.is_none() {
-        *first = Some(trouble);
+        *first = trouble;
     }
 }
 
@@ -80,7 +80,7 @@ fn keep_name(
 ) {
     // Where memory is wanting for the name it isn't told.
     if let Ok(name) = String::from_str(alloc, name) {
-        keep(first, Trouble::of_name(status, name, cause));
+        keep(first, Some(Trouble::of_name(status, name, cause)));
     }
 }
 
@@ -192,12 +192,11 @@ where
     }
 
     fn put_back(&mut self, name: &str, disk: FileDisk<'r, R>) {
+        let faults = disk.faults();
+        keep(&mut self.trouble, disk.trouble());
         match self.loans.get_mut(name) {
-            Some(loan) => loan.end(disk.faults(), &mut self.disk_faults),
+            Some(loan) => loan.end(faults, &mut self.disk_faults),
             None => unreachable!("the disk is lent"),
-        }
-        if let Some(trouble) = disk.trouble() {
-            keep(&mut self.trouble, trouble);
         }
     }
 
@@ -213,7 +212,8 @@ where
                 Ok(door)
             }
             Err(error) => {
-                keep(&mut self.trouble, Trouble::new(Status::DoorFault, error));
+                let trouble = Trouble::new(Status::DoorFault, error);
+                keep(&mut self.trouble, Some(trouble));
                 self.door_faults = self.door_faults.saturating_add(1);
                 Err(Failed)
             }
@@ -221,7 +221,7 @@ where
     }
 
     fn closed(&mut self, how: Worked<TcpDoor<'r, R>>)
-        ensures value { Closes how (system_state self.old) (system_state self.new) }
+        ensures value { Closes how.entry (system_state self.old) (system_state self.new) }
         ensures others { (none_due self.new ≡ none_due self.old)
             × (none_due self.new ≡ none_due self.old)
             × (none_due self.new ≡ none_due self.old) }
@@ -231,7 +231,8 @@ where
         match how {
             Worked::Shut(_) => self.shut = self.shut.saturating_add(1),
             Worked::DoorFault(AcceptFault(error)) => {
-                keep(&mut self.trouble, Trouble::new(Status::DoorFault, error));
+                let trouble = Trouble::new(Status::DoorFault, error);
+                keep(&mut self.trouble, Some(trouble));
                 self.door_faults = self.door_faults.saturating_add(1);
             }
         }

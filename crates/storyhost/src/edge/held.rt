@@ -52,6 +52,9 @@ fn make_folder<R: Files<File = File>>(rt: &R, folder: Path<'_>) -> io::Result<()
         }
         missing = missing.saturating_add(1);
     }
+    if missing == 0 {
+        return Ok(());
+    }
     fs::create_dir_all(rt, folder)?;
     for path in folder.ancestors().skip(1).take(missing) {
         sync_folder(rt, path)?;
