@@ -340,25 +340,25 @@ def silent_links(room, story):
     bad = run("serve", "quiet", "0", "1", story, cwd=room, env={**os.environ, IDLE: "soon"})
     if bad.returncode != 9 or IDLE not in bad.stderr or bad.stdout:
         raise Otherwise(f"{IDLE}=soon: status {bad.returncode}, {bad.stderr!r}")
-    with served(str(room / "quiet"), story, 2, **{IDLE: "2"}) as host:
+    with served(str(room / "quiet"), story, 2, **{IDLE: "3"}) as host:
         first = host.link()
         want("OPEN", first.ask("OPEN 0 k 0 1 80 24")[:9], "SHOW 0 0\n")
         opened = first.ask("LAST 0 k")
+        for _ in range(4):
+            time.sleep(0.8)
+            want("a link that speaks at times", first.ask("LAST 0 k"), opened)
+        first.close()
         quiet, half = host.link(), host.link()
         half.socket.sendall(b"LAST 0")
-        # The first link speaks at times, so it is kept, and the other two have the other worker in turn.
-        for _ in range(4):
-            time.sleep(0.7)
-            want("a link that speaks at times", first.ask("LAST 0 k"), opened)
+        time.sleep(0.3)
         began = time.monotonic()
-        first.close()
         waiting = host.link()
         want("the next player", waiting.ask("LAST 0 k"), opened)
-        if time.monotonic() - began > 20:
-            raise Otherwise("the next player waited more than twenty seconds")
+        if not 1 < time.monotonic() - began < 30:
+            raise Otherwise(f"the next player was answered after {time.monotonic() - began:.1f} seconds")
         want("a silent link", (said(quiet.socket), said(half.socket)), (b"", b""))
-        deaf = [host.link() for _ in range(2)]
         waiting.close()
+        deaf = [host.link() for _ in range(2)]
         for link in deaf:
             fill(link)
         waiting = host.link()
