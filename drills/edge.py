@@ -193,8 +193,20 @@ def commands(name, story):
     return ("init", name), ("pipe", name, story), ("serve", name, "0", "1", story)
 
 
+def unprivileged():
+    """How to run a program as a user whom rights bind, or None where the folder isn't open to one."""
+    if os.geteuid():
+        return {}
+    given = {"user": STRANGER, "group": STRANGER, "extra_groups": []}
+    try:
+        return given if run("--version", **given).returncode == 0 else None
+    except PermissionError:
+        return None
+
+
 def other_folders(room, story):
-    """Folders that can't be had. Nothing is made, and the name and the cause are told."""
+    """Folders that can't be had. Nothing is made, and the name and the cause are told. Whether rights
+    were tried, too."""
     begun(room, "good")
     (room / "file").write_text("no folder\n")
     (room / "lost").symlink_to("nowhere")
@@ -203,13 +215,10 @@ def other_folders(room, story):
     (room / "lostjournal" / "journal").symlink_to("nowhere")
     (room / "folded" / "journal").mkdir()
     shutil.copytree(room / "good", room / "closed")
-    (room / "closed").chmod(0)
     (room / "noentry").mkdir(mode=0o555)
     shutil.copytree(room / "good", room / "readable")
     for path in (room / "readable").iterdir():
         path.chmod(0o444)
-    as_user = {"user": STRANGER, "group": STRANGER, "extra_groups": []} if os.geteuid() == 0 else {}
-    (room / "closed").chmod(0o755)
     before = seen(room)
     (room / "closed").chmod(0)
     cases = [
@@ -217,14 +226,17 @@ def other_folders(room, story):
         ("a link that dangles", "lost", "leads nowhere", commands),
         ("a journal that is a link that dangles", "lostjournal", "leads nowhere", commands),
         ("a journal that is a folder", "folded", "Is a directory", commands),
+    ]
+    of_rights = [
         ("no right to the folder", "closed", "Permission denied", commands),
         ("no right to the files", "readable", "Permission denied", commands),
         ("no right to make files", "noentry", "Permission denied", lambda name, _: [("init", name)]),
         ("no right to make a folder", "noentry/club", "Permission denied", lambda name, _: [("init", name)]),
     ]
-    for what, name, cause, those in cases:
+    user = unprivileged()
+    for what, name, cause, those in cases + (of_rights if user is not None else []):
         for words in those(name, story):
-            refused(f"{what}: {words[0]}", run(*words, cwd=room, **as_user), f"{name}/", cause)
+            refused(f"{what}: {words[0]}", run(*words, cwd=room, **(user or {})), f"{name}/", cause)
     few = {"preexec_fn": lambda: resource.setrlimit(resource.RLIMIT_NOFILE, (40, 40))}
     refused("40 open files", run("pipe", "good", story, cwd=room, **few), "good/snap", "Too many open files")
     for name in "clbu", "new/evening/clbu":
@@ -233,6 +245,7 @@ def other_folders(room, story):
             want(f"{words[0]} of a name that isn't there", (ran.returncode, ran.stdout), (8, "bad journal\n"))
     (room / "closed").chmod(0o755)
     want("what stands there", seen(room), before)
+    return user is not None
 
 
 # Mounts a folder over itself, for reading alone, and runs the words behind it.
@@ -340,25 +353,25 @@ def silent_links(room, story):
     bad = run("serve", "quiet", "0", "1", story, cwd=room, env={**os.environ, IDLE: "soon"})
     if bad.returncode != 9 or IDLE not in bad.stderr or bad.stdout:
         raise Otherwise(f"{IDLE}=soon: status {bad.returncode}, {bad.stderr!r}")
-    with served(str(room / "quiet"), story, 2, **{IDLE: "2"}) as host:
+    with served(str(room / "quiet"), story, 2, **{IDLE: "3"}) as host:
         first = host.link()
         want("OPEN", first.ask("OPEN 0 k 0 1 80 24")[:9], "SHOW 0 0\n")
         opened = first.ask("LAST 0 k")
+        for _ in range(4):
+            time.sleep(0.8)
+            want("a link that speaks at times", first.ask("LAST 0 k"), opened)
+        first.close()
         quiet, half = host.link(), host.link()
         half.socket.sendall(b"LAST 0")
-        # The first link speaks at times, so it is kept, and the other two have the other worker in turn.
-        for _ in range(4):
-            time.sleep(0.7)
-            want("a link that speaks at times", first.ask("LAST 0 k"), opened)
+        time.sleep(0.3)
         began = time.monotonic()
-        first.close()
         waiting = host.link()
         want("the next player", waiting.ask("LAST 0 k"), opened)
-        if time.monotonic() - began > 20:
-            raise Otherwise("the next player waited more than twenty seconds")
+        if not 1 < time.monotonic() - began < 30:
+            raise Otherwise(f"the next player was answered after {time.monotonic() - began:.1f} seconds")
         want("a silent link", (said(quiet.socket), said(half.socket)), (b"", b""))
-        deaf = [host.link() for _ in range(2)]
         waiting.close()
+        deaf = [host.link() for _ in range(2)]
         for link in deaf:
             fill(link)
         waiting = host.link()
@@ -456,8 +469,7 @@ def main():
     try:
         timed(two_hosts, asked.tries)
         met = timed(two_inits)
-        timed(other_folders)
-        mounted = timed(read_only)
+        tried = {"rights": timed(other_folders), "a read-only file system": timed(read_only)}
         timed(strangers)
         timed(silent_links)
         timed(no_descriptors)
@@ -466,10 +478,10 @@ def main():
         print(f"edge: {cause}; its folder is {room}")
         return 1
     shutil.rmtree(room)
-    still = "" if mounted else "; a read-only file system can't be mounted here, so that was NOT tried"
+    untried = "".join(f"; {what} can't be had here, so NOT tried" for what, was in tried.items() if not was)
     print(f"edge: {asked.tries} times two hosts on one folder: one was refused, no acknowledged move is missing; two init "
           f"at once began one folder 10 times ({met} met); folders that can't be had left as they were; strangers not "
-          f"answered, silent links let go{still}")  # fmt: skip
+          f"answered, silent links let go{untried}")  # fmt: skip
     if asked.times:
         print(f"edge: seconds: {', '.join(times)}")
     return 0
