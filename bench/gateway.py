@@ -12,6 +12,7 @@ syncs of that disk."""
 
 import argparse
 import asyncio
+import os
 import pathlib
 import random
 import statistics
@@ -112,11 +113,18 @@ async def by_browsers(asked, room, pause):
     host = players.Host(room / "d", [players.COTTAGE], LINKS, asked.program)
     gateway = players.Gateway(host.port, "--rate", "100000")
     async with aiohttp.ClientSession(connector=aiohttp.TCPConnector(limit=0)) as client:
+        before = spent_by(gateway)
         times = await crowd([Browser(n, client, gateway) for n in range(SESSIONS)], asked.seconds, pause)
-        memory = gateway.memory()
+        memory, spent = gateway.memory(), spent_by(gateway) - before
     gateway.kill()
     host.kill()
-    return times, memory
+    return times, memory, 1000 * spent / (len(times) + SESSIONS)
+
+
+def spent_by(gateway):
+    """The processor seconds of a gateway."""
+    fields = pathlib.Path(f"/proc/{gateway.process.pid}/stat").read_text().rpartition(")")[2].split()
+    return (int(fields[11]) + int(fields[12])) / os.sysconf("SC_CLK_TCK")
 
 
 def told(name, times, seconds):
@@ -142,14 +150,14 @@ def main():
     for _ in range(asked.rounds):
         told("one bare client alone, one move behind the other", run(by_links, 0, 1), asked.seconds)
         bare = told("64 sessions by four bare links, a move a second each", run(by_links, 1), asked.seconds)
-        times, memory = run(by_browsers, 1)
+        times, memory, _ = run(by_browsers, 1)
         ratios.append(told("64 players by the gateway, the same moves", times, asked.seconds) / bare)
         most = max(most, memory)
     told("64 sessions by four bare links, without pauses", run(by_links, 0), asked.seconds)
-    times, memory = run(by_browsers, 0)
+    times, memory, spent = run(by_browsers, 0)
     told("64 players by the gateway, without pauses", times, asked.seconds)
     print(f"the gateway's median beside that of bare links: {' '.join(f'{ratio:.2f}' for ratio in ratios)} times; its memory at "
-          f"most {max(most, memory):.0f} MiB")
+          f"most {max(most, memory):.0f} MiB; its processor time {spent:.2f} ms a move")
 
 
 main()

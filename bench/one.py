@@ -7,7 +7,8 @@ below, the more (a crate above vm_exec and glk_dispatch takes some 5 GB where no
 
 PATH is a function, a module or a type by its path below the crate, as in `rt check --only`; it may come more than once,
 as PATH,PATH. What was checked is kept in crates/CRATE/out/one, so that a second run is much faster; it keeps to itself,
-and takes nothing from an `rt check`. It is no verdict: it says nothing of the functions that PATH doesn't lead to."""
+and takes nothing from an `rt check`. It is no verdict: it says nothing of the functions that PATH doesn't lead to, and
+proves those of sources below that PATH leads to."""
 
 import importlib.machinery
 import importlib.util

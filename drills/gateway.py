@@ -5,7 +5,7 @@
 
 Eight players by script play games of the Echo story over WebSocket through a gateway of four links: each begins
 a game, gives moves, ends the game and begins another. KILLS times, 40 unless told otherwise, the host (signal 9)
-or, in a quarter of the cases, the gateway is killed at a moment drawn from the seed, and started again. A player
+or, in a third of the cases, the gateway is killed at a moment drawn from the seed, and started again. A player
 whose connection went comes back as the page does: by session and key, with the number that it has; where its
 last move isn't kept it is sent again as it was. Each update must be the one that `run` shows for the same moves,
 each applied once. It ends with 1 where it isn't so. Wants Debian's python3-aiohttp."""
@@ -125,7 +125,7 @@ class Drill:
             while self.answers < until:
                 await asyncio.sleep(0.001)
             await asyncio.sleep(draw.random() * 0.02)
-            name = "gateway" if draw.random() < 0.25 else "host"
+            name = "gateway" if draw.random() < 1 / 3 else "host"
             one = getattr(self, name)
             one.kill()
             await asyncio.sleep(draw.random() * 0.1)

@@ -122,6 +122,9 @@ class Player(threading.Thread):
 
 def many_players(room):
     host = Host(room / "many", COTTAGE).start()
+    words = [sys.executable, STORIES / "keeper.py", "watch", host.folder]
+    watch = subprocess.Popen(words, stdout=subprocess.PIPE, text=True)
+    want("keeper.py watches", "watching" in watch.stdout.readline())
     try:
         players, copies = [Player(host, number) for number in range(PLAYERS)], []
         for player in players:
@@ -138,8 +141,17 @@ def many_players(room):
         taken = script("keeper.py", "close", host.folder, "9", f"127.0.0.1:{host.port}")
         want("keeper.py closes a game", "session 9 is closed" in taken.stdout, taken.stdout + taken.stderr)
         want("and it is gone", 9 not in files.games_of(host.folder))
+        seen = ""
+        while "session 9 (k9) is closed" not in seen:
+            line = watch.stdout.readline()
+            want("keeper.py watches on", line, seen)
+            seen += line
+        for words in "session 63 (k63) begins story 0", f"session 5 (k5) has its move {MOVES}":
+            want("keeper.py watch tells each command", words in seen, words)
     finally:
         host.kill()
+        watch.kill()
+        watch.wait()
     draw = random.Random(1)
     chosen = [copies[0], *draw.sample(copies[1:], min(4, len(copies) - 1))]
     for at, (before, journal, behind) in enumerate(chosen):

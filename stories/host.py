@@ -56,7 +56,8 @@ BAD_STORIES = {
 }
 # The usages and modes of a file prompt.
 USAGES = {0: "data", 1: "saved game", 2: "transcript", 3: "commands"}
-READ, WRITE = 2, 1
+SAVED_GAME = 1
+WRITE, READ = 1, 2
 GREATEST = 0xFFFFFFFF       # the greatest number of a command
 SLOW = 3                    # seconds, after which a player is told that the host hasn't answered
 # In the main window's text: what was printed in that turn before it was cleared isn't shown.
@@ -233,6 +234,14 @@ class Game:
         """The usage and the mode of a file prompt."""
         return int(self.wait()[1]) & 15, int(self.wait()[2])
 
+    def prompt_words(self):
+        """What a file prompt asks for."""
+        usage, mode = self.prompt()
+        if usage == SAVED_GAME:
+            return "Restore which saved game?" if mode == READ else "Save the game under which name?"
+        named = USAGES.get(usage, "file")
+        return f"Read which file of {named}?" if mode == READ else f"Write the {named} to which file?"
+
     def begun(self):
         """The line that the story began for the player, where a line is wanted."""
         return unescaped(self.wait()[4]) if self.wanted()[0] == "line" else ""
@@ -326,7 +335,8 @@ class Session(Game):
         self.count = None       # of the commands that were accepted, where the game was seen
 
     def play_on(self, story, seed, size):
-        """Shows what the story said last; where the session is free, opens it. Says whether it did so."""
+        """Shows what the story said last; where the session is free, opens it. Says whether it did so. (A host that
+        tells earlier turns would be asked for them here.)"""
         refusal = self.look()
         if refusal == "NO 2":
             self.must(self.ask(f"OPEN {self.number} {self.key} {story} {seed} {size[0]} {size[1]}"))

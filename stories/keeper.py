@@ -4,6 +4,7 @@
 usage: keeper.py DIR [STORY ..] [--host PROGRAM]    the sessions: number, key, story, moves, how far; with story
                                                     files also which they are, and whether each game is over
        keeper.py wants DIR FILE ..                  which of some files the folder's journal wants, and in what order
+       keeper.py watch DIR                          tells each command that a host keeps there from now on, with the time
        keeper.py close DIR SESSION HOST:PORT        ends a game of a host that runs there, with the key of the journal
        keeper.py repair DIR COPY                    writes a copy of DIR without what is damaged, and says what is lost
        keeper.py back DIR SESSION MOVES COPY        writes a copy of DIR without the last moves of a session's game, as
@@ -204,6 +205,35 @@ def wants(given):
     return 1 if missing or twice else 0
 
 
+def watch(given):
+    """A line for each row that is added, with its time: whose it is, and nothing of what was typed."""
+    keys, counts, told, changed = {}, {}, None, None
+    while True:
+        about = (given.dir / "journal").stat()
+        if (about.st_mtime_ns, about.st_size) == changed:
+            time.sleep(0.3)
+            continue
+        changed = about.st_mtime_ns, about.st_size
+        try:
+            rows = list(files.rows_of(journal_of(given.dir)))
+        except files.Damaged as damage:
+            raise Wrong(f"the journal is damaged: {damage}") from None
+        for row in rows[told or 0 :]:
+            if row.kind == files.OPEN:
+                opening = files.opening_of(row.payload)
+                keys[row.session], counts[row.session] = opening.key, 0
+                done = f"begins story {opening.story}"
+            else:
+                counts[row.session] += 1
+                done = "is closed" if row.kind == files.CLOSE else f"has its move {counts[row.session]}"
+            if told is not None:
+                now = time.strftime("%Y-%m-%d %H:%M:%S")
+                print(f"{now} session {row.session} ({keys[row.session]}) {done}", flush=True)
+        if told is None:
+            print(f"watching {given.dir}, which has {len(rows)} rows", flush=True)
+        told = len(rows)
+
+
 def close(given):
     games, _, _ = games_of(journal_of(given.dir))
     if given.session not in games:
@@ -277,7 +307,7 @@ def reset(folder, session, game):
 def main():
     about, _, rest = __doc__.partition("\n\nusage: ")
     usage, _, more = rest.partition("\n\n")
-    tasks = {"wants": wants, "close": close, "repair": repair, "back": back}
+    tasks = {"wants": wants, "watch": watch, "close": close, "repair": repair, "back": back}
     task = sys.argv[1] if len(sys.argv) > 1 and sys.argv[1] in tasks else None
     words = argparse.ArgumentParser(usage=usage, description=about, epilog=more,
                                     formatter_class=argparse.RawDescriptionHelpFormatter)
@@ -298,6 +328,8 @@ def main():
     given = words.parse_args()
     try:
         return tasks.get(task, listed)(given)
+    except KeyboardInterrupt:
+        return 130
     except (Wrong, OSError) as cause:
         print(f"keeper.py: {cause}", file=sys.stderr)
         return 1

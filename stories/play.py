@@ -37,7 +37,7 @@ import shutil
 import sys
 import tempfile
 
-from host import CLEARED, HOST, READ, USAGES, Address, Host, Pipe, Refused, Session
+from host import CLEARED, HOST, Address, Host, Pipe, Refused, Session
 from wrapping import wrapped
 
 ALONE = (0, "player")       # the session and key of a game that is kept alone
@@ -61,14 +61,6 @@ def play(host, moves):
     return []
 
 
-def prompt_words(usage, mode):
-    """What a file prompt asks for."""
-    named = USAGES.get(usage, "file")
-    if usage == 1:
-        return "Restore which saved game?" if mode == READ else "Save the game under which name?"
-    return f"Read which file of {named}?" if mode == READ else f"Write the {named} to which file?"
-
-
 def told(host, before):
     """Writes what came since: the other windows where they changed, and the main window's text but for
     its last line, which is the prompt and is given back."""
@@ -90,7 +82,7 @@ def told(host, before):
         names = host.names.get(host.prompt()[0])
         known = f" (names so far: {', '.join(names)})" if names else ""
         print(last)
-        return f"{prompt_words(*host.prompt())}{known} Nothing cancels: "
+        return f"{host.prompt_words()}{known} Nothing cancels: "
     if host.ended or host.is_stuck():
         print(last + f"\n[{host.end_words()}]")
         return ""

@@ -6,12 +6,12 @@ import sys
 import threading
 from collections import deque
 
+# ruff: noqa: E402
 # Debian keeps its packages here, also where another Python is the first one.
 sys.path.append("/usr/lib/python3/dist-packages")
 
 from prompt_toolkit.application import Application
 from prompt_toolkit.buffer import Buffer
-from prompt_toolkit.data_structures import Point
 from prompt_toolkit.document import Document
 from prompt_toolkit.key_binding import KeyBindings
 from prompt_toolkit.key_binding.key_processor import KeyPress
@@ -19,13 +19,13 @@ from prompt_toolkit.keys import Keys
 from prompt_toolkit.layout import DynamicContainer, Layout
 from prompt_toolkit.layout import Window as Area
 from prompt_toolkit.layout.controls import BufferControl, UIContent, UIControl
-from prompt_toolkit.utils import get_cwidth
 
-from host import KEYS, READ, Refused
-from play import prompt_words
-from wrapping import Wrapped, shown, wrapped
+from drawing import Canvas, View, cells_of, columns_of, fitted, squeezed
+from host import KEYS, WRITE
+from wrapping import wrapped
 
 BUFFER, GRID = 3, 4
+LEAST_SIZE = (40, 12)
 INPUT = 8       # the style in which a line that is typed stands
 # How a style of Glk is drawn: emphasized, header, subheader, alert, note and input stand out.
 STYLES = {1: "underline", 3: "bold", 4: "bold", 5: "reverse", 6: "italic", INPUT: "bold"}
@@ -39,136 +39,6 @@ NAMED = {
 LEAVES = (Keys.ControlC, Keys.ControlD, Keys.SIGINT)
 SCROLLS = {Keys.PageUp: -1, Keys.ShiftPageUp: -1, Keys.ControlPageUp: -1,
            Keys.PageDown: 1, Keys.ShiftPageDown: 1, Keys.ControlPageDown: 1}
-
-
-def cells_of(text, style=""):
-    """What is drawn for a text: characters, their style and columns."""
-    cells = []
-    for code in text:
-        drawn = shown(code)
-        if drawn and get_cwidth(drawn):
-            cells.append((drawn, style, get_cwidth(drawn)))
-        elif drawn and cells:
-            cells[-1] = (cells[-1][0] + drawn, style, cells[-1][2])
-    return cells
-
-
-def columns_of(cells):
-    return sum(cell[2] for cell in cells)
-
-
-class Canvas:
-    """What stands on the terminal, by row and column; None is the second column of a character."""
-
-    def __init__(self, columns, rows):
-        self.columns, self.rows = columns, rows
-        self.cells = [[(" ", "")] * columns for _ in range(rows)]
-
-    def put(self, y, x, cells, end=None):
-        """Draws cells from a place on, up to a column."""
-        end = self.columns if end is None else min(end, self.columns)
-        for drawn, style, columns in cells:
-            if not 0 <= y < self.rows or x + columns > end:
-                return
-            self.cells[y][x] = (drawn, style)
-            if columns == 2:
-                self.cells[y][x + 1] = None
-            x += columns
-
-    def line(self, y):
-        """A row as prompt_toolkit has it: styles and texts."""
-        return [(cell[1], cell[0].replace("\u00a0", " ")) for cell in self.cells[y] if cell]
-
-    def cursor(self, y, x):
-        """A place, counted in characters of its row."""
-        y, x = min(max(y, 0), self.rows - 1), min(max(x, 0), self.columns - 1)
-        return Point(sum(len(cell[0]) for cell in self.cells[y][:x] if cell), y)
-
-
-def spread(places, whole, least):
-    """Where the edges of windows stand on a terminal of another size: where so much is left to the last
-    windows these alone grow or shrink, else all do."""
-    last, inner = places[-1], places[-2] if len(places) > 1 else 0
-    if not last or whole - inner >= min(last - inner, least):
-        return {**{place: place for place in places}, last: whole}
-    found, at = {0: 0}, 0
-    for place in places[1:]:
-        at = min(max(at + 1, place * whole // last), whole)
-        found[place] = at
-    return {**found, last: whole}
-
-
-def fitted(windows, columns, rows):
-    """The rectangle of each window on a terminal of so many columns and rows."""
-    across = spread(sorted({0} | {at for it in windows.values() for at in (it.x, it.x + it.width)}), columns, 20)
-    down = spread(sorted({0} | {at for it in windows.values() for at in (it.y, it.y + it.height)}), rows, 4)
-    return {
-        number: (across[it.x], down[it.y], across[it.x + it.width] - across[it.x], down[it.y + it.height] - down[it.y])
-        for number, it in windows.items()
-    }
-
-
-def squeezed(cells, width):
-    """A status line that fits: its longest blanks are shortened."""
-    while cells and cells[-1][0] == " ":
-        cells = cells[:-1]
-    while columns_of(cells) > width:
-        longest, at, size = 1, 0, 0
-        for place, cell in enumerate(cells):
-            size = size + 1 if cell[0] == " " else 0
-            if size > longest:
-                longest, at = size, place
-        if longest == 1:
-            return cells
-        cells = cells[:at] + cells[at + 1 :]
-    return cells
-
-
-class View:
-    """The lines of a buffer, and which of them are seen."""
-
-    def __init__(self, width):
-        self.text, self.runs, self.taken, self.past = Wrapped(width, get_cwidth), None, 0, 0
-        self.floor = 0      # the first line behind the last clearing
-        self.seen = 0       # how many lines the player has seen
-        self.end = None     # where the lines that are shown end, where these aren't the last ones
-
-    def take(self, window):
-        """Takes what came to a window; what is there already isn't broken into lines again."""
-        if self.runs is not window.runs:
-            if self.runs is None:
-                for style, text in window.past:
-                    self.text.add(style, text)
-            else:
-                for style, text in window.past[self.past + self.taken :]:
-                    self.text.add(style, text)
-            if window.past:
-                self.text.add(0, "\n")
-            self.floor = len(self.text.lines) - 1
-            self.seen = max(self.seen, self.floor)
-            self.runs, self.taken, self.past = window.runs, 0, len(window.past)
-        fresh = window.runs[self.taken :]
-        for style, text in fresh:
-            self.text.add(style, text)
-        self.taken += len(fresh)
-
-    def count(self):
-        return len(self.text.lines)
-
-    def page(self, height):
-        """Goes on to the next page of what wasn't seen; says whether more is behind it."""
-        page = max(height - 1, 1)
-        if self.count() - self.seen <= max(height, 1):
-            self.end, self.seen = None, self.count() - 1
-            return False
-        self.seen += page
-        self.end = self.seen
-        return True
-
-    def scroll(self, pages, height):
-        end = self.count() if self.end is None else self.end
-        end += pages * max(height - 1, 1)
-        self.end = None if end >= self.count() else max(end, min(height, self.count()))
 
 
 class Screen:
@@ -256,7 +126,7 @@ class Screen:
 
     def is_known(self, name):
         usage, mode = self.host.prompt()
-        return mode == 1 and name in self.host.names.get(usage, [])
+        return mode == WRITE and name in self.host.names.get(usage, [])
 
     def ended(self, code):
         """A key that may end a line; most stories ask for none."""
@@ -298,9 +168,10 @@ class Screen:
     # The host.
 
     def game_size(self):
-        """The columns and rows of a game that is begun on this terminal: its last row is for remarks."""
+        """The columns and rows of a game that is begun on this terminal: its last row is for remarks. On a very
+        small one it is begun larger, since windows that had no room then would have none later."""
         columns, rows = self.size
-        return max(min(columns, 255), 1), max(min(rows - 1, 255), 1)
+        return max(min(columns, 255), LEAST_SIZE[0]), max(min(rows - 1, 255), LEAST_SIZE[1])
 
     def say(self, text):
         self.remark = text
@@ -362,7 +233,7 @@ class Screen:
                 fresh = View(width)
                 fresh.take(window)
                 fresh.seen = fresh.count() - 1 if view else fresh.floor
-                if view and view.end is not None:       # Who looks back stays at about that place.
+                if view and view.end is not None and self.mode != "more":   # Who looks back stays about there.
                     fresh.end = view.end * fresh.count() // view.count()
                 self.views[number] = fresh
             else:
@@ -504,7 +375,7 @@ class Screen:
             names = self.host.names.get(self.host.prompt()[0])
             text = f"[so far: {', '.join(names)}; Tab takes one, Escape cancels]" if names else "[Escape cancels]"
         self.draw_words(canvas, y - 1, text)
-        words = cells_of(prompt_words(*self.host.prompt()) + " ", "reverse")
+        words = cells_of(self.host.prompt_words() + " ", "reverse")
         canvas.put(y, 0, cells_of(" " * columns))
         canvas.put(y, 0, words)
         return self.draw_typed(canvas, y, min(columns_of(words), columns - 2), columns, self.name)

@@ -55,6 +55,7 @@ LOOK_SECONDS = 1            # between two looks at a session that is watched
 MOST_UNSEEN = 16            # shows that wait for a spectator's browser
 SHOWS_AT_ONCE = 8           # of one WATCH
 LATE = {"5", "6", "7"}
+NO_GAME = "there is no such game, or it has another key"
 STOPPED = "The host has stopped. It is waited for, and what you gave is sent to it again."
 BUSY = "The host is busy; what you gave waits for its turn."
 
@@ -147,14 +148,15 @@ class Gateway:
 
     async def end(self, app):
         self.sweeper.cancel()
-        for player in list(self.players):
-            await player.socket.close(code=1001)
+        closing = [asyncio.create_task(player.socket.close(code=1001)) for player in self.players]
+        if closing:
+            await asyncio.wait(closing, timeout=1)
         self.links.close()
 
     async def sweep(self):
         """Ends connections of browsers that take nothing, and links that nobody wants."""
         while True:
-            await asyncio.sleep(SEND_SECONDS / 4)
+            await asyncio.sleep(1)
             self.links.end_idle()
             before = time.monotonic() - SEND_SECONDS
             for player in list(self.players):
@@ -352,6 +354,7 @@ class Player:
         reply = await self.ask(f"LAST {session} {key}")
         if reply.refusal == "2":
             await asyncio.sleep(WRONG_KEY_SECONDS)
+            raise Refused(NO_GAME)
         if reply.refusal:
             return await self.send(refused(reply))
         await self.seat(session, key, reply)
@@ -479,7 +482,7 @@ class Player:
             refusal = task.result().refusal
         except (ValueError, asyncio.CancelledError):
             return await self.leave("what the host answers isn't understood")
-        cause = {"1": "this host can't be watched", "2": "there is no such game, or its word is another"}
+        cause = {"1": "this host can't be watched", "2": NO_GAME}
         await self.leave(cause.get(refusal, REFUSALS.get(refusal, f"the host answers NO {refusal}")))
 
 
@@ -506,7 +509,8 @@ def origins_of(name, port, given):
 
 
 def read_words():
-    words = argparse.ArgumentParser(usage=__doc__)
+    words = argparse.ArgumentParser(usage="web/gateway.py --host ADDRESS ..; --help tells more", description=__doc__,
+                                    formatter_class=argparse.RawDescriptionHelpFormatter)  # fmt: skip
     words.add_argument("--host", type=address_of, required=True)
     words.add_argument("--listen", type=address_of, default=("127.0.0.1", 8080))
     words.add_argument("--links", type=int, choices=range(1, 17), default=4)

@@ -5,7 +5,7 @@ import sys
 import time
 
 LONGEST_LINE = 1 << 26
-IDLE_SECONDS = 60
+IDLE_SECONDS = 2
 AGAIN_SECONDS = 0.25
 
 

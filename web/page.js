@@ -8,10 +8,10 @@ const KEYS = {
   Delete: "delete", Escape: "escape", PageUp: "pageup", PageDown: "pagedown", Home: "home", End: "end",
 };
 const BUTTONS = [
-  ["Space", " "], ["Return", "return"], ["Esc", "escape"], ["↑", "up"], ["↓", "down"], ["←", "left"], ["→", "right"],
+  ["Space", " "], ["Return", "return"], ["Esc", "escape"], ["↑", "up"], ["↓", "down"], ["←", "left"],
+  ["→", "right"],
 ];
 const UNREACHED = "The gateway isn't reached. It is tried again.";
-const FAULTS = "The story broke off";
 const FILES = { save: "saved game", transcript: "transcript", command: "command script", data: "file" };
 const $ = (id) => document.getElementById(id);
 
@@ -283,7 +283,7 @@ function update(message) {
     for (const content of message.content || []) fill(content);
     if (given || first) note(game.resume ? `Session ${game.resume.session}` : "");
     showInput(message.input || [], message.specialinput || null);
-    if (message.ended) showEnd(message.ended);
+    if (message.ended) showEnd(message.ended, message.why || message.ended);
   } else {
     if (message.windows) placeWindows(message.windows);
     if (first) note("The game goes on.");
@@ -293,12 +293,12 @@ function update(message) {
   else if (!pending && measured !== JSON.stringify(measure())) arrange();
 }
 
-function showEnd(ended) {
+function showEnd(ended, why) {
   const said = {
     quit: "The story is over.", closed: "The game is ended.",
     stuck: "The story waits for something that this host doesn't have, a timer perhaps. It can't go on.",
   };
-  note(said[ended] || `${FAULTS} (${ended}). It can't go on.`, ended !== "quit");
+  note(said[ended] || `The story broke off: ${why}. It can't go on.`, ended !== "quit");
 }
 
 function placeWindows(told) {
@@ -330,6 +330,7 @@ function placeWindows(told) {
       box.setAttribute("aria-label", one.id === buffers[0].id ? "Story text" : "More text");
     }
   }
+  for (const { id, field } of wanted) if (field && windows.has(id)) fitField(field, windows.get(id).box);
 }
 
 /** A grid's letters are as large as its rectangle lets them be, at most as they are measured. Where they would
@@ -401,7 +402,7 @@ function lineHeight(box) {
 
 function aside(text) {
   const buffer = [...windows.values()].find((window) => window.type === "buffer");
-  if (buffer) buffer.box.append(element("p", text, { className: "aside" }));
+  if (buffer) buffer.box.append(element("p", text, { className: "aside" }), document.createElement("p"));
 }
 
 // What the player gives
@@ -447,9 +448,14 @@ function showLine(request, typed) {
   if (type === "grid") place = lines[request.ypos] || box;
   else place = box.lastElementChild || box.appendChild(document.createElement("p"));
   place.append(field);
-  const room = box.clientWidth - (field.offsetLeft - box.scrollLeft) - 16;
+  fitField(field, box);
+}
+
+/** A line is as long as its window has room behind the prompt. */
+function fitField(field, box) {
+  field.style.width = "8ch";
+  const room = box.clientWidth - field.offsetLeft - 16;
   field.style.width = `${room < 100 ? box.clientWidth - 32 : room}px`;
-  box.scrollTop = Math.min(box.scrollTop, box.scrollHeight);
 }
 
 function typeLine(event, request, field) {
@@ -510,6 +516,7 @@ $("key").oninput = () => {
 };
 for (const [name, value] of BUTTONS) {
   const button = element("button", name, { type: "button" });
+  button.setAttribute("aria-label", value === " " ? "Space" : value);
   button.onclick = () => giveKey(value);
   $("keys").append(button);
 }

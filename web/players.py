@@ -4,6 +4,7 @@ Whatever runs it wants Debian's python3-aiohttp."""
 
 import asyncio
 import json
+import os
 import pathlib
 import socket
 import subprocess
@@ -15,7 +16,7 @@ except ImportError:
     sys.exit("web: aiohttp isn't here; apt-get install python3-aiohttp, and run this with /usr/bin/python3")
 
 TOP = pathlib.Path(__file__).resolve().parent.parent
-PROGRAM = TOP / "crates" / "storyhost" / "out" / "storyhost"
+PROGRAM = pathlib.Path(os.environ.get("STORYHOST", TOP / "crates" / "storyhost" / "out" / "storyhost"))
 GATEWAY = TOP / "web" / "gateway.py"
 COTTAGE = TOP / "stories" / "cottage.ulx"
 UNIT = {"width": 80, "height": 24, "charwidth": 1, "charheight": 1}

@@ -11,7 +11,7 @@ from urllib.parse import quote, unquote
 
 sys.path.append(str(pathlib.Path(__file__).resolve().parent.parent / "stories"))
 
-from host import KEYS  # noqa: E402
+from host import FAULTS, KEYS  # noqa: E402
 
 STYLES = ("normal", "emphasized", "preformatted", "header", "subheader", "alert", "note", "blockquote", "input", "user1",
           "user2")  # fmt: skip
@@ -254,6 +254,9 @@ def update_of(show, n, measure, asked=(), watched=False):
                                   "filemode": FILE_MODES.get(mode, "read")}  # fmt: skip
     if show.ended:
         update["ended"] = show.ended
+        word, _, code = show.ended.partition(" ")
+        if word == "fault" and int(code) < len(FAULTS):
+            update["why"] = FAULTS[int(code)]
     elif not show.requests and not show.prompt:
         update["ended"] = "stuck"
     if watched or "ended" in update:

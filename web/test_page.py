@@ -6,15 +6,18 @@
 Begins the game from the menu and gives the moves of stories/cottage.moves by the keyboard, menu windows among
 them, and between them a saved game that is restored. On the way the display's size changes, the host is killed
 with a move under way and started again, so is the gateway, the page is loaded anew and comes back from its menu,
-and a second browser watches. Behind each move every window of the page must have the text of `run`. Then the
+and a second browser watches. What the program doesn't know, other sizes of the screen and spectators, is tried on
+the stand-in of test_gateway.py. The Workbench is played too. Behind each move every window of the page must have the text of `run`. Then the
 game is ended, and the story's text may not have become markup. With --pictures it leaves pictures of three sizes.
 Wants Debian's chromium, chromium-driver, python3-selenium and python3-aiohttp. It ends with 1 where something
 is otherwise."""
 
 import argparse
+import asyncio
 import pathlib
 import sys
 import tempfile
+import threading
 import time
 
 from players import COTTAGE, PROGRAM, TOP, Gateway, Host, Otherwise, read_moves
@@ -27,10 +30,13 @@ try:
 except ImportError:
     sys.exit("test_page: apt-get install chromium chromium-driver python3-selenium, and run it with /usr/bin/python3")
 
-from host import Host as Run
+from host import Host as Run  # noqa: E402
+from test_gateway import StandIn  # noqa: E402
 
 SECONDS = 60
 NAMES = {"{Return}": Keys.RETURN, "{Space}": Keys.SPACE, "{Up}": Keys.UP, "{Down}": Keys.DOWN, "{Escape}": Keys.ESCAPE}
+WORKBENCH = TOP / "stories" / "workbench.ulx"
+BARS = 84       # pixels of the page's bars
 LARGE, MIDDLE, PHONE = (1100, 740), (820, 1000), (390, 760)
 # What happens before a move of the story, by its place.
 SAVED = ["save", "first", "drop rosemary", "restore", "first", "inventory"]
@@ -55,13 +61,16 @@ class Page:
         words.binary_location = "/usr/bin/chromium"
         service = webdriver.chrome.service.Service("/usr/bin/chromedriver")
         self.driver = webdriver.Chrome(service=service, options=words)
-        if dark:
-            self.cdp("Emulation.setEmulatedMedia", features=[{"name": "prefers-color-scheme", "value": "dark"}])
+        self.dark(dark)
         self.resize(size)
         self.driver.get(address)
 
     def cdp(self, name, **parts):
         return self.driver.execute_cdp_cmd(name, parts)
+
+    def dark(self, is_dark):
+        value = "dark" if is_dark else "light"
+        self.cdp("Emulation.setEmulatedMedia", features=[{"name": "prefers-color-scheme", "value": value}])
 
     def resize(self, size):
         self.cdp("Emulation.setDeviceMetricsOverride", width=size[0], height=size[1], deviceScaleFactor=1, mobile=False)
@@ -92,6 +101,11 @@ class Page:
     def type(self, text):
         """Keys go to whatever has the focus, as a person's do."""
         webdriver.ActionChains(self.driver).send_keys(text).perform()
+
+    def blank(self):
+        """Takes away the line that a story began."""
+        keys = webdriver.ActionChains(self.driver).key_down(Keys.CONTROL).send_keys("a").key_up(Keys.CONTROL)
+        keys.send_keys(Keys.BACKSPACE).perform()
 
     def submit(self, form, **fields):
         for name, text in fields.items():
@@ -128,6 +142,8 @@ class Game:
         elif kind == "P":
             page.type(move + Keys.RETURN)
         else:
+            if self.run.begun():
+                page.blank()
             page.type(("" if move == "{empty}" else move) + Keys.RETURN)
         self.run.give(move)
         if meanwhile:
@@ -201,6 +217,15 @@ def see(second, game):
     return "saw each move that was looked for"
 
 
+def by_keyboard(page):
+    """Begins the game by the keyboard alone."""
+    for _ in range(12):
+        if page.driver.switch_to.active_element.get_attribute("id") == "begin-key":
+            return page.type("anna7" + Keys.RETURN)
+        page.type(Keys.TAB)
+    raise Otherwise("the field for a key isn't reached by the keyboard")
+
+
 def play(address, host, gateway, story, program, pictures):
     page = Page(address, LARGE)
     try:
@@ -213,7 +238,7 @@ def play_in(page, address, host, gateway, story, program, pictures):
     page.wait("the menu has its stories", lambda: page.driver.execute_script("return !!document.getElementById('begin-story').value"))
     page.picture(pictures, "menu")
     run = Run(str(story), str(program))
-    page.submit("begin", key="anna7")
+    by_keyboard(page)
     page.wait("the story is begun", page.is_ready)
     game = Game(page, run)
     game.look("begin")
@@ -248,6 +273,9 @@ def play_in(page, address, host, gateway, story, program, pictures):
             meanwhile = stop_host
         if at == 30:
             resized(page, MIDDLE)
+            page.dark(True)
+            page.picture(pictures, "middle")
+            page.dark(False)
         if at == 34:
             gateway.kill()
             time.sleep(0.5)
@@ -286,15 +314,81 @@ def play_in(page, address, host, gateway, story, program, pictures):
     return moves_taken, seen
 
 
+def play_workbench(address, program):
+    """The Workbench to its end, on a page of 80 by 24 characters, since it tells its screen's size: lines and keys
+    in grids, lines that it begins, many windows."""
+    page = Page(address, LARGE)
+    try:
+        page.wait("the menu has its stories", lambda: page.driver.execute_script("return !!document.getElementById('begin-story').value"))
+        width, height = page.driver.execute_script("const size = charSize(); return [size.width, size.height]")
+        page.resize((int(80 * width) + 2, int(24 * height) + 2 + BARS))
+        page.driver.execute_script("document.getElementById('begin-story').value = '1'")
+        by_keyboard(page)
+        page.wait("the story is begun", page.is_ready)
+        run = Run(str(WORKBENCH), str(program))
+        game, moves = Game(page, run), read_moves(WORKBENCH.with_suffix(".moves"))
+        game.look("begin")
+        given = 0
+        while not run.ended:
+            game.give(moves[given])
+            given += 1
+        if run.ended != "quit" or page.note() != "The story is over.":
+            raise Otherwise(f"at the end `run` says {run.ended}, the page {page.note()!r}")
+        return given
+    finally:
+        page.driver.quit()
+
+
+def known_by_stand_in():
+    """Sizes and spectators in browsers, before a stand-in that knows SIZE and WATCH."""
+    host, loop = StandIn(), asyncio.new_event_loop()
+    threading.Thread(target=loop.run_forever, daemon=True).start()
+    port = asyncio.run_coroutine_threadsafe(host.start(), loop).result()
+    gateway, pages = Gateway(port, "--story", "A stand-in"), []
+    try:
+        pages.append(Page(gateway.address, LARGE))
+        page = pages[0]
+        page.wait("the menu has its stories", lambda: page.driver.execute_script("return !!document.getElementById('begin-story').value"))
+        by_keyboard(page)
+        page.wait("the story is begun", page.is_ready)
+        page.type("one" + Keys.RETURN)
+        page.wait("a move is answered", lambda: page.gen() == 2)
+        pages.append(watch(gateway.address, page, None))
+        second = pages[1]
+        page.type("half")
+        for gen, size in ((3, PHONE), (4, MIDDLE)):
+            resized(page, size)
+            page.wait("the host knows the size", lambda: page.gen() == gen)
+            look_at_places(page, size)
+            if page.driver.switch_to.active_element.get_attribute("value") != "half":
+                raise Otherwise("what was typed is gone behind another size")
+        page.type(" of it" + Keys.RETURN)
+        page.wait("a move behind the sizes is answered", lambda: page.gen() == 5)
+        second.wait("the spectator sees the last move", lambda: second.gen() == 5)
+        texts = [[window["text"] for window in one.windows() if window["type"] == "buffer"] for one in pages]
+        wanted = "begun\n>LINE one\n>SIZE \n>SIZE \n>LINE half%20of%20it\n>".replace("%20", " ")
+        if texts != [[wanted], [wanted]]:
+            raise Otherwise(f"the player and the spectator see {texts}")
+        if second.driver.find_elements(By.CSS_SELECTOR, "#windows input"):
+            raise Otherwise("a spectator is asked for a move")
+        return "before a stand-in two sizes and a spectator"
+    finally:
+        for page in pages:
+            page.driver.quit()
+        gateway.kill()
+
+
 def main():
     words = argparse.ArgumentParser(usage=__doc__)
     words.add_argument("program", nargs="?", default=PROGRAM, type=pathlib.Path)
     words.add_argument("--pictures", type=pathlib.Path)
     asked = words.parse_args()
     with tempfile.TemporaryDirectory(prefix="page-") as room:
-        host = Host(pathlib.Path(room) / "d", [COTTAGE], program=asked.program.resolve())
-        gateway = Gateway(host.port, "--story", "The Well House")
+        host = Host(pathlib.Path(room) / "d", [COTTAGE, WORKBENCH], program=asked.program.resolve())
+        gateway = Gateway(host.port, "--story", "The Well House", "--story", "The Workbench")
         try:
+            known = known_by_stand_in()
+            others = play_workbench(gateway.address, asked.program.resolve())
             moves, seen = play(gateway.address, host, gateway, COTTAGE, asked.program.resolve(), asked.pictures)
         except (Otherwise, WebDriverException) as cause:
             print(f"test_page: {cause}")
@@ -305,7 +399,7 @@ def main():
     if "anna7" in said:
         print("test_page: the gateway's log has a key")
         return 1
-    print(f"test_page: {moves} moves to the story's end, as by `run`; a spectator {seen}")
+    print(f"test_page: {moves} moves to The Well House's end and {others} to The Workbench's, as by `run`; a spectator {seen}; {known}")
     return 0
 
 

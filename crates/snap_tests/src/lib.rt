@@ -5,5 +5,3 @@
 mod spellings;
 #[cfg(test)]
 mod states;
-#[cfg(test)]
-mod worlds;

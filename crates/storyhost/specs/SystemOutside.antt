@@ -7,7 +7,7 @@ use Rattle.storyhost.specs.declared.edge.disk.FileDisk.{FileDisk}
 use Rattle.storyhost.specs.declared.edge.files.SystemFiles.{SystemFiles}
 
 -- no name is told; the loans, the counts, and the calls for a door
-abbrev pub system_state : {R : Type 0} → SystemFiles R → OutsideState FileDisk
+abbrev pub system_state : {R : Type 0} → SystemFiles R → OutsideState (FileDisk R)
 system_state o = record {
   file = λ name. Untold;
   disk = λ name. Untold;

@@ -1,39 +1,51 @@
 //! A file of the system as a disk: what is trusted, since nothing is told of its content.
-ghost use Rattle.std.specs.Prelude.{◌≡◌, ◌≤◌, ◌^◌, false, IfOk};
+ghost use Rattle.std.specs.Prelude.{◌≡◌, ◌≤◌, ◌^◌, false, Ok, None, IfOk};
 ghost use Rattle.disk_model.specs.Disk.{CountsErrors};
 
+use super::held::make;
+use super::trouble::Trouble;
 use disk_model::{Disk, Failed};
+use host_top::Status;
 use std::fs::File;
-use std::io;
+use std::io::{self, ErrorKind};
 use std::os::unix::fs::FileExt;
+use std::rt::Files;
 
 const ROOM: u64 = 1 << 40;
 
-/// An open file that nobody else writes. It buffers nothing: a size, a write and a sync are one
-/// system call each, and so is a read, but for one more where it goes past the end.
+/// An open file that nobody else writes, or one that is missing, which reads as empty and is made
+/// at its first write. It buffers nothing: a size, a write and a sync of a file that is there are
+/// one system call each, and so is a read, but for one more where it goes past the end.
 ///
 /// A call fails where the system's does, where a write puts less than was asked or would pass 2^40
 /// bytes, and where the file is longer than that.
 #[derive(Drop)]
-pub struct FileDisk {
-    file: File,
+pub struct FileDisk<'r, R> {
+    rt: &'r R,
+    name: String,
+    file: Option<File>,
     reach: u128,
     faults: u64,
+    /// Why a call failed first.
+    cause: Option<io::Error>,
     label: u64,
 }
 
-impl FileDisk {
+impl<'r, R> FileDisk<'r, R> {
     ghost use Rattle.storyhost.specs.FileDisk.{file_reach, file_faults, file_label};
 
-    /// A disk on this file, which is open for reading and writing.
-    pub fn new(file: File) -> FileDisk
+    /// A disk on the file of this name, which is open for reading and writing, or missing.
+    pub fn new(rt: &'r R, name: String, file: Option<File>) -> FileDisk<'r, R>
         ensures value { (file_reach result ≡ 0) × (file_faults result ≡ 0) }
         ensures label { file_label result ≡ 0 }
     {
         FileDisk {
+            rt,
+            name,
             file,
             reach: 0,
             faults: 0,
+            cause: None,
             label: 0,
         }
     }
@@ -46,57 +58,100 @@ impl FileDisk {
     {
         self.label = label;
     }
+
+    /// What went wrong first, where something did.
+    pub fn trouble(self) -> Option<Trouble> {
+        let cause = self.cause?;
+        Some(Trouble::of_name(Status::DiskFault, self.name, cause))
+    }
 }
 
-fn measure(file: &File) -> Result<u64, Failed>
+fn measure(file: &Option<File>) -> io::Result<u64>
     ensures { IfOk result (λ n. n ≤ 2 ^ 40) }
 {
-    match file.metadata() {
-        Ok(metadata) if metadata.len() <= ROOM => Ok(metadata.len()),
-        _ => Err(Failed),
+    let Some(file) = file else {
+        return Ok(0);
+    };
+    let length = file.metadata()?.len();
+    if length > ROOM {
+        return Err(ErrorKind::FileTooLarge.into());
     }
+    Ok(length)
 }
 
 // A read that gives less than was asked is followed by another, until one gives nothing.
-fn fill(file: &File, place: u64, into: &mut [u8]) -> io::Result<()> {
+fn fill(file: &Option<File>, place: u64, into: &mut [u8]) -> io::Result<()> {
     let mut done = 0;
-    while done < into.len() {
-        let got = file.read_at(&mut into[done..], place.saturating_add(done as u64))?;
-        if got == 0 {
-            into[done..].fill(0);
-            return Ok(());
+    if let Some(file) = file {
+        while done < into.len() {
+            let got = file.read_at(&mut into[done..], place.saturating_add(done as u64))?;
+            if got == 0 {
+                break;
+            }
+            done += got;
         }
-        done += got;
     }
+    into[done..].fill(0);
     Ok(())
 }
 
 // A write that puts less than was asked has failed.
-fn put(file: &File, place: u64, piece: &[u8]) -> Result<(), Failed> {
+fn put(file: &File, place: u64, piece: &[u8]) -> io::Result<()> {
+    if file.write_at(piece, place)? < piece.len() {
+        return Err(ErrorKind::WriteZero.into());
+    }
+    Ok(())
+}
+
+// The same, of a file that is made where it is missing.
+fn put_or_make<R: Files<File = File>>(
+    rt: &R,
+    name: &str,
+    file: &mut Option<File>,
+    place: u64,
+    piece: &[u8],
+) -> io::Result<()> {
     if piece.is_empty() {
         return Ok(());
     }
-    match file.write_at(piece, place) {
-        Ok(done) if done == piece.len() => Ok(()),
-        _ => Err(Failed),
+    if let Some(file) = file {
+        return put(file, place, piece);
+    }
+    let made = make(rt, name)?;
+    let answer = put(&made, place, piece);
+    *file = Some(made);
+    answer
+}
+
+fn flush(file: &Option<File>) -> io::Result<()> {
+    match file {
+        Some(file) => file.sync_data(),
+        None => Ok(()),
     }
 }
 
 // Counts the failure, where it is one.
-fn count<T>(faults: &mut u64, answer: Result<T, Failed>) -> Result<T, Failed>
-    ensures kept { result ≡ answer }
+fn count<T>(
+    faults: &mut u64,
+    cause: &mut Option<io::Error>,
+    answer: io::Result<T>,
+) -> Result<T, Failed>
+    ensures kept { IfOk result (λ value. answer ≡ Ok value) }
     ensures cause { CountsErrors result faults.old faults.new }
 {
     match answer {
         Ok(value) => Ok(value),
-        Err(Failed) => {
+        Err(error) => {
             *faults = faults.saturating_add(1);
+            if cause.is_none() {
+                *cause = Some(error);
+            }
             Err(Failed)
         }
     }
 }
 
-impl Disk for FileDisk {
+impl<'r, R: Files<File = File>> Disk for FileDisk<'r, R> {
     ghost use Rattle.std.specs.Prelude.{[]};
     ghost use Rattle.std.proofs.Common.{rules, arith};
 
@@ -124,28 +179,28 @@ impl Disk for FileDisk {
 
     fn size(&mut self) -> Result<u64, Failed> {
         let answer = measure(&self.file);
-        count(&mut self.faults, answer)
+        count(&mut self.faults, &mut self.cause, answer)
     }
 
     fn read_at(&mut self, place: u64, into: &mut [u8]) -> Result<(), Failed> {
-        let answer = fill(&self.file, place, into).map_err(|_| Failed);
-        count(&mut self.faults, answer)
+        let answer = fill(&self.file, place, into);
+        count(&mut self.faults, &mut self.cause, answer)
     }
 
     fn write_at(&mut self, place: u64, piece: &[u8]) -> Result<(), Failed> {
         let end = place as u128 + piece.len() as u128;
         self.reach = self.reach.max(end);
         let answer = if end > ROOM as u128 {
-            Err(Failed)
+            Err(ErrorKind::FileTooLarge.into())
         } else {
-            put(&self.file, place, piece)
+            put_or_make(self.rt, &self.name, &mut self.file, place, piece)
         };
-        count(&mut self.faults, answer)
+        count(&mut self.faults, &mut self.cause, answer)
     }
 
     fn sync(&mut self) -> Result<(), Failed> {
-        let answer = self.file.sync_data().map_err(|_| Failed);
-        count(&mut self.faults, answer)
+        let answer = flush(&self.file);
+        count(&mut self.faults, &mut self.cause, answer)
     }
 
     fn faults(&self) -> u64 {

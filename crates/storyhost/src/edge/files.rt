@@ -6,17 +6,21 @@ ghost use Rattle.std.specs.BTreeMap.{get_by_text};
 ghost use Rattle.host_top.specs.Files.{Told, AreBelow};
 
 use super::disk::FileDisk;
-use super::tcp::TcpDoor;
+use super::held::find;
+use super::patience::Patience;
+use super::tcp::{AcceptFault, TcpDoor};
+use super::trouble::Trouble;
 use disk_model::{Disk, Failed};
 use host_serve::Worked;
-use host_top::{DoorCall, DoorCalls, Fetch, Loan, Outside};
+use host_top::{DoorCall, DoorCalls, Fetch, Loan, Outside, Status};
 use std::alloc::{AllocError, Global};
 use std::collections::BTreeMap;
-use std::fs::{self, File, OpenOptions};
+use std::env::Env;
+use std::fs::{self, File};
 use std::io::{self, Eprint, ErrorKind, Read};
 use std::net::{Net, TcpListener, TcpStream};
-use std::path::Path;
 use std::rt::Files;
+use std::time::Clock;
 
 /// The most bytes of a file that a load gives.
 const MOST_OF_FILE: u64 = 67_108_865;
@@ -33,6 +37,8 @@ pub struct SystemFiles<'r, R> {
     door_faults: u64,
     shut: u64,
     door_calls: DoorCalls,
+    /// What went wrong first.
+    trouble: Option<Trouble>,
     ghost below: { AreBelow (get_by_text loans) calls },
 }
 
@@ -47,26 +53,43 @@ impl<'r, R> SystemFiles<'r, R> {
             door_faults: 0,
             shut: 0,
             door_calls: DoorCalls::none(),
+            trouble: None,
         }
+    }
+
+    /// What went wrong first, where something did.
+    pub fn trouble(&self) -> Option<&Trouble> {
+        self.trouble.as_ref()
     }
 }
 
-/// Opens the file of that name for reading and writing, and makes it, with its folder, where it is
-/// missing. The folder is synced, so that a stop doesn't take the file out of it.
-fn open_or_make<R: Files<File = File>>(rt: &R, name: &str) -> io::Result<File> {
-    let folder = Path::new(name).parent();
-    if let Some(folder) = folder {
-        fs::create_dir_all(rt, folder)?;
+/// Keeps what went wrong, where something did, unless something else did before.
+fn keep(first: &mut Option<Trouble>, trouble: Option<Trouble>) {
+    if first.is_none() {
+        *first = trouble;
     }
-    let file = OpenOptions::new()
-        .read(true)
-        .write(true)
-        .create(true)
-        .open(rt, name)?;
-    if let Some(folder) = folder {
-        fs::open(rt, folder)?.sync_all()?;
+}
+
+/// Keeps why a file wasn't given, unless something went wrong before.
+fn keep_name(
+    first: &mut Option<Trouble>,
+    status: Status,
+    alloc: Global,
+    name: &str,
+    cause: io::Error,
+) {
+    // Where memory is wanting for the name it isn't told.
+    if let Ok(name) = String::from_str(alloc, name) {
+        keep(first, Some(Trouble::of_name(status, name, cause)));
     }
-    Ok(file)
+}
+
+/// Listens on this port, with the patience that the environment asks for.
+fn open_door<R>(rt: &R, port: u16, links: u32) -> io::Result<TcpDoor<'_, R>>
+where
+    R: Net<Listener = TcpListener, Stream = TcpStream> + Env,
+{
+    TcpDoor::open(rt, port, links, Patience::of(rt)?)
 }
 
 /// The disk of that name is lent.
@@ -96,14 +119,15 @@ fn note(
 
 impl<'r, R> Outside for SystemFiles<'r, R>
 where
-    R: Files<File = File> + Net<Listener = TcpListener, Stream = TcpStream> + Eprint,
+    R: Files<File = File> + Net<Listener = TcpListener, Stream = TcpStream>,
+    R: Clock + Env + Eprint + Sync,
 {
     ghost use Rattle.host_top.specs.Files.{Closes, KeepsDisks, KeepsFiles};
     ghost use Rattle.storyhost.specs.SystemOutside.{system_state, none_due};
 
-    type Disk = FileDisk;
+    type Disk = FileDisk<'r, R>;
 
-    type Door = TcpDoor;
+    type Door = TcpDoor<'r, R>;
 
     ghost outside = { system_state };
 
@@ -125,26 +149,31 @@ where
         if error.kind() == ErrorKind::OutOfMemory {
             return Err(Fetch::NoMemory);
         }
+        keep_name(&mut self.trouble, Status::ReadFault, alloc, name, error);
         self.faults = self.faults.saturating_add(1);
         Err(Fetch::Failed)
     }
 
-    fn disk(&mut self, alloc: Global, name: &str) -> Result<FileDisk, Fetch> {
+    fn disk(&mut self, alloc: Global, name: &str) -> Result<FileDisk<'r, R>, Fetch> {
         if is_out(&self.loans, name) {
             self.disk_faults = self.disk_faults.saturating_add(1);
             return Err(Fetch::Failed);
         }
-        let file = match open_or_make(self.rt, name) {
+        let file = match find(self.rt, name) {
             Ok(file) => file,
             Err(error) => {
                 if error.kind() == ErrorKind::OutOfMemory {
                     return Err(Fetch::NoMemory);
                 }
+                keep_name(&mut self.trouble, Status::DiskFault, alloc, name, error);
                 self.disk_faults = self.disk_faults.saturating_add(1);
                 return Err(Fetch::Failed);
             }
         };
-        let mut disk = FileDisk::new(file);
+        let Ok(own) = String::from_str(alloc, name) else {
+            return Err(Fetch::NoMemory);
+        };
+        let mut disk = FileDisk::new(self.rt, own, file);
         let label = self.calls;
         if label == u64::MAX {
             return Err(Fetch::NoMemory);
@@ -162,16 +191,18 @@ where
         }
     }
 
-    fn put_back(&mut self, name: &str, disk: FileDisk) {
+    fn put_back(&mut self, name: &str, disk: FileDisk<'r, R>) {
+        let faults = disk.faults();
+        keep(&mut self.trouble, disk.trouble());
         match self.loans.get_mut(name) {
-            Some(loan) => loan.end(disk.faults(), &mut self.disk_faults),
+            Some(loan) => loan.end(faults, &mut self.disk_faults),
             None => unreachable!("the disk is lent"),
         }
     }
 
-    fn door(&mut self, port: u16, links: u32) -> Result<TcpDoor, Failed> {
+    fn door(&mut self, port: u16, links: u32) -> Result<TcpDoor<'r, R>, Failed> {
         self.door_calls.add(DoorCall { port, links });
-        match TcpDoor::open(self.rt, port, links) {
+        match open_door(self.rt, port, links) {
             Ok(door) => {
                 let port = door.port();
                 // Where standard error fails, too, nobody is left to be told.
@@ -180,15 +211,17 @@ where
                     .eprintln(format_args!("storyhost: serving on 127.0.0.1:{port}"));
                 Ok(door)
             }
-            Err(_) => {
+            Err(error) => {
+                let trouble = Trouble::new(Status::DoorFault, error);
+                keep(&mut self.trouble, Some(trouble));
                 self.door_faults = self.door_faults.saturating_add(1);
                 Err(Failed)
             }
         }
     }
 
-    fn closed(&mut self, how: Worked<TcpDoor>)
-        ensures value { Closes how (system_state self.old) (system_state self.new) }
+    fn closed(&mut self, how: Worked<TcpDoor<'r, R>>)
+        ensures value { Closes how.entry (system_state self.old) (system_state self.new) }
         ensures others { (none_due self.new ≡ none_due self.old)
             × (none_due self.new ≡ none_due self.old)
             × (none_due self.new ≡ none_due self.old) }
@@ -197,7 +230,11 @@ where
     {
         match how {
             Worked::Shut(_) => self.shut = self.shut.saturating_add(1),
-            Worked::DoorFault(_) => self.door_faults = self.door_faults.saturating_add(1),
+            Worked::DoorFault(AcceptFault(error)) => {
+                let trouble = Trouble::new(Status::DoorFault, error);
+                keep(&mut self.trouble, Some(trouble));
+                self.door_faults = self.door_faults.saturating_add(1);
+            }
         }
     }
 }

@@ -2,12 +2,19 @@
 //! their content.
 mod disk;
 mod files;
+mod greeting;
+mod held;
+mod patience;
 mod reading;
 mod tcp;
 #[cfg(test)]
 mod tests;
+mod trouble;
+mod waiting;
 mod writing;
 
 pub use files::SystemFiles;
 pub use reading::Reading;
+pub use trouble::Trouble;
+pub use waiting::Waiting;
 pub use writing::Writing;

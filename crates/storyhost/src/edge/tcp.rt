@@ -1,17 +1,108 @@
 //! Links over the system's loopback TCP: what is trusted, since nothing is told of their content.
 ghost use Rattle.std.specs.Prelude.{◌≡◌, false, None};
+ghost use Rattle.std.specs.Io.{ReadsAtMost, WritesAtMost};
 
+use super::greeting::{Caller, ENOUGH, caller_of};
+use super::patience::{Patience, pause};
 use host_serve::{Door, Next, Served};
 use line_talk::{Got, Link, Put, Sink, Source};
 use std::io::{self, ErrorKind, Read, Write};
 use std::net::{Ipv4Addr, Net, SocketAddr, SocketAddrV4, TcpListener, TcpStream};
 use std::sync::Wait;
 use std::sync::atomic::{AtomicU64, Ordering};
+use std::time::Clock;
 
-/// A link over a connection. Each error counts as a fault of its side, and so does a write that
-/// takes nothing.
+/// The system's numbers for a machine or a program that has all the files open that it may have,
+/// and for one that has no room for a connection.
+const MACHINE_IS_FULL: i32 = 23;
+
+const PROGRAM_IS_FULL: i32 = 24;
+
+const NO_ROOM: i32 = 105;
+
+/// The first bytes of a connection, until they tell who is calling.
+#[derive(Drop)]
+struct Head {
+    bytes: [u8; ENOUGH],
+    /// How many of them were read.
+    count: usize,
+    is_client: bool,
+}
+
+impl Head {
+    fn new() -> Head {
+        Head {
+            bytes: [0; ENOUGH],
+            count: 0,
+            is_client: false,
+        }
+    }
+
+    /// How many bytes may be read, at most so many: those that were looked at, as long as they
+    /// don't tell who is calling. It fails where that is no client.
+    fn admit(&mut self, stream: &TcpStream, most: usize) -> io::Result<usize> {
+        if self.is_client {
+            return Ok(most);
+        }
+        let Some(room) = self.bytes.get_mut(self.count..) else {
+            return Ok(most);
+        };
+        let seen = stream.peek(room)?;
+        let end = self.count.saturating_add(seen).min(ENOUGH);
+        match caller_of(&self.bytes[..end]) {
+            Caller::Other => Err(ErrorKind::InvalidData.into()),
+            Caller::Unknown if seen > 0 => {
+                let count = seen.min(most);
+                self.count = self.count.saturating_add(count);
+                Ok(count)
+            }
+            Caller::Unknown | Caller::Client => {
+                self.is_client = true;
+                Ok(most)
+            }
+        }
+    }
+}
+
+/// Reads bytes of a client.
+fn read_once(stream: &mut TcpStream, head: &mut Head, into: &mut [u8]) -> io::Result<usize>
+    ensures bound { ReadsAtMost result into.new }
+{
+    let most = head.admit(stream, into.len())?.min(into.len());
+    stream.read(&mut into[..most])
+}
+
+/// The same, however often the program is stopped for a while.
+fn read_on(stream: &mut TcpStream, head: &mut Head, into: &mut [u8]) -> io::Result<usize>
+    ensures bound { ReadsAtMost result into.new }
+{
+    for _ in 0..u64::MAX {
+        match read_once(stream, head, into) {
+            Err(error) if error.kind() == ErrorKind::Interrupted => {}
+            answer => return answer,
+        }
+    }
+    Err(ErrorKind::Interrupted.into())
+}
+
+/// Writes bytes, however often the program is stopped for a while.
+fn write_on(stream: &mut TcpStream, piece: &[u8]) -> io::Result<usize>
+    ensures bound { WritesAtMost result piece.now }
+{
+    for _ in 0..u64::MAX {
+        match stream.write(piece) {
+            Err(error) if error.kind() == ErrorKind::Interrupted => {}
+            answer => return answer,
+        }
+    }
+    Err(ErrorKind::Interrupted.into())
+}
+
+/// A link over a connection. Each error counts as a fault of its side, and so do a write that takes
+/// nothing, and a read of a link that isn't a client's.
 pub struct Connection {
     stream: TcpStream,
+    head: Head,
     taken: u64,
     ended: bool,
     read_faults: u64,
@@ -27,6 +118,7 @@ impl Connection {
     {
         Connection {
             stream,
+            head: Head::new(),
             taken: 0,
             ended: false,
             read_faults: 0,
@@ -37,6 +129,7 @@ impl Connection {
     fn close(self) {
         let Connection {
             stream,
+            head: _,
             taken: _,
             ended: _,
             read_faults: _,
@@ -63,7 +156,7 @@ impl Source for Connection {
     ghost beside = { λ c. record { held = None; faults = c.write_faults } };
 
     fn read(&mut self, into: &mut [u8]) -> Got {
-        match self.stream.read(into) {
+        match read_on(&mut self.stream, &mut self.head, into) {
             Ok(0) => {
                 self.ended = true;
                 Got::End
@@ -100,7 +193,7 @@ impl Sink for Connection {
         if piece.is_empty() {
             return Put::Took(0);
         }
-        match self.stream.write(piece) {
+        match write_on(&mut self.stream, piece) {
             Ok(count) if count > 0 => Put::Took(count),
             _ => {
                 self.write_faults = self.write_faults.saturating_add(1);
@@ -124,42 +217,56 @@ impl Link for Connection {
 #[derive(Drop)]
 pub struct AllTaken(());
 
-/// A door of TCP failed.
+/// Why a door of TCP failed.
 #[derive(Drop)]
-pub struct AcceptFault(());
+pub struct AcceptFault(pub io::Error);
 
 /// A door on a port of 127.0.0.1, for so many links.
 #[derive(Drop)]
-pub struct TcpDoor {
+pub struct TcpDoor<'r, R> {
+    clock: &'r R,
     listener: TcpListener,
     port: u16,
+    patience: Patience,
     /// How many calls for a link have begun.
     calls: AtomicU64,
     links: u32,
 }
 
-impl TcpDoor {
+impl<'r, R: Net<Listener = TcpListener, Stream = TcpStream>> TcpDoor<'r, R> {
     /// Listens on this port, or on a free one where it is 0.
-    pub fn open<R: Net<Listener = TcpListener, Stream = TcpStream>>(
-        rt: &R,
+    pub fn open(
+        rt: &'r R,
         port: u16,
         links: u32,
-    ) -> io::Result<TcpDoor> {
+        patience: Patience,
+    ) -> io::Result<TcpDoor<'r, R>> {
         let address = SocketAddr::V4(SocketAddrV4::new(Ipv4Addr::LOCALHOST, port));
         let listener = TcpListener::bind(rt, address)?;
         let port = listener.local_addr()?.port();
         Ok(TcpDoor {
+            clock: rt,
             listener,
             port,
+            patience,
             calls: AtomicU64::new(0),
             links,
         })
     }
+}
 
+impl<'r, R> TcpDoor<'r, R> {
     /// The port on which it listens.
     pub fn port(&self) -> u16 {
         self.port
     }
+}
+
+/// Lets a connection be ended that keeps its worker for nothing. It goes on where a wish isn't met.
+fn prepare(stream: &TcpStream, patience: Patience) {
+    let _ = stream.set_nodelay(true);
+    let _ = stream.set_read_timeout(Some(patience.idle));
+    let _ = stream.set_write_timeout(Some(patience.deaf));
 }
 
 /// The fault is one of the connection that was to come, and not of the door.
@@ -175,7 +282,16 @@ fn is_of_connection(kind: ErrorKind) -> bool {
     )
 }
 
-impl Door for TcpDoor {
+/// The system has no room for one more connection now, and may have it later.
+fn is_want(error: io::Error) -> bool {
+    error.kind() == ErrorKind::OutOfMemory
+        || matches!(
+            error.raw_os_error(),
+            Some(MACHINE_IS_FULL | PROGRAM_IS_FULL | NO_ROOM)
+        )
+}
+
+impl<'r, R: Clock + Sync> Door for TcpDoor<'r, R> {
     type Conn = Connection;
 
     type End = AllTaken;
@@ -188,19 +304,19 @@ impl Door for TcpDoor {
 
     ghost fails = { λ _ _. Unit {0} };
 
-    fn next<W: Wait>(&self, rt: &W) -> Next<TcpDoor> {
+    fn next<W: Wait>(&self, rt: &W) -> Next<TcpDoor<'r, R>> {
         if self.calls.fetch_add(1, Ordering::SeqCst) >= u64::from(self.links) {
             return Next::Shut(AllTaken(()));
         }
         for _ in rt.forever() {
             match self.listener.accept() {
                 Ok((stream, _)) => {
-                    // It goes on where the wish isn't met.
-                    let _ = stream.set_nodelay(true);
+                    prepare(&stream, self.patience);
                     return Next::Link(Connection::new(stream));
                 }
                 Err(error) if is_of_connection(error.kind()) => {}
-                Err(_) => return Next::Failed(AcceptFault(())),
+                Err(error) if is_want(error) => pause(self.clock),
+                Err(error) => return Next::Failed(AcceptFault(error)),
             }
         }
         unreachable!()

@@ -22,16 +22,16 @@ returns-clause-back g c =
           (c.get_mut.follows.lender c.end.new.self) (Some c.end.new.self)
           ((c.get_mut.follows.holds c.end.new.self).3 (search (rules))) other
           ∙ ap (λ (l : Loan). update bytes_eq old name (Some l) other) c.end.ensures.loan
-          ∙ ap (λ (l : Option Loan). update bytes_eq old name (returned c.faults.result l) other)
+          ∙ ap (λ (l : Option Loan). update bytes_eq old name (returned c.faults-faults.result l) other)
           (sym here)
           ∙ ap (λ (n : ℕ). update bytes_eq old name (returned n (old name)) other)
-          c.faults.ensures.value;
+          c.faults-faults.ensures.value;
       count =
           subst (λ (l : Option Loan). IsSomeAnd l
           (λ loan. RisesWith loan.from c.args.disk.faults c.args.self.now.disk_faults
           c.end.new.faults)) (sym here)
           (subst (λ (n : ℕ). RisesWith c.in-Some.loan.now.from n c.args.self.now.disk_faults
-          c.end.new.faults) c.faults.ensures.value c.end.ensures.faults);
+          c.end.new.faults) c.faults-faults.ensures.value c.end.ensures.faults);
     }
 
 pub invariant_of-self : goal.invariant_of-self

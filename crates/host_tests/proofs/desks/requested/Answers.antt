@@ -1,5 +1,5 @@
 use Rattle.std.proofs.Common.{arith}
-use Rattle.saves_tests.proofs.desks.requested.Goals as goal
+use Rattle.host_tests.proofs.desks.requested.Goals as goal
 
 pub returns-in-Ok : goal.returns-in-Ok
 returns-in-Ok c =
