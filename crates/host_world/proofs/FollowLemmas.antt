@@ -5,11 +5,14 @@ use Rattle.std.proofs.lemmas.List.{at_drop_all, drop_more}
 use Rattle.std.specs.List.{slice_get}
 use Rattle.story_run.specs.declared.story.Story.{Story}
 use Rattle.host_world.specs.Events.{after, run}
+use Rattle.host_world.specs.Happenings.{all_told}
 use Rattle.host_world.specs.Headline.{EachLives, EventsAreIsolated, NothingIsLost}
+use Rattle.host_world.specs.Headline.{OpeningsFindRows}
 use Rattle.host_world.specs.declared.event.Event.{Event}
 use Rattle.host_world.specs.declared.state.HostState.{HostState}
 use Rattle.host_world.proofs.Apart.{isolated_holds, nothing_lost}
-use Rattle.host_world.proofs.Runs.{lives_holds}
+use Rattle.host_world.proofs.Openings.{call_well}
+use Rattle.host_world.proofs.Runs.{first_of, lives_holds, run_well, start_well}
 
 module _ (stories : List Story) (budget : ℕ) where
   pub run_next : (events : List Event) (i : ℕ) (event : Event) (w v : HostState) → i < length events
@@ -39,6 +42,13 @@ module _ (stories : List Story) (budget : ℕ) where
         (ap (λ (u : HostState). slice_get u.sessions s) (sym (is
         ∙ ap (λ (l : List Event). run stories budget w l) split
         ∙ run-append earlier later w)) ∙ at_later)
+
+    pub openings_find : OpeningsFindRows stories budget w events v
+    openings_find premise start earlier later disk good reads split down up =
+        ((call_well stories budget premise (first_of stories budget premise w)
+        (λ s. all_told stories budget s w earlier) (run stories budget w earlier) disk good reads
+        (run_well stories budget premise earlier (first_of stories budget premise w) (λ s. []) w
+        (start_well stories budget premise w start))).reopens down up).rows
 
     pub isolated : EventsAreIsolated stories budget w events v
     isolated = subst (λ (u : HostState). EventsAreIsolated stories budget w events u) (sym is)

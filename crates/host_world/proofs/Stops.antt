@@ -23,7 +23,7 @@ use Rattle.disk_model.specs.Plain.{is_image}
 use Rattle.host_world.specs.Events.{stop, stopped}
 use Rattle.host_world.specs.Happenings.{Cut, Happening, turn_cut, cut_at}
 use Rattle.host_world.specs.Happenings.{cut_in, history_left, lost, replies_of}
-use Rattle.host_world.specs.Pending.{KeepsCommands, OneMore, command_listed}
+use Rattle.host_world.specs.Pending.{KeepsCommands, OneMore, RowsOrOneMore, command_listed}
 use Rattle.host_world.specs.Pending.{pending, pending_at, pending_of}
 use Rattle.host_world.specs.Sessions.{without_turn}
 use Rattle.host_world.specs.declared.state.HostState.{HostState}
@@ -213,7 +213,7 @@ module _ (stories : List Story) (budget : ℕ) where
       first_found = ((down_rows s w.rows w.uncertain x w.up rows_now).1, plain w.up rows_now)
 
       spelled_by : (u : Option Row) → w.uncertain ≡ u → IsDiskImage w.disk image
-          → (rows : List Row) × SpellsRows image rows
+          → (rows : List Row) × SpellsRows image rows × RowsOrOneMore w rows
           × OneMore (commands_in x.history) (commands_of rows s)
           × (w.up ≡ true → KeepsCommands stories budget s w x rows)
       spelled_by None is of = (
@@ -221,6 +221,7 @@ module _ (stories : List Story) (budget : ℕ) where
         spells_shut w.rows image sound.journal
             (subst (λ (o : Option Row). StandsInImage w.rows o image) is
             (sound.images image of)),
+        inl refl,
         first_found.0,
         first_found.1,
       )
@@ -232,17 +233,18 @@ module _ (stories : List Story) (budget : ℕ) where
           let now : RowsFact stories budget s w.rows (Some u) x w.up =
           subst (λ (o : Option Row). RowsFact stories budget s w.rows o x w.up) is rows_now in
           elim (closed_unsure w.rows u image sound.journal next stands) [
-            | inl same ↦ (w.rows, same.spells, first_found.0, first_found.1)
+            | inl same ↦ (w.rows, same.spells, inl refl, first_found.0, first_found.1)
             | inr more ↦ (
               w.rows ++ u ∷ [],
               more.spells,
+              inr (u, is, refl),
               (down_rows s w.rows (Some u) x w.up now).2,
               with_gate u is w.up now,
             )
           ]
 
       pub image_spells : IsDiskImage w.disk image
-          → (rows : List Row) × SpellsRows image rows
+          → (rows : List Row) × SpellsRows image rows × RowsOrOneMore w rows
           × OneMore (commands_in x.history) (commands_of rows s)
           × (w.up ≡ true → KeepsCommands stories budget s w x rows)
       image_spells of = spelled_by w.uncertain refl of

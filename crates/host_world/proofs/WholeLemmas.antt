@@ -19,14 +19,16 @@ use Rattle.store_events.proofs.SessionLemmas.{stays_in_agreement, warms_in_sixte
 use Rattle.host_world.specs.Events.{after, run}
 use Rattle.host_world.specs.Happenings.{Happening, all_told}
 use Rattle.host_world.specs.Headline.{AreGiven}
+use Rattle.host_world.specs.Starts.{IsStart}
 use Rattle.host_world.specs.Puts.{AreOwnPuts, IsOwnPut}
 use Rattle.host_world.specs.Whole.{all_to_host, are_images, closes_host, fails_at, is_up, no_put}
 use Rattle.host_world.specs.Whole.{to_files, to_host, whole_after, whole_run}
 use Rattle.host_world.specs.WholeHeadline.{EachInAgreement, FilesAgree, LivesAsHost}
-use Rattle.host_world.specs.WholeHeadline.{NoneAreMissed, NoneIsMissed}
+use Rattle.host_world.specs.WholeHeadline.{NoneAreMissed, NoneIsMissed, NothingIsLostInAll}
 use Rattle.host_world.specs.WholeHeadline.{SessionWarmsInSixteen}
 use Rattle.host_world.specs.declared.event.Event.{Event}
 use Rattle.host_world.specs.declared.event.Event.TheVariants as journal
+use Rattle.host_world.specs.declared.state.HostState.{HostState}
 use Rattle.host_world.specs.declared.whole.WholeEvent.{WholeEvent}
 use Rattle.host_world.specs.declared.whole.WholeEvent.TheVariants.{Take, Want, Hold, Call}
 use Rattle.host_world.specs.declared.whole.WholeEvent.TheVariants.{Free, Run, Keep, Accept}
@@ -37,6 +39,7 @@ use Rattle.host_world.specs.Reading.{rows_in}
 use Rattle.host_world.specs.Starts.{rows_or_none}
 use Rattle.host_world.specs.Whole.{file_over, whole_down}
 use Rattle.host_world.specs.WholeHeadline.{MayBegin}
+use Rattle.host_world.proofs.Apart.{nothing_lost}
 use Rattle.host_world.proofs.FollowLemmas.{run-append}
 use Rattle.host_world.proofs.ReadCode.{down_starts}
 use Rattle.host_world.proofs.ReadingLemmas.{reads_rows}
@@ -217,19 +220,91 @@ module _ (stories : List Story) where
             (agree s x at) is),
       )
 
+  -- ---- up to some point of it, and behind that
+
+  whole-append : (budget : ℕ) (earlier later : List WholeEvent) (w : WholeState)
+      → whole_run stories budget w (earlier ++ later)
+      ≡ whole_run stories budget (whole_run stories budget w earlier) later
+  whole-append budget [] later w = refl
+  whole-append budget (e ∷ earlier) later w =
+      whole-append budget earlier later (whole_after stories budget w e)
+
+  own_parts : (budget : ℕ) (earlier later : List WholeEvent) (w : WholeState)
+      → AreOwnPuts stories budget w (earlier ++ later)
+      → AreOwnPuts stories budget w earlier
+      × AreOwnPuts stories budget (whole_run stories budget w earlier) later
+  own_parts budget [] later w own = (tt, own)
+  own_parts budget (e ∷ earlier) later w own =
+      let parts = own_parts budget earlier later (whole_after stories budget w e) own.1 in (
+        (own.0, parts.0),
+        parts.1,
+      )
+
+  module _ (budget : ℕ) (w : WholeState) (events earlier later : List WholeEvent)
+      (split : events ≡ earlier ++ later) where
+    behind : whole_run stories budget w events
+        ≡ whole_run stories budget (whole_run stories budget w earlier) later
+    behind =
+        ap (λ (l : List WholeEvent). whole_run stories budget w l) split
+        ∙ whole-append budget earlier later w
+
+    host_behind : (whole_run stories budget w events).host
+        ≡ run stories budget (run stories budget w.host (all_to_host stories budget w earlier))
+        (all_to_host stories budget (whole_run stories budget w earlier) later)
+    host_behind =
+        ap (λ (u : WholeState). u.host) behind
+        ∙ lives_as_host budget (whole_run stories budget w earlier) later
+        ∙ ap (λ (h : HostState). run stories budget h
+        (all_to_host stories budget (whole_run stories budget w earlier) later))
+        (lives_as_host budget w earlier)
+
+    sound_between : (premise : AreGiven stories budget) → IsStart w.host
+        → Sound stories budget (first_of stories budget premise w.host)
+        (λ t. all_told stories budget t w.host (all_to_host stories budget w earlier))
+        (whole_run stories budget w earlier).host
+    sound_between premise start =
+        subst (λ (h : HostState). Sound stories budget (first_of stories budget premise w.host)
+        (λ t. all_told stories budget t w.host (all_to_host stories budget w earlier)) h)
+        (sym (lives_as_host budget w earlier))
+        (run_well stories budget premise (all_to_host stories budget w earlier)
+        (first_of stories budget premise w.host) (λ t. []) w.host
+        (start_well stories budget premise w.host start))
+
+  pub none_lost_in_all : (budget : ℕ) (w : WholeState) (events : List WholeEvent)
+      → NothingIsLostInAll stories budget w events (whole_run stories budget w events)
+  none_lost_in_all budget w events premise start earlier later split s x y at free_ at_later =
+      nothing_lost stories budget premise w.host (all_to_host stories budget w earlier)
+      (all_to_host stories budget (whole_run stories budget w earlier) later) start s x y
+      (ap (λ (h : HostState). slice_get h.sessions s) (sym (lives_as_host budget w earlier)) ∙ at)
+      free_
+      (ap (λ (h : HostState). slice_get h.sessions s)
+      (sym (host_behind budget w events earlier later split)) ∙ at_later)
+
   pub session_warms : (budget : ℕ) (w : WholeState) (events : List WholeEvent)
       → AreOwnPuts stories budget w events
       → SessionWarmsInSixteen stories budget w events (whole_run stories budget w events)
-  session_warms budget w events own premise start all s first last at date none there place image
-      row is =
+  session_warms budget w events own premise start all earlier later split s then_ last at date none
+      there place image row is =
       let v = whole_run stories budget w events in
+      let m = whole_run stories budget w earlier in
+      let parts =
+      own_parts budget earlier later w
+      (subst (λ (l : List WholeEvent). AreOwnPuts stories budget w l) split own) in
+      let to_end = behind budget w events earlier later split in
       let agree = (files_agree budget w events own premise start all).0 in
-      let up = all_date budget premise events w (first_of stories budget premise w.host) (λ t. [])
-      (start_well stories budget premise w.host start) all own s
-      (λ x here. subst (λ (z : StoreState). IsUpToDate (session_in_rows w.host.rows s z))
-      (some_same first x (sym at ∙ here)) date) none last there in
+      let up =
+      all_date budget premise later m (first_of stories budget premise w.host)
+      (λ t. all_told stories budget t w.host (all_to_host stories budget w earlier))
+      (sound_between budget w events earlier later split premise start)
+      (all_agree budget premise earlier w (first_of stories budget premise w.host) (λ t. [])
+      (start_well stories budget premise w.host start) all parts.0) parts.1 s
+      (λ x here. subst (λ (z : StoreState). IsUpToDate (session_in_rows m.host.rows s z))
+      (some_same then_ x (sym at ∙ here)) date) none last
+      (ap (λ (u : WholeState). slice_get u.stores s) (sym to_end) ∙ there) in
       (warms_in_sixteen stories).warms (session_in_rows v.host.rows s last) place image
-      (agree s last there) up row is
+      (agree s last there)
+      (subst (λ (u : WholeState). IsUpToDate (session_in_rows u.host.rows s last)) (sym to_end) up)
+      row is
 
   -- ---- one by one
 

@@ -1,5 +1,6 @@
 -- The headline: what holds of each session, whatever happens in whatever order (own).
-use Rattle.std.specs.Prelude.{◌≡◌, ℕ, ◌≤◌, true, List, [], ◌∷◌, ◌++◌, length, map, Some, None}
+use Rattle.std.specs.Prelude.{◌≡◌, ℕ, ◌≤◌, Bool, true, false, List, [], ◌∷◌, ◌++◌, length, map}
+use Rattle.std.specs.Prelude.{Some, None}
 use Rattle.std.specs.List.{slice_get}
 use Rattle.disk_model.specs.DiskState.{IsDiskImage}
 use Rattle.gate_journal.specs.declared.command.Command.{Command}
@@ -16,10 +17,11 @@ use Rattle.session_core.specs.Turning.{commands_in}
 use Rattle.host_world.specs.declared.turn.Session.{Session}
 use Rattle.host_world.specs.declared.state.HostState.{HostState}
 use Rattle.host_world.specs.declared.event.Event.{Event}
-use Rattle.host_world.specs.Events.{run}
+use Rattle.host_world.specs.declared.event.Event.TheVariants.{Call}
+use Rattle.host_world.specs.Events.{after, run}
 use Rattle.host_world.specs.Happenings.{Happening, Ended, Cut, Opened, cut_at, all_told}
 use Rattle.host_world.specs.Happenings.{history_left, replies_of, given_replies}
-use Rattle.host_world.specs.Pending.{OneMore, KeepsCommands}
+use Rattle.host_world.specs.Pending.{OneMore, RowsOrOneMore, KeepsCommands}
 use Rattle.host_world.specs.Starts.{IsStart}
 
 -- stories and a budget that a host is given: each digest has 32 bytes
@@ -65,10 +67,13 @@ pub record Lives
   pub replies : given_replies s w.given ≡ replies_of stories budget x.history past
   -- each opening gave the commands of before, or these and one more
   pub recovers : EachFindsOneMore past
-  -- a stop now leaves rows with its commands, or with these and one more
+  -- A stop now, of a host that is opened or down, leaves the rows of its journal, or these and the
+  -- one behind the gate of which nothing is known: rows with the commands of the session, or with
+  -- these and one more.
   pub stop :
       (image : List ℕ) → IsDiskImage w.disk image
       → (rows : List Row) × SpellsRows image rows
+      × RowsOrOneMore w rows
       × OneMore (commands_in y.history) (commands_of rows s)
       × (w.up ≡ true → KeepsCommands stories budget s w y rows)
 
@@ -80,6 +85,17 @@ module _ (stories : List Story) (budget : ℕ) (w : HostState) (events : List Ev
   EachLives = AreGiven stories budget → IsStart w → (s : ℕ) (x y : Session)
       → slice_get w.sessions s ≡ Some x → slice_get v.sessions s ≡ Some y
       → Lives stories budget s x (all_told stories budget s w events) v y
+
+  -- The call with which an opening ends well finds the rows of before, or these and the one behind
+  -- the gate of which nothing was known.
+  abbrev pub OpeningsFindRows : Type 0
+  OpeningsFindRows = AreGiven stories budget → IsStart w → (earlier later : List Event)
+      → (disk : ℕ) (good : Bool) (reads : List ℕ)
+      → events ≡ earlier ++ Call disk good reads ∷ later
+      → (run stories budget w earlier).up ≡ false
+      → (after stories budget (run stories budget w earlier) (Call disk good reads)).up ≡ true
+      → RowsOrOneMore (run stories budget w earlier)
+      (after stories budget (run stories budget w earlier) (Call disk good reads)).rows
 
   -- What a session had accepted at some event when it had no turn under way, so all that was
   -- acknowledged, it keeps in its order, whatever comes.

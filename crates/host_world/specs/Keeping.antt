@@ -12,7 +12,7 @@ use Rattle.story_snap.specs.Fields.{fields_of}
 use Rattle.snap_fields.specs.Printing.{print_fields}
 use Rattle.snap_store.specs.declared.slot.Slots.{Slots}
 use Rattle.session_core.specs.Checks.{is_other_story}
-use Rattle.session_core.specs.History.{game_of, world_of}
+use Rattle.session_core.specs.History.{game_of, is_in_use, world_of}
 use Rattle.session_saves.specs.Agreement.{last_row, opens_of}
 use Rattle.session_saves.specs.Game.{inputs_of}
 use Rattle.session_saves.specs.Saves.{due_in}
@@ -43,11 +43,12 @@ module _ (stories : List Story) where
         bytes = print_fields (fields_of world);
       }) (world_of stories game)
 
-  -- the same where it is due, and the story handed in has the row's digest
+  -- the same where the session is in use, it is due, and the story handed in has the row's digest
   abbrev pub due_behind : List Command → Slots → Option ℕ → Option Snapshot
   due_behind game slots None = None
   due_behind game slots (Some place) =
-      if is_due_at slots place (length (inputs_of game)) && not (is_other_story stories game)
+      if is_in_use game
+      && (is_due_at slots place (length (inputs_of game)) && not (is_other_story stories game))
       then snapshot_of game place
       else None
 

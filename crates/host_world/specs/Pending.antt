@@ -18,6 +18,12 @@ abbrev pub OneMore : List Command → List Command → Type 0
 OneMore commands found =
     (more : List Command) × (length more ≤ 1) × (found ≡ commands ++ more)
 
+-- the rows of a host's journal, or these and the one behind the gate of which nothing is known
+abbrev pub RowsOrOneMore : HostState → List Row → Type 0
+RowsOrOneMore w found =
+    (found ≡ w.rows)
+    ⊎ ((r : Row) × (w.uncertain ≡ Some r) × (found ≡ w.rows ++ r ∷ []))
+
 -- a command stands behind the gate of which nothing is known, as one of this session
 abbrev pub IsUncertain : ℕ → HostState → Command → Type 0
 IsUncertain s w command =

@@ -4,10 +4,11 @@ ghost use Rattle.std.specs.Prelude.{◌≡◌, IfOk, OnOk};
 ghost use Rattle.gate_journal.specs.Command.{IsBudget};
 ghost use Rattle.host_world.specs.Events.{after, run};
 ghost use Rattle.host_world.specs.Headline.{EachLives, NothingIsLost, EventsAreIsolated};
+ghost use Rattle.host_world.specs.Headline.{OpeningsFindRows};
 ghost use Rattle.host_world.specs.Laws.{ShowsRunAlone};
 ghost use Rattle.host_world.specs.Puts.{AreOwnPuts};
-ghost use Rattle.host_world.specs.Whole.{whole_run};
-ghost use Rattle.host_world.specs.WholeHeadline.{FilesAgree, LivesAsHost};
+ghost use Rattle.host_world.specs.Whole.{all_to_host, whole_run};
+ghost use Rattle.host_world.specs.WholeHeadline.{FilesAgree, LivesAsHost, NothingIsLostInAll};
 ghost use Rattle.host_world.specs.WholeHeadline.{SessionWarmsInSixteen};
 
 use crate::event::Event;
@@ -66,6 +67,7 @@ pub fn follow(
     // Of hosts that are opened or down:
     ensures lives { IfOk result (EachLives stories.now budget state events.now) }
     ensures shows { ShowsRunAlone }
+    ensures finds { IfOk result (OpeningsFindRows stories.now budget state events.now) }
     ensures kept { IfOk result (NothingIsLost stories.now budget state events.now) }
     ensures isolated { IfOk result (EventsAreIsolated stories.now budget state events.now) }
 {
@@ -79,9 +81,11 @@ pub fn follow(
 /// this budget of a turn in ticks. One that isn't enabled changes nothing.
 ///
 /// Whatever happens in whatever order: the host lives through what one with its journal alone lives
-/// through; each put is of the session's own snapshot; each image of a session's file agrees with
-/// its rows and its commands; and a session of which no due snapshot was missed warms in at most 16
-/// turns. An error is want of memory.
+/// through, so each session's history and replies are the fold of its own turns, nothing that was
+/// acknowledged is lost, and what happens to other sessions changes no reply; each put is of the
+/// session's own snapshot; each image of a session's file agrees with its rows and its commands; and
+/// a session of which no due snapshot was missed warms in at most 16 turns. An error is want of
+/// memory.
 pub fn follow_all(
     alloc: Global,
     stories: &[Story],
@@ -93,6 +97,15 @@ pub fn follow_all(
     ensures value { IfOk result (λ w. w ≡ whole_run stories.now budget state events.now) }
     ensures own { IfOk result (λ _. AreOwnPuts stories.now budget state events.now) }
     ensures host { IfOk result (LivesAsHost stories.now budget state events.now) }
+    // Of hosts that are opened or down:
+    ensures lives { IfOk result (λ v. EachLives stories.now budget state.host
+        (all_to_host stories.now budget state events.now) v.host) }
+    ensures shows { ShowsRunAlone }
+    ensures finds { IfOk result (λ v. OpeningsFindRows stories.now budget state.host
+        (all_to_host stories.now budget state events.now) v.host) }
+    ensures kept { IfOk result (NothingIsLostInAll stories.now budget state events.now) }
+    ensures isolated { IfOk result (λ v. EventsAreIsolated stories.now budget state.host
+        (all_to_host stories.now budget state events.now) v.host) }
     ensures files { IfOk result (FilesAgree stories.now budget state events.now) }
     ensures warms { IfOk result (SessionWarmsInSixteen stories.now budget state events.now) }
 {

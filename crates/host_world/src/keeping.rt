@@ -6,7 +6,7 @@ ghost use Rattle.host_world.specs.Keeping.{HasWorldOf, IsOwnSnapshot, due_snapsh
 
 use crate::rows::JournalRows;
 use gate_journal::Command;
-use session_core::{game_of, is_other_story, world_of};
+use session_core::{game_of, is_in_use, is_other_story, world_of};
 use session_saves::inputs_of;
 use std::alloc::{AllocError, Global};
 use store_events::StoreState;
@@ -47,8 +47,8 @@ fn snapshot_of(
 }
 
 /// The snapshot of a session that is due by a journal's rows, and not stored in its file: of its
-/// last OPEN row, after the inputs since. None where there is no such one, its story isn't there or
-/// has another digest than the row.
+/// last OPEN row, after the inputs since. None where there is no such one, the session isn't in use,
+/// its story isn't there or has another digest than the row.
 pub fn due_snapshot(
     alloc: Global,
     stories: &[Story],
@@ -69,7 +69,7 @@ pub fn due_snapshot(
     let (Ok(place), Ok(count)) = (u64::try_from(place), u32::try_from(inputs)) else {
         return Ok(None);
     };
-    if !file.is_due(place, count) || is_other_story(stories, game) {
+    if !is_in_use(game) || !file.is_due(place, count) || is_other_story(stories, game) {
         return Ok(None);
     }
     snapshot_of(alloc, stories, game, place, count)

@@ -1,5 +1,6 @@
 use Rattle.std.proofs.Common.{◌∙◌, sym}
-use Rattle.host_world.proofs.FollowLemmas.{each_lives, isolated, none_lost, run_end, run_next}
+use Rattle.host_world.proofs.FollowLemmas.{each_lives, isolated, none_lost, openings_find}
+use Rattle.host_world.proofs.FollowLemmas.{run_end, run_next}
 use Rattle.host_world.proofs.Shows.{shows_alone}
 use Rattle.host_world.proofs.following.follow.Goals as goal
 
@@ -23,6 +24,11 @@ returns-clause-lives c =
 
 pub returns-clause-shows : goal.returns-clause-shows
 returns-clause-shows c = shows_alone
+
+pub returns-clause-finds : goal.returns-clause-finds
+returns-clause-finds c =
+    openings_find c.args.stories.now c.args.budget c.args.state c.args.events.now c.loop-event.state
+    (returns-clause-value c)
 
 pub returns-clause-kept : goal.returns-clause-kept
 returns-clause-kept c =

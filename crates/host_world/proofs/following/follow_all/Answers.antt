@@ -1,7 +1,12 @@
 use Rattle.std.proofs.Common.{◌∙◌, subst, sym}
-use Rattle.host_world.specs.WholeHeadline.{FilesAgree, LivesAsHost, SessionWarmsInSixteen}
+use Rattle.host_world.specs.Whole.{all_to_host}
+use Rattle.host_world.specs.WholeHeadline.{FilesAgree, LivesAsHost, NothingIsLostInAll}
+use Rattle.host_world.specs.WholeHeadline.{SessionWarmsInSixteen}
 use Rattle.host_world.specs.declared.whole.WholeState.{WholeState}
-use Rattle.host_world.proofs.WholeLemmas.{files_agree, lives_as_host, own_end, own_next}
+use Rattle.host_world.proofs.FollowLemmas.{each_lives, isolated, openings_find}
+use Rattle.host_world.proofs.Shows.{shows_alone}
+use Rattle.host_world.proofs.WholeLemmas.{files_agree, lives_as_host, none_lost_in_all}
+use Rattle.host_world.proofs.WholeLemmas.{own_end, own_next}
 use Rattle.host_world.proofs.WholeLemmas.{session_warms, whole_end, whole_next}
 use Rattle.host_world.proofs.following.follow_all.Goals as goal
 
@@ -34,6 +39,37 @@ returns-clause-host c =
     c.args.events.now v)
     (sym (returns-clause-value c))
     (lives_as_host c.args.stories.now c.args.budget c.args.state c.args.events.now)
+
+pub returns-clause-lives : goal.returns-clause-lives
+returns-clause-lives c =
+    each_lives c.args.stories.now c.args.budget c.args.state.host
+    (all_to_host c.args.stories.now c.args.budget c.args.state c.args.events.now)
+    c.loop-event.state.host (returns-clause-host c)
+
+pub returns-clause-shows : goal.returns-clause-shows
+returns-clause-shows c = shows_alone
+
+pub returns-in_err-happen-clause-shows : goal.returns-in_err-happen-clause-shows
+returns-in_err-happen-clause-shows c = shows_alone
+
+pub returns-clause-finds : goal.returns-clause-finds
+returns-clause-finds c =
+    openings_find c.args.stories.now c.args.budget c.args.state.host
+    (all_to_host c.args.stories.now c.args.budget c.args.state c.args.events.now)
+    c.loop-event.state.host (returns-clause-host c)
+
+pub returns-clause-isolated : goal.returns-clause-isolated
+returns-clause-isolated c =
+    isolated c.args.stories.now c.args.budget c.args.state.host
+    (all_to_host c.args.stories.now c.args.budget c.args.state c.args.events.now)
+    c.loop-event.state.host (returns-clause-host c)
+
+pub returns-clause-kept : goal.returns-clause-kept
+returns-clause-kept c =
+    subst (λ (v : WholeState). NothingIsLostInAll c.args.stories.now c.args.budget c.args.state
+    c.args.events.now v)
+    (sym (returns-clause-value c))
+    (none_lost_in_all c.args.stories.now c.args.budget c.args.state c.args.events.now)
 
 pub returns-clause-files : goal.returns-clause-files
 returns-clause-files c =
