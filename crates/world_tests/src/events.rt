@@ -1,8 +1,15 @@
+use disk_model::MemDisk;
+use gate_journal::init;
+use host_top::{MemoryOutside, top};
 use host_world::{Event, HostState, follow};
+use line_talk::{MemorySink, MemorySource};
 use line_words::write_reply;
 use session_core::Sessions;
 use std::alloc::Global;
+use std::collections::BTreeMap;
+use std::sync::Wait;
 use std::test::{Fail, *};
+use std::thread::Threads;
 use story_make::{echo_story, script};
 use story_run::Story;
 use story_text::Bytes;
@@ -11,7 +18,7 @@ use story_text::Bytes;
 const BUDGET: u64 = 50_000_000;
 
 // How many turns a script has behind its first line.
-const TURNS: u32 = 20;
+const TURNS: u32 = 99;
 
 // A journal without rows.
 const JOURNAL: [u8; 17] = *b"STHJ\x00\x00\x00\x01\x00\x00\x00\x00\x00\x00\x00\x00\x00";
@@ -110,6 +117,37 @@ fn wanted(alloc: Global, stories: &[Story], lines: &[Vec<u8>]) -> Result<Vec<u8>
     Ok(wanted)
 }
 
+// What a host of the program writes to these lines, over a journal without rows.
+fn host_replies<R: Threads + Wait + Sync>(
+    rt: &R,
+    alloc: Global,
+    story: &[u8],
+    lines: &[Vec<u8>],
+) -> Result<Vec<u8>, Fail> {
+    let mut files = BTreeMap::new(alloc);
+    files.insert(String::from_str(alloc, "echo.ulx")?, story.to_vec(alloc)?)?;
+    let none = Vec::new(alloc);
+    let mut outside = MemoryOutside::new(alloc, files, none, Vec::new(alloc), Vec::new(alloc));
+    let mut disk = MemDisk::new(alloc);
+    init(&mut disk).ok().ok_or("init")?;
+    outside.hold(alloc, "d/journal", disk)?;
+    let mut words = Vec::new(alloc);
+    for word in ["pipe", "d", "echo.ulx"] {
+        words.push(String::from_str(alloc, word)?)?;
+    }
+    let mut text = Vec::new(alloc);
+    for line in lines {
+        text.extend_from_slice(line)?;
+        text.push(b'\n')?;
+    }
+    let mut input = MemorySource::new(text, 4096, Vec::new(alloc));
+    let mut output = MemorySink::new(alloc, 4096, Vec::new(alloc));
+    if top(rt, alloc, &words, &mut outside, &mut input, &mut output) != 0 {
+        return Err("a host that ends otherwise".into());
+    }
+    Ok(output.bytes().to_vec(alloc)?)
+}
+
 #[test]
 fn eight_scripts_in_turn_are_answered_as_by_plain_sessions(rt: HostRuntime) -> Result<(), Fail> {
     let alloc = rt.alloc();
@@ -118,5 +156,16 @@ fn eight_scripts_in_turn_are_answered_as_by_plain_sessions(rt: HostRuntime) -> R
     let lines = script_lines(alloc)?;
     let given = replies(alloc, &stories, &events(alloc, &lines)?)?;
     assert!(rt; given == wanted(alloc, &stories, &lines)?);
+    Ok(())
+}
+
+#[test]
+fn eight_scripts_in_turn_are_answered_as_by_a_host(rt: HostRuntime) -> Result<(), Fail> {
+    let alloc = rt.alloc();
+    let file = echo_story(alloc)?;
+    let stories = [Story::of(&file).ok().ok_or("a story")?];
+    let lines = script_lines(alloc)?;
+    let given = replies(alloc, &stories, &events(alloc, &lines)?)?;
+    assert!(rt; given == host_replies(&rt, alloc, &file, &lines)?);
     Ok(())
 }
