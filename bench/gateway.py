@@ -69,7 +69,7 @@ class Browser:
 
     async def open(self):
         await self.display.connect()
-        self.update = await self.display.init(begin={"story": 0, "key": f"k{self.number}", "seed": 1})
+        self.update = await self.display.begin(f"k{self.number}")
 
     async def give(self, text):
         window = self.update["input"][0]["id"]

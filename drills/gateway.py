@@ -43,9 +43,8 @@ class Player:
 
     async def game(self, key):
         """One game; what it was shown is in `finished`."""
-        wanted = {"begin": {"story": 0, "key": key, "seed": 1 + self.number}}
-        updates, lines = [await self.opened(wanted)], []
-        self.wanted = {"resume": {"session": self.display.session, "key": key}}
+        updates, lines = [await self.opened(key)], []
+        self.wanted = {"resume": {"game": self.display.game, "key": key}}
         for move in crash.draw_moves(self.draw, self.draw.randint(5, MOST_MOVES)):
             event = players.event_of(updates[-1], move)
             lines.append(players.line_of(event))
@@ -56,23 +55,23 @@ class Player:
 
     async def connect(self):
         """A connection, however long that takes: the gateway may be gone."""
-        gen = self.display.gen if self.display else 0
+        gen, game = (self.display.gen, self.display.game) if self.display else (0, None)
         while True:
             self.display = players.Player(self.drill.client, self.drill.gateway.address)
-            self.display.gen = gen
+            self.display.gen, self.display.game = gen, game
             try:
                 return await self.display.connect()
             except GONE:
                 await asyncio.sleep(0.05)
 
-    async def opened(self, wanted):
-        """The first update of a game. Asked for again, the same session is found."""
+    async def opened(self, key):
+        """The first update of a game. Asked for again, the same game is found."""
+        if not self.display or self.display.socket.closed:
+            await self.connect()
+        self.display.gen, self.display.game = 0, None
         while True:
             try:
-                if not self.display or self.display.socket.closed:
-                    await self.connect()
-                self.display.gen = 0
-                return await self.display.init(**wanted)
+                return await self.display.begin(key, 1 + self.number)
             except GONE:
                 await self.connect()
 

@@ -64,13 +64,15 @@ class Host:
 class Gateway:
     """A gateway on a port of its own, which may be killed and started again."""
 
-    def __init__(self, host_port, *words):
-        self.port, self.host_port, self.more = free_port(), host_port, words
+    def __init__(self, hosts, *words):
+        """`hosts` is the port of one, or the file of many."""
+        self.port = free_port()
+        which = ["--host", f"127.0.0.1:{hosts}"] if isinstance(hosts, int) else ["--hosts", str(hosts)]
+        self.words = [sys.executable, str(GATEWAY), *which, "--listen", f"127.0.0.1:{self.port}", *words]
         self.start()
 
     def start(self):
-        words = [sys.executable, GATEWAY, "--host", f"127.0.0.1:{self.host_port}", "--listen", f"127.0.0.1:{self.port}"]
-        self.process = subprocess.Popen([*words, *self.more], stderr=subprocess.PIPE, text=True)
+        self.process = subprocess.Popen(self.words, stderr=subprocess.PIPE, text=True)
         told = self.process.stderr.readline()
         if "http://" not in told:
             raise Otherwise(f"the gateway says: {told!r}")
@@ -98,7 +100,7 @@ class Player:
 
     def __init__(self, client, address):
         self.client, self.address, self.gen, self.socket = client, address, 0, None
-        self.notes = []
+        self.notes, self.game = [], None
 
     async def connect(self):
         self.socket = await self.client.ws_connect(self.address + "/socket", origin=self.address, max_msg_size=0)
@@ -108,7 +110,7 @@ class Player:
         await self.socket.send_str(json.dumps(message))
 
     async def read(self, *kinds):
-        """The next message of these kinds. Notes and sessions are passed over."""
+        """The next message of these kinds. Notes and what tells of the game's place are passed over."""
         while True:
             message = await asyncio.wait_for(self.socket.receive(), 60)
             if message.type != aiohttp.WSMsgType.TEXT:
@@ -122,12 +124,19 @@ class Player:
                 raise Otherwise(f"error in place of {kinds}: {told['message']}")
             if told["type"] == "note" and told["text"]:
                 self.notes.append(told["text"])
+            if told["type"] in ("begins", "session"):
+                self.game, self.key = told["game"], told["key"]
             if told["type"] == "session":
-                self.session, self.word = told["session"], told["word"]
+                self.word = told["word"]
 
     async def init(self, **wanted):
         await self.send({"type": "init", "gen": self.gen, "metrics": UNIT, **wanted})
         return await self.read("update")
+
+    async def begin(self, key, seed=1, title=None):
+        """Begins a game, of the first title unless told otherwise. Where it was asked for before, that game is found."""
+        again = {"game": self.game} if self.game else {}
+        return await self.init(begin={"title": title or self.stories[0]["title"], "key": key, "seed": seed, **again})
 
     async def give(self, event):
         await self.send(event)
