@@ -6,9 +6,12 @@ import asyncio
 import json
 import os
 import pathlib
+import signal
 import socket
 import subprocess
 import sys
+import tempfile
+import time
 
 try:
     import aiohttp
@@ -24,7 +27,7 @@ UNIT = {"width": 80, "height": 24, "charwidth": 1, "charheight": 1}
 sys.path.append(str(TOP / "stories"))
 
 from host import KEYS, unescaped  # noqa: E402
-from play import read_moves  # noqa: E402
+from play import read_moves  # noqa: E402, F401
 
 STYLE_NAMES = ("normal", "emphasized", "preformatted", "header", "subheader", "alert", "note", "blockquote", "input",
                "user1", "user2")  # fmt: skip
@@ -39,29 +42,63 @@ def free_port():
         return door.getsockname()[1]
 
 
-class Host:
+def greatest_memory(process):
+    """In MiB, so far."""
+    with open(f"/proc/{process.pid}/status") as file:
+        return next(int(line.split()[1]) for line in file if line.startswith("VmHWM")) / 1024
+
+
+class Program:
+    """A program that runs beside this one, and what it says on standard error."""
+
+    def begin(self, words, is_there):
+        """Starts it, and waits until it's there."""
+        self.log = tempfile.TemporaryFile()
+        self.process = subprocess.Popen(words, stdin=subprocess.DEVNULL, stdout=subprocess.DEVNULL, stderr=self.log)
+        end = time.monotonic() + 60
+        while not is_there():
+            if self.process.poll() is not None or time.monotonic() > end:
+                raise Otherwise(f"{words[0]} isn't there, and says: {self.said()!r}")
+            time.sleep(0.005)
+
+    def said(self):
+        return os.pread(self.log.fileno(), 1 << 20, 0).decode()
+
+    def kill(self):
+        """Kills it, and gives what it said."""
+        self.process.kill()
+        self.process.wait()
+        told = self.said()
+        self.log.close()
+        return told
+
+    def memory(self):
+        return greatest_memory(self.process)
+
+
+class Host(Program):
     """A host on a port of its own, which may be killed and started again."""
 
     def __init__(self, folder, stories, workers=4, program=PROGRAM):
-        self.folder, self.program, self.port = str(folder), str(program), free_port()
-        self.words = [self.program, "serve", self.folder, str(self.port), str(workers), *map(str, stories)]
+        self.folder, self.program, self.stories, self.workers = str(folder), str(program), stories, workers
         subprocess.run([self.program, "init", self.folder], check=True, capture_output=True)
+        self.port = free_port()
         self.start()
 
     def start(self):
-        self.process = subprocess.Popen(self.words, stdin=subprocess.DEVNULL, stdout=subprocess.DEVNULL,
-                                        stderr=subprocess.PIPE)  # fmt: skip
-        told = self.process.stderr.readline().decode()
-        if ":" not in told:
-            raise Otherwise(f"serve didn't say where it serves, but: {told!r}")
+        words = [self.program, "serve", self.folder, str(self.port), str(self.workers), *map(str, self.stories)]
+        self.begin(words, lambda: ":" in self.said())
 
-    def kill(self):
-        self.process.kill()
+    def move(self, folder):
+        """Stops it, copies its folder as a keeper would, and starts it there, on another port."""
+        self.process.terminate()
         self.process.wait()
-        self.process.stderr.close()
+        subprocess.run(["cp", "-a", "--sparse=always", self.folder, str(folder)], check=True)
+        self.folder, self.port = str(folder), free_port()
+        self.start()
 
 
-class Gateway:
+class Gateway(Program):
     """A gateway on a port of its own, which may be killed and started again."""
 
     def __init__(self, hosts, *words):
@@ -72,27 +109,14 @@ class Gateway:
         self.start()
 
     def start(self):
-        self.process = subprocess.Popen(self.words, stderr=subprocess.PIPE, text=True)
-        told = self.process.stderr.readline()
-        if "http://" not in told:
-            raise Otherwise(f"the gateway says: {told!r}")
+        self.begin(self.words, lambda: "http://" in self.said())
 
     @property
     def address(self):
         return f"http://127.0.0.1:{self.port}"
 
-    def kill(self):
-        """Kills it, and gives what it said."""
-        self.process.kill()
-        told = self.process.stderr.read()
-        self.process.wait()
-        self.process.stderr.close()
-        return told
-
-    def memory(self):
-        """Its greatest memory so far, in MiB."""
-        with open(f"/proc/{self.process.pid}/status") as file:
-            return next(int(line.split()[1]) for line in file if line.startswith("VmHWM")) / 1024
+    def read_again(self):
+        self.process.send_signal(signal.SIGHUP)
 
 
 class Player:
