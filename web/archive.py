@@ -3,6 +3,7 @@
 What is known is what the hosts answer: a gateway that is begun anew finds it again."""
 
 import asyncio
+import contextlib
 import random
 import secrets
 import string
@@ -13,6 +14,7 @@ from links import Links, Strange, Unreached
 SESSIONS = 64
 LOOK_SECONDS = 10           # between two looks at which of a host's sessions are free
 AWAY_SECONDS = 1            # the same, of a host that isn't there
+BREATH_SECONDS = 0.25       # between two looks at a host at least
 LOOKS_A_SECOND = 10         # of a gateway at most
 ANSWER_SECONDS = 5          # in which a host answers a look
 NO_STORY = 0xFFFF           # the number of a story that no host has
@@ -41,8 +43,7 @@ class Host:
         self.links = Links(told.address, told.links, self.tell)
         self.taken, self.spent = set(), set()   # sessions in use, as far as was seen; those that take no more commands
         self.is_strange = self.is_slow = False
-        self.was_looked_at = asyncio.Event()
-        self.wants_look = asyncio.Event()
+        self.was_looked_at, self.looked, self.wants_look = asyncio.Event(), asyncio.Event(), asyncio.Event()
         self.watching = asyncio.Semaphore(1)
         self.refused_size = None                # how many links had broken as the host refused a size
 
@@ -77,14 +78,27 @@ class Host:
         self.is_strange = True
 
     async def keep_looking(self, seconds):
-        while True:
-            self.wants_look.clear()
-            await self.look()
-            self.was_looked_at.set()
-            try:
-                await asyncio.wait_for(self.wants_look.wait(), seconds if self.is_open else AWAY_SECONDS)
-            except asyncio.TimeoutError:
-                pass
+        """Looks on and on, and sooner where that is wanted."""
+        try:
+            while True:
+                self.wants_look.clear()
+                await self.look()
+                self.told_looked()
+                await asyncio.sleep(BREATH_SECONDS)
+                with contextlib.suppress(asyncio.TimeoutError):
+                    await asyncio.wait_for(self.wants_look.wait(), seconds if self.is_open else AWAY_SECONDS)
+        finally:
+            self.told_looked()
+
+    def told_looked(self):
+        looked, self.looked = self.looked, asyncio.Event()
+        looked.set()
+        self.was_looked_at.set()
+
+    async def next_look(self):
+        """Waits until it was looked at again."""
+        self.wants_look.set()
+        await self.looked.wait()
 
     async def look(self):
         """Finds out which sessions are free. An OPEN of a story that isn't there changes nothing, and is refused in
@@ -148,6 +162,11 @@ class Archive:
                 self.looks[host.name] = asyncio.create_task(host.keep_looking(seconds))
         return gone
 
+    async def first_looks(self):
+        """Waits a little, so that the first browser is told what there is."""
+        with contextlib.suppress(asyncio.TimeoutError):
+            await asyncio.wait_for(asyncio.gather(*(host.was_looked_at.wait() for host in self.hosts.values())), AWAY_SECONDS)
+
     def close(self):
         for look in self.looks.values():
             look.cancel()
@@ -174,7 +193,9 @@ class Archive:
 
     async def room(self, title, passed):
         """A host and a session for a game of this title, as far as is known, but for hosts that were passed. Where
-        no host is there one is waited for; where those that are there have no room it is `Full`."""
+        no host is there one is waited for; where those that are there have no room, also at a second look, it is
+        `Full`."""
+        is_sure = False
         while True:
             serving = [host for host in self.serving(title) if host not in passed]
             await asyncio.gather(*(host.was_looked_at.wait() for host in serving))
@@ -184,6 +205,11 @@ class Archive:
                 session = random.choice(free)
                 host.taken.add(session)
                 return host, session
-            if not serving or any(host.is_open for host in serving):
+            full = [host for host in serving if host.is_open]
+            if not serving or full and is_sure:
                 raise Full
-            await asyncio.sleep(AWAY_SECONDS / 4)
+            if full:
+                await asyncio.gather(*(host.next_look() for host in full))
+            else:
+                await asyncio.sleep(BREATH_SECONDS)
+            is_sure = bool(full)

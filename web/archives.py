@@ -37,7 +37,8 @@ class Archive:
     them behind haproxy."""
 
     def __init__(self, room, count, titles, workers=5, gateways=2, program=PROGRAM, words=()):
-        self.room, self.titles, self.file = pathlib.Path(room), titles, pathlib.Path(room) / "hosts.toml"
+        self.room, self.titles, self.file = pathlib.Path(room), dict(titles), pathlib.Path(room) / "hosts.toml"
+        self.workers, self.program = workers, program
         self.hosts = {name_of(at): Host(self.room / name_of(at), titles, workers, program) for at in range(count)}
         self.write()
         port = free_port()
@@ -45,12 +46,19 @@ class Archive:
         self.gateways = [Gateway(self.file, "--links", "2", "--origin", self.address, *words) for _ in range(gateways)]
         self.proxy = Proxy(self.room, port, self.gateways)
 
-    def write(self, more=""):
-        """Writes the file of the hosts as they are, and lets the gateways read it, if they are there."""
-        titles = "".join(f'"{file}" = "{title}"\n' for file, title in self.titles.items() if title)
+    def add(self, name, titles):
+        """One more host, of other stories."""
+        self.hosts[name] = Host(self.room / name, titles, self.workers, self.program)
+        self.titles |= titles
+        self.write()
+        self.read_again()
+
+    def write(self, more="", titles=()):
+        """Writes the file of the hosts as they are now, with more of both kinds behind them."""
+        named = "".join(f'"{file}" = "{title}"\n' for file, title in {**self.titles, **dict(titles)}.items() if title)
         hosts = "".join(f'[[host]]\nname = "{name}"\naddress = "127.0.0.1"\nport = {host.port}\nstories = {list(map(str, host.stories))}\n'
                         for name, host in self.hosts.items())  # fmt: skip
-        self.file.write_text(f"[titles]\n{titles}\n{hosts}{more}")
+        self.file.write_text(f"[titles]\n{named}\n{hosts}{more}")
 
     def read_again(self):
         for gateway in self.gateways:

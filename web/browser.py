@@ -57,7 +57,7 @@ class Browser:
         self.host = self.session = self.key = self.measure = self.watched = None
         self.gen, self.windows, self.screen, self.asked = 0, [], None, {}
         self.tasks, self.sends_since = [], None
-        self.telling = None     # what tells it of the lobby
+        self.lobby = self.telling = None        # what it was told last, and what tells it more
 
     async def play(self):
         await self.tell_lobby()
@@ -79,7 +79,8 @@ class Browser:
         return self.session is None and not self.watched
 
     async def tell_lobby(self):
-        await self.send({"type": "menu", "stories": self.gateway.archive.lobby()})
+        self.lobby = self.gateway.archive.lobby()
+        await self.send({"type": "menu", "stories": self.lobby})
 
     async def answer(self):
         """Answers the messages, one after the other."""

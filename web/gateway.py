@@ -51,7 +51,7 @@ class Gateway:
         self.asked, self.archive, self.begun_with = asked, Archive(), hosts
         self.origins, self.most, self.rate = set(), asked.players, asked.rate
         self.pages = pages_of(asked.pages)
-        self.browsers, self.watched, self.lobby = set(), {}, []
+        self.browsers, self.watched = set(), {}
 
     def app(self):
         app = web.Application()
@@ -94,9 +94,8 @@ class Gateway:
             for browser in list(self.browsers):
                 if browser.sends_since is not None and browser.sends_since < before:
                     browser.hang_up()
-                elif browser.is_in_lobby and browser.sends_since is None and lobby != self.lobby:
+                elif browser.is_in_lobby and browser.sends_since is None and browser.lobby != lobby:
                     browser.telling = asyncio.create_task(browser.tell_lobby())
-            self.lobby = lobby
 
     async def page(self, request):
         page = self.pages.get(request.match_info["name"])
@@ -208,6 +207,7 @@ async def serve(asked):
     gateway = Gateway(asked, hosts_of(asked))
     runner = web.AppRunner(gateway.app(), access_log=None)
     await runner.setup()
+    await gateway.archive.first_looks()
     try:
         door = door_at(name, port)
     except OSError as cause:

@@ -157,10 +157,11 @@ class Player:
         await self.send({"type": "init", "gen": self.gen, "metrics": UNIT, **wanted})
         return await self.read("update")
 
-    async def begin(self, key, seed=1, title=None):
-        """Begins a game, of the first title unless told otherwise. Where it was asked for before, that game is found."""
-        again = {"game": self.game} if self.game else {}
-        return await self.init(begin={"title": title or self.stories[0]["title"], "key": key, "seed": seed, **again})
+    async def begin(self, key=None, seed=1, title=None):
+        """Begins a game, of the first title and by a key of the gateway's unless told otherwise. Where it was asked for
+        before, that game is found."""
+        more = {"key": key or self.key, "game": self.game} if self.game else {"key": key} if key else {}
+        return await self.init(begin={"title": title or self.stories[0]["title"], "seed": seed, **more})
 
     async def give(self, event):
         await self.send(event)
