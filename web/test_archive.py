@@ -226,48 +226,54 @@ async def moved(client, archive, player):
 
 # Hosts that answer rubbish
 
-LEFT_OUT = "the host strange is left out: what it answers isn't understood"
-RUBBISH = [("words", b"HELLO\n" * 64, LEFT_OUT), ("a show of another session", b"SHOW 99 0\n.\n" * 64, LEFT_OUT),
-           ("a show without a number", b"SHOW 0 x\n.\n" * 64, LEFT_OUT), ("bytes that are no text", b"\xff\n" * 64, LEFT_OUT),
-           ("NO alone", b"NO\n" * 64, LEFT_OUT), ("a refusal that is none", b"NO 99\n" * 64, LEFT_OUT),
-           ("half a line", b"x" * 100_000, "the host strange is waited for"),
-           ("nothing", b"", "the host strange hasn't answered for 5 seconds")]  # fmt: skip
+LEFT_OUT = "is left out: what it answers isn't understood"
+RUBBISH = [("words", b"HELLO\n" * 64, LEFT_OUT), ("otherSession", b"SHOW 99 0\n.\n" * 64, LEFT_OUT),
+           ("noNumber", b"SHOW 0 x\n.\n" * 64, LEFT_OUT), ("noText", b"\xff\n" * 64, LEFT_OUT), ("noCause", b"NO\n" * 64, LEFT_OUT),
+           ("otherCause", b"NO 99\n" * 64, LEFT_OUT), ("halfLine", b"x" * 100_000, "is waited for"),
+           ("nothing", b"", "hasn't answered for 5 seconds")]  # fmt: skip
 
 
-async def rubbish(client, archive, player):
-    """Hosts that answer so are left out, and told in the log."""
+async def strange_host(name, said):
+    """Begins a host that answers so; its part of a file of hosts."""
 
     async def answer(reader, writer):
         await reader.readline()
         writer.write(said)
-        if said != b"x" * 100_000:
+        if name != "halfLine":
             await reader.read(-1)
         writer.close()
 
     server = await asyncio.start_server(answer, "127.0.0.1", 0)
     port = server.sockets[0].getsockname()[1]
-    more = f'[[host]]\nname = "strange"\naddress = "127.0.0.1"\nport = {port}\nstories = ["s.ulx"]\n'
-    for what, said, told in RUBBISH:
-        archive.write(more, {"s.ulx": "Strange"})
-        archive.read_again()
-        looker = await looking(client, archive)
-        await lobby_of(looker, lambda told: told.get("Strange") == ("away", 0), what)
-        await play(player, f"beside a host that answers {what}")
-        for gateway in archive.gateways:
-            await told_in_log(gateway, told)
-        archive.write()
-        archive.read_again()
-        await lobby_of(looker, lambda told: "Strange" not in told, "a host that isn't told any more")
-        await looker.close()
-    server.close()
+    return server, f'[[host]]\nname = "{name}"\naddress = "127.0.0.1"\nport = {port}\nstories = ["s.ulx"]\n'
+
+
+async def rubbish(client, archive, player):
+    """Hosts that answer so are left out, and told in the log."""
+    begun_hosts = [await strange_host(name, said) for name, said, _ in RUBBISH]
+    archive.write("".join(part for _, part in begun_hosts), {"s.ulx": "Strange"})
+    archive.read_again()
+    looker = await looking(client, archive)
+    await lobby_of(looker, lambda told: told.get("Strange") == ("away", 0), "a title of strange hosts")
+    for gateway in archive.gateways:
+        for name, _, told in RUBBISH:
+            await told_in_log(gateway, f"the host {name} {told}")
+    await lobby_of(looker, lambda told: told.get("Strange") == ("away", 0), "a title of strange hosts")
+    await play(player, "beside strange hosts")
+    archive.write()
+    archive.read_again()
+    await lobby_of(looker, lambda told: "Strange" not in told, "hosts that aren't told any more")
+    await looker.close()
+    for server, _ in begun_hosts:
+        server.close()
 
 
 async def told_in_log(gateway, text):
-    """Waits until this is the last but for what a gateway says of files that are read again."""
+    """Waits until a gateway has said this, in a line of its own."""
     end = time.monotonic() + 20
-    while text not in (said := [line for line in gateway.said().splitlines() if "read again" not in line])[-1]:
+    while f"gateway: {text}\n" not in gateway.said():
         if time.monotonic() > end:
-            raise Otherwise(f"a gateway says {said[-1]!r}, and not {text!r}")
+            raise Otherwise(f"a gateway says {gateway.said()!r}, and not {text!r}")
         await asyncio.sleep(0.05)
 
 
