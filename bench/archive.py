@@ -1,0 +1,97 @@
+#!/usr/bin/python3
+"""What an archive costs: many hosts on one machine, and players through two gateways.
+
+    bench/archive.py [--hosts N] [--players N] [--seconds N] [--room FOLDER] [--program PROGRAM]
+
+16 hosts of 64 games of The Well House, with five workers each. 1,024 players, or fewer, give moves by script, each
+thinking 2 to 20 seconds between two of them, at moments drawn from a seed: over WebSocket through haproxy and two gateways of
+two links to a host each; and then, on new hosts, the same moves at the same moments over four bare links to each host. A
+move's time is from its moment to the last byte of its answer. The players are of one process, and all of it runs on this
+machine. The hosts' folders are in FOLDER, or where temporary files are: a move waits for two syncs of that disk. Wants
+Debian's python3-aiohttp and haproxy."""
+
+import argparse
+import asyncio
+import os
+import pathlib
+import resource
+import sys
+import tempfile
+import time
+
+from gateway import Bare, Browser, Link, begun, crowd, spent_by, told
+
+TOP = pathlib.Path(__file__).resolve().parent.parent
+sys.path.append(str(TOP / "web"))
+
+import aiohttp  # noqa: E402
+import archives  # noqa: E402
+import players  # noqa: E402
+
+TITLES = {players.COTTAGE: "The Well House"}
+THINKS = (2, 20)        # seconds
+SESSIONS, LINKS, WORKERS, AT_ONCE = 64, 4, 5, 32
+
+
+class Bench:
+    def __init__(self, asked, room):
+        self.asked, self.room = asked, room
+
+    async def by_links(self):
+        hosts = [players.Host(self.room / archives.name_of(at), TITLES, WORKERS, self.asked.program) for at in range(self.asked.hosts)]
+        links = [[Link(host.port) for _ in range(LINKS)] for host in hosts]
+        for link in sum(links, []):
+            await link.begin()
+        places = [(host, session) for session in range(SESSIONS) for host in range(len(hosts))][: self.asked.players]
+        bare = [Bare(session, links[host][session % LINKS]) for host, session in places]
+        times = await self.played("by bare links", bare, hosts)
+        for link in sum(links, []):
+            link.writer.close()
+        for host in hosts:
+            host.kill()
+        return times
+
+    async def by_gateways(self):
+        archive = archives.Archive(self.room, self.asked.hosts, TITLES, WORKERS, program=self.asked.program, words=("--players", "600"))
+        hosts, gateways = list(archive.hosts.values()), archive.gateways
+        async with aiohttp.ClientSession(connector=aiohttp.TCPConnector(limit=0)) as client:
+            browsers = [Browser(number, client, archive) for number in range(self.asked.players)]
+            times = await self.played("through two gateways", browsers, [*hosts, *gateways, archive.proxy])
+            print(f"memory at most: a host {max(host.memory() for host in hosts):.1f} MiB, a gateway "
+                  f"{max(gateway.memory() for gateway in gateways):.0f} MiB, haproxy {archive.proxy.memory():.0f} MiB")  # fmt: skip
+        archive.kill()
+        return times
+
+    async def played(self, name, all_players, programs):
+        """The times of the moves. The processor time is of the moves alone, without the games' beginning."""
+        began = time.perf_counter()
+        await begun(all_players, AT_ONCE)
+        print(f"{len(all_players)} games on {self.asked.hosts} hosts were begun {name} in {time.perf_counter() - began:.1f} s", flush=True)
+        before, own = [spent_by(program) for program in programs], time.process_time()
+        times = await crowd(all_players, self.asked.seconds, THINKS)
+        spent = sum(spent_by(program) for program in programs) - sum(before)
+        told(f"{len(all_players)} players {name}", times, self.asked.seconds)
+        print(f"  {len(times)} moves, {sum(spent > 2 for spent in times)} of them above 2 s; processor seconds: {spent:.1f} of the programs, "
+              f"{time.process_time() - own:.1f} of the players' script", flush=True)  # fmt: skip
+        return times
+
+
+def main():
+    words = argparse.ArgumentParser(usage=__doc__)
+    words.add_argument("--hosts", type=int, default=16)
+    words.add_argument("--players", type=int, default=1024)
+    words.add_argument("--seconds", type=float, default=120)
+    words.add_argument("--room", type=pathlib.Path)
+    words.add_argument("--program", default=players.PROGRAM)
+    asked = words.parse_args()
+    most = resource.getrlimit(resource.RLIMIT_NOFILE)[1]
+    resource.setrlimit(resource.RLIMIT_NOFILE, (most, most))
+    print(f"load before: {os.getloadavg()[0]:.1f} on {os.cpu_count()} processors")
+    for way in (Bench.by_gateways, Bench.by_links):
+        with tempfile.TemporaryDirectory(prefix="archive-", dir=asked.room) as room:
+            asyncio.run(way(Bench(asked, pathlib.Path(room))))
+    print(f"load behind: {os.getloadavg()[0]:.1f}")
+
+
+if __name__ == "__main__":
+    main()
