@@ -72,10 +72,7 @@ class Link:
             raise Strange
         if word == "SHOW":
             return Reply(head, [(int(rest[1]), await self.show())])
-        shows = [await self.seen() for _ in range(int(rest[1]), int(rest[2]) + 1)]
-        if await self.line() != ".":
-            raise Strange
-        return Reply(head, shows)
+        return Reply(head, [await self.seen() for _ in range(int(rest[1]), int(rest[2]) + 1)])
 
     async def seen(self):
         number = int((await self.line()).split(" ")[2])

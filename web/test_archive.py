@@ -27,16 +27,13 @@ from hosts import Wrong, read_hosts, title_of
 from players import PROGRAM, TOP, UNIT, Otherwise, Player
 from test_gateway import StandIn, until_closed, want
 
+from crash import echo_story  # of drills/, which players puts on the path
+
 ECHO, BOX = "Echo", "A Box & a Lid"
 NONE = "there is no such game"
 KEY = "zKeyOfNobody9"
 HOST = '[[host]]\nname = "a"\naddress = "127.0.0.1"\nport = 4000\nstories = ["x.ulx"]\n'
 TITLES = '[titles]\n"x.ulx" = "X"\n'
-
-
-def echo_story():
-    lines = (TOP / "rows" / "stories" / "echo.hex").read_text().splitlines()
-    return bytes.fromhex(" ".join(line for line in lines if not line.startswith(("#", "size")))).ljust(256, b"\0")
 
 
 # Files of hosts

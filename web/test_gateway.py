@@ -301,7 +301,7 @@ class StandIn:
             if first > last:
                 return f"NO 5 {last}\n"
             last = min(last, first + 7)
-            return f"SEEN {s} {first} {last}\n" + "".join(self.told(s, m) for m in range(first, last + 1)) + ".\n"
+            return f"SEEN {s} {first} {last}\n" + "".join(self.told(s, m) for m in range(first, last + 1))
         if not game or game["key"] != key:
             return "NO 2\n"
         if word == "LAST":
