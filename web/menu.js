@@ -2,7 +2,7 @@
 // What stands before a game: the games of this browser, links of games, and the menu. page.js has the games.
 
 const GAMES = "storyhost.games";
-const ROOM = { full: "full", away: "its host has stopped; it is waited for" };
+const ROOM = { full: "full", away: "its host is away" };
 const $ = (id) => document.getElementById(id);
 
 // The games of this browser

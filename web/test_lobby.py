@@ -60,7 +60,7 @@ def lobby(page, archive, pictures):
     page.picture(pictures, "lobby")
     fill(archive.hosts["host3"])
     archive.hosts["host4"].kill()
-    away = "its host has stopped; it is waited for"
+    away = "its host is away"
     page.wait("a full host and one that is gone", lambda: rows_of(page)[MILL] == "full" and rows_of(page)[SMALL] == away)
     page.picture(pictures, "lobby-full")
     for title in (MILL, SMALL):
