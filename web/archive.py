@@ -9,6 +9,7 @@ import secrets
 import string
 import sys
 
+from hosts import ONE_HOST
 from links import Links, Strange, Unreached
 
 SESSIONS = 64
@@ -40,6 +41,7 @@ class Host:
 
     def __init__(self, told):
         self.name, self.titles = told.name, told.titles
+        self.called = "the host" if told.name == ONE_HOST else f"the host {told.name}"
         self.links = Links(told.address, told.links, self.tell)
         self.taken, self.spent = set(), set()   # sessions in use, as far as was seen; those that take no more commands
         self.is_strange = self.is_slow = False
@@ -48,7 +50,7 @@ class Host:
         self.refused_size = None                # how many links had broken as the host refused a size
 
     def tell(self, is_there):
-        say(f"the host {self.name} is there again" if is_there else f"the host {self.name} is waited for")
+        say(f"{self.called} is there again" if is_there else f"{self.called} is waited for")
         self.wants_look.set()
 
     def take(self, told):
@@ -74,11 +76,11 @@ class Host:
 
     def leave_out(self):
         if not self.is_strange:
-            say(f"the host {self.name} is left out: what it answers isn't understood")
+            say(f"{self.called} is left out: what it answers isn't understood")
         self.is_strange = True
 
-    async def keep_looking(self, seconds):
-        """Looks on and on, and sooner where that is wanted."""
+    async def keep_looking(self, pause):
+        """Looks on and on, each `pause()` seconds, and sooner where that is wanted."""
         try:
             while True:
                 self.wants_look.clear()
@@ -86,7 +88,7 @@ class Host:
                 self.told_looked()
                 await asyncio.sleep(BREATH_SECONDS)
                 with contextlib.suppress(asyncio.TimeoutError):
-                    await asyncio.wait_for(self.wants_look.wait(), seconds if self.is_open else AWAY_SECONDS)
+                    await asyncio.wait_for(self.wants_look.wait(), pause() if self.is_open else AWAY_SECONDS)
         finally:
             self.told_looked()
 
@@ -112,13 +114,13 @@ class Host:
             return
         except asyncio.TimeoutError:
             if self.links.is_there and not self.is_slow:
-                say(f"the host {self.name} hasn't answered for {ANSWER_SECONDS} seconds")
+                say(f"{self.called} hasn't answered for {ANSWER_SECONDS} seconds")
             self.is_slow = self.links.is_there
             return
         except Strange:
             return self.leave_out()
         if self.is_strange or self.is_slow:
-            say(f"the host {self.name} answers again")
+            say(f"{self.called} answers again")
         self.is_strange = self.is_slow = False
         self.taken = self.spent | {session for session, reply in enumerate(replies) if reply.refusal == IN_USE}
 
@@ -153,14 +155,17 @@ class Archive:
             self.looks.pop(host.name).cancel()
             host.links.close()
         before, self.hosts = self.hosts, {}
-        seconds = max(LOOK_SECONDS, len(all_told) / LOOKS_A_SECOND)
         for told in all_told:
             host = self.hosts[told.name] = before.get(told.name) or Host(told)
             if told.name in before:
                 host.take(told)
             else:
-                self.looks[host.name] = asyncio.create_task(host.keep_looking(seconds))
+                self.looks[host.name] = asyncio.create_task(host.keep_looking(self.pause))
         return gone
+
+    def pause(self):
+        """The seconds between two looks at a host."""
+        return max(LOOK_SECONDS, len(self.hosts) / LOOKS_A_SECOND)
 
     async def first_looks(self):
         """Waits a little, so that the first browser is told what there is."""

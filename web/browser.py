@@ -216,34 +216,43 @@ class Browser:
         line = f"OPEN {session} {key} {host.titles[title]} {seed} {self.measure.columns} {self.measure.rows}"
         try:
             reply = await self.wait_for(host.ask(line, is_patient=comes_again), host)
-            if reply.refusal == IN_USE:
-                reply = await self.wait_for(host.ask(f"LAST {session} {key}"), host)
+            if comes_again and reply.refusal == IN_USE:
+                reply = await self.last_of(host, session, key)
         except (Unreached, Strange):
             return False
         if not reply.refusal:
             await self.seat(host, session, key, reply)
         elif reply.refusal == SPENT:
             host.spent.add(session)
-        elif reply.refusal != "2":
+        elif reply.refusal not in (IN_USE, "2"):
             host.taken.discard(session)
             passed.add(host)
-            say(f"the host {host.name} answers NO {reply.refusal} to a new game of {title}")
+            say(f"{host.called} answers NO {reply.refusal} to a new game of {title}")
         return not reply.refusal
 
     async def resume(self, wanted, is_new):
         """Shows what a session's story said last. A display that is new has its size told to the host; one
         that comes again first has to see whether its last move was kept."""
         place, key = self.place_of(wanted), key_of(wanted)
-        self.host, session = place or (None, None)
-        reply = await self.ask(f"LAST {session} {key}") if place else None
-        if reply is None or reply.refusal == "2":
+        if place is None:
             await asyncio.sleep(WRONG_KEY_SECONDS)
+            raise Refused(NO_GAME)
+        self.host, session = place
+        reply = await self.last_of(self.host, session, key)
+        if reply.refusal == "2":
             raise Refused(NO_GAME)
         if reply.refusal:
             return await self.send(refused(reply))
         await self.seat(self.host, session, key, reply)
         if is_new:
             await self.tell_size(self.gen)
+
+    async def last_of(self, host, session, key):
+        """What a session says last, to who has its key. Who hasn't is answered late."""
+        reply = await self.wait_for(host.ask(f"LAST {session} {key}"), host)
+        if reply.refusal == "2":
+            await asyncio.sleep(WRONG_KEY_SECONDS)
+        return reply
 
     async def seat(self, host, session, key, reply):
         self.host, self.session, self.key = host, session, key

@@ -27,7 +27,7 @@ except ImportError:
 
 from archive import Archive, say
 from browser import Browser
-from hosts import Told, Wrong, read_hosts
+from hosts import ONE_HOST, Told, Wrong, read_hosts
 from watched import Watched
 
 FOLDER = pathlib.Path(__file__).resolve().parent
@@ -43,7 +43,6 @@ HEADERS = {
 MOST_BYTES = 16_384         # of a message of a browser
 SEND_BYTES = 131_072        # that the system keeps for a browser
 SEND_SECONDS = 30           # in which a browser has to take a message
-ONE_HOST = "host"           # the name of one that is alone
 
 
 class Gateway:
@@ -202,11 +201,22 @@ def door_at(name, port):
     return door
 
 
+def take_signals(gateway):
+    """An event for the signals that end a gateway; signal 1 has it read its file of hosts again."""
+    loop, stopped = asyncio.get_running_loop(), asyncio.Event()
+    for number in (signal.SIGINT, signal.SIGTERM):
+        loop.add_signal_handler(number, stopped.set)
+    if gateway.asked.hosts:
+        loop.add_signal_handler(signal.SIGHUP, gateway.read_again)
+    return stopped
+
+
 async def serve(asked):
     name, port = asked.listen
     gateway = Gateway(asked, hosts_of(asked))
     runner = web.AppRunner(gateway.app(), access_log=None)
     await runner.setup()
+    stopped = take_signals(gateway)
     await gateway.archive.first_looks()
     try:
         door = door_at(name, port)
@@ -218,11 +228,6 @@ async def serve(asked):
     hosts = gateway.archive.hosts
     where = f"the host is at {asked.host[0]}:{asked.host[1]}" if asked.host else f"{len(hosts)} hosts: {', '.join(hosts)}"
     say(f"http://{name}:{port}/ is for browsers; {where}")
-    loop, stopped = asyncio.get_running_loop(), asyncio.Event()
-    for number in (signal.SIGINT, signal.SIGTERM):
-        loop.add_signal_handler(number, stopped.set)
-    if asked.hosts:
-        loop.add_signal_handler(signal.SIGHUP, gateway.read_again)
     await stopped.wait()
     await runner.cleanup()
 

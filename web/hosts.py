@@ -8,6 +8,7 @@ import tomllib
 import xml.etree.ElementTree as xml
 from dataclasses import dataclass
 
+ONE_HOST = "host"           # the name of one that is alone
 NAME = re.compile(r"[A-Za-z0-9_-]{1,32}")
 HEAD = re.compile(r"\s*\[\[\s*host\s*\]\]")
 WORKERS = 16                # of a host at most

@@ -281,15 +281,9 @@ class Counted(StandIn):
         super().__init__()
         self.links = set()
 
-    async def serve(self, reader, writer):
-        try:
-            while line := await reader.readline():
-                if line.startswith(b"LINE"):
-                    self.links.add(writer)
-                writer.write(self.answer(line.decode().rstrip("\n")).encode())
-                await writer.drain()
-        finally:
-            writer.close()
+    def heard(self, link, line):
+        if line.startswith(b"LINE"):
+            self.links.add(link)
 
 
 async def read_again(client, archive, player):

@@ -276,12 +276,15 @@ class StandIn:
         return self.server.sockets[0].getsockname()[1]
 
     async def serve(self, reader, writer):
-        try:
+        with contextlib.suppress(ConnectionError):
             while line := await reader.readline():
+                self.heard(writer, line)
                 writer.write(self.answer(line.decode().rstrip("\n")).encode())
                 await writer.drain()
-        finally:
-            writer.close()
+        writer.close()
+
+    def heard(self, link, line):
+        """A link has given a line."""
 
     def answer(self, line):
         word, s, key, *rest = line.split(" ")
@@ -396,21 +399,28 @@ async def spectators(client):
         host.server.close()
 
 
-async def of_before(client, gateway):
-    """A host that answers NO 1 to SIZE and WATCH: the screen stays, and a spectator is told."""
+async def known(client, gateway):
+    """What this host knows of SIZE and WATCH. Where it answers NO 1 the screen stays, and a spectator is told."""
     player = await connected(client, gateway)
-    update = await player.begin(KEY + "s")
+    updates = [await player.begin(KEY + "s")]
     small = {"width": 40, "height": 12, "charwidth": 1, "charheight": 1}
     now = await player.give({"type": "arrange", "gen": 1, "metrics": small})
     if now["gen"] == 2:
-        return "this host knows SIZE"
-    want("a size on a host of before", (size_of(now), now["windows"][1]["width"]), (size_of(update), 40))
-    await player.send({"type": "line", "gen": 1, "window": update["input"][0]["id"], "value": "look"})
-    want("a move behind it", (await player.read("update"))["gen"], 2)
+        updates.append(now)
+    else:
+        want("a size on a host of before", (size_of(now), now["windows"][1]["width"]), (size_of(updates[0]), 40))
+    for text in ("look", "inventory"):
+        line = {"type": "line", "gen": updates[-1]["gen"], "window": updates[0]["input"][0]["id"], "value": text}
+        updates.append(await player.give(line))
     spectator = await connected(client, gateway)
     await spectator.send({"type": "init", "gen": 0, "metrics": small, "watch": {"game": player.game, "word": player.word}})
-    want("a spectator of it", await until_closed(spectator), [{"type": "error", "message": "this host can't be watched: it has no spectators"}])
-    return "this host knows neither SIZE nor WATCH"
+    told = await spectator.read("update", "error")
+    if told["type"] == "error":
+        want("a spectator of it", (told["message"], await until_closed(spectator)), ("this host can't be watched: it has no spectators", []))
+    else:
+        seen = [told] + [await spectator.read("update") for _ in updates[1:]]
+        want("what a spectator sees", [(one["gen"], one["content"]) for one in seen], [(one["gen"], one["content"]) for one in updates])
+    return f"this host knows {'SIZE' if now['gen'] == 2 else 'no SIZE'} and {'WATCH' if told['type'] == 'update' else 'no WATCH'}"
 
 
 async def run(asked, room):
@@ -428,7 +438,7 @@ async def run(asked, room):
             await pages(client, guarded)
             await sizes(client)
             await spectators(client)
-            known = await of_before(client, guarded)
+            said_known = await known(client, guarded)
     finally:
         memory = gateway.memory()
         host.kill()
@@ -437,7 +447,7 @@ async def run(asked, room):
     if KEY in said or "Error" in said:
         raise Otherwise(f"the gateways say {said!r}")
     print(f"test_gateway: {shows} updates of {asked.players} players over four links, as by `run`; {memory:.0f} MiB at most; {count} "
-          f"bad things changed no game; {known}")  # fmt: skip
+          f"bad things changed no game; {said_known}")  # fmt: skip
 
 
 def main():
