@@ -34,6 +34,7 @@ import players  # noqa: E402
 
 TITLES = {players.COTTAGE: "The Well House"}
 THINKS = (2, 20)        # seconds
+SLOW = 2                # seconds, that no move is to take
 SESSIONS, LINKS, WORKERS, AT_ONCE = 64, 4, 5, 32
 
 
@@ -42,7 +43,8 @@ class Bench:
         self.asked, self.room = asked, room
 
     async def by_links(self):
-        hosts = [players.Host(self.room / archives.name_of(at), TITLES, WORKERS, self.asked.program) for at in range(self.asked.hosts)]
+        folders = [self.room / archives.name_of(at) for at in range(self.asked.hosts)]
+        hosts = [players.Host(folder, TITLES, WORKERS, self.asked.program) for folder in folders]
         links = [[Link(host.port) for _ in range(LINKS)] for host in hosts]
         for link in sum(links, []):
             await link.begin()
@@ -56,7 +58,8 @@ class Bench:
         return times
 
     async def by_gateways(self):
-        archive = archives.Archive(self.room, self.asked.hosts, TITLES, WORKERS, program=self.asked.program, words=("--players", "600"))
+        words = ("--players", "600")
+        archive = archives.Archive(self.room, self.asked.hosts, TITLES, WORKERS, program=self.asked.program, words=words)
         hosts, gateways = list(archive.hosts.values()), archive.gateways
         async with aiohttp.ClientSession(connector=aiohttp.TCPConnector(limit=0)) as client:
             browsers = [Browser(number, client, archive) for number in range(self.asked.players)]
@@ -70,21 +73,22 @@ class Bench:
         """The times of the moves. The processor time is of the moves alone, without the games' beginning."""
         began = time.perf_counter()
         await begun(all_players, AT_ONCE)
-        print(f"{len(all_players)} games on {self.asked.hosts} hosts were begun {name} in {time.perf_counter() - began:.1f} s", flush=True)
+        took = time.perf_counter() - began
+        print(f"{len(all_players)} games on {self.asked.hosts} hosts were begun {name} in {took:.1f} s", flush=True)
         before, own = [spent_by(program) for program in programs], time.process_time()
         times = await crowd(all_players, self.asked.seconds, THINKS)
         spent = sum(spent_by(program) for program in programs) - sum(before)
         told(f"{len(all_players)} players {name}", times, self.asked.seconds)
-        print(f"  {len(times)} moves, {sum(spent > 2 for spent in times)} of them above 2 s; processor seconds: {spent:.1f} of the programs, "
-              f"{time.process_time() - own:.1f} of the players' script", flush=True)  # fmt: skip
+        slow, own = sum(one > SLOW for one in times), time.process_time() - own
+        print(f"  {len(times)} moves, {slow} of them above {SLOW} s; processor seconds: {spent:.1f} of the programs, {own:.1f} of the "
+              "players' script", flush=True)  # fmt: skip
         return times
 
 
     async def one_host(self):
         folder = self.room / "d"
         host = players.Host(folder, TITLES, WORKERS, self.asked.program)
-        print(f"a host without a game: {host.memory():.1f} MiB, {descriptors_of(host)} descriptors, {len(tasks_of(host))} threads; "
-              f"its folder {kept_by(folder.iterdir())}")  # fmt: skip
+        print(f"a host without a game: {holds(host)}; its folder {kept_by(folder.iterdir())}")
         links = [Link(host.port) for _ in range(LINKS)]
         for link in links:
             await link.begin()
@@ -94,8 +98,8 @@ class Bench:
             await asyncio.gather(*(one.give(MOVES[at % len(MOVES)]) for one in bare))
         moves = SESSIONS * self.asked.moves
         print(f"64 games of {self.asked.moves} moves: {moves / (time.perf_counter() - began):.0f} moves a second, "
-              f"{1000 * (spent_by(host) - before) / moves:.2f} ms of a processor each; {host.memory():.1f} MiB, {descriptors_of(host)} "
-              f"descriptors; its folder {kept_by(folder.iterdir())}, the journal {kept_by([folder / 'journal'])}")  # fmt: skip
+              f"{1000 * (spent_by(host) - before) / moves:.2f} ms of a processor each; {holds(host)}; "
+              f"its folder {kept_by(folder.iterdir())}, the journal {kept_by([folder / 'journal'])}")  # fmt: skip
         host.kill()
         began = time.perf_counter()
         host.start()
@@ -107,7 +111,8 @@ class Bench:
         print(f"started again in {started - began:.2f} s; each game's last show {time.perf_counter() - started:.2f} s later; "
               f"{host.memory():.1f} MiB")  # fmt: skip
         host.kill()
-        print(f"syncs of 100 bytes in a second: {syncs(self.room, 1):.0f} by one program, {syncs(self.room, 16):.0f} by sixteen at once")
+        one, many = syncs(self.room, 1), syncs(self.room, 16)
+        print(f"syncs of 100 bytes in a second: {one:.0f} by one program, {many:.0f} by sixteen at once")
 
 
 def kept_by(files):
@@ -116,12 +121,10 @@ def kept_by(files):
     return f"{sum(one.st_size for one in told):,} bytes, {sum(one.st_blocks for one in told) * 512:,} on the disk"
 
 
-def descriptors_of(program):
-    return len(os.listdir(f"/proc/{program.process.pid}/fd"))
-
-
-def tasks_of(program):
-    return os.listdir(f"/proc/{program.process.pid}/task")
+def holds(program):
+    """What a program holds of the machine."""
+    files, threads = (len(os.listdir(f"/proc/{program.process.pid}/{kind}")) for kind in ("fd", "task"))
+    return f"{program.memory():.1f} MiB at most, {files} descriptors, {threads} threads"
 
 
 def syncs(room, count, seconds=2):

@@ -58,7 +58,8 @@ async def run(asked, room):
     told = drill.told(all_players, story, asked.program)
     if left:
         raise Otherwise(f"sessions are in use behind the last game: {left}")
-    print("archive: " + told.format(hosts=f"{asked.hosts} hosts", gateways="two gateways") + ", none begun twice; one host was moved")
+    told = told.format(hosts=f"{asked.hosts} hosts", gateways="two gateways")
+    print(f"archive: {told}, none begun twice; one host was moved")
 
 
 def main():

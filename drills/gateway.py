@@ -139,8 +139,9 @@ class Drill:
         moves = sum([look(player, story, program) for player in all_players])
         games = sum(len(player.games) for player in all_players)
         again, back = sum(player.again for player in all_players), sum(player.came_back for player in all_players)
-        return (f"{self.killed['host']} kills of {{hosts}} and {self.killed['gateway']} of {{gateways}}, {moves} moves in {games} games; "
-                f"players came back {back} times and gave {again} moves again: none lost, none applied twice")
+        kills = f"{self.killed['host']} kills of {{hosts}} and {self.killed['gateway']} of {{gateways}}"
+        return (f"{kills}, {moves} moves in {games} games; players came back {back} times and gave {again} moves again: "
+                "none lost, none applied twice")  # fmt: skip
 
 
 def look(player, story, program):

@@ -56,8 +56,7 @@ class Archive:
     def write(self, more="", titles=()):
         """Writes the file of the hosts as they are now, with more of both kinds behind them."""
         named = "".join(f'"{file}" = "{title}"\n' for file, title in {**self.titles, **dict(titles)}.items() if title)
-        hosts = "".join(f'[[host]]\nname = "{name}"\naddress = "127.0.0.1"\nport = {host.port}\nstories = {list(map(str, host.stories))}\n'
-                        for name, host in self.hosts.items())  # fmt: skip
+        hosts = "".join(part_of(name, host.port, host.stories) for name, host in self.hosts.items())
         self.file.write_text(f"[titles]\n{named}\n{hosts}{more}")
 
     def read_again(self):
@@ -84,9 +83,15 @@ def name_of(at):
     return f"host{at + 1}"
 
 
+def part_of(name, port, stories, more=""):
+    """A host's part of a file of hosts."""
+    return f'[[host]]\nname = "{name}"\naddress = "127.0.0.1"\nport = {port}\nstories = {[str(file) for file in stories]}\n{more}'
+
+
 def blorb_of(image, title):
     """A container of a story, with its title in its metadata."""
-    metadata = (f'<?xml version="1.0" encoding="UTF-8"?><ifindex version="1.0" xmlns="http://babel.ifarchive.org/protocol/iFiction/">'
+    metadata = ('<?xml version="1.0" encoding="UTF-8"?>'
+                '<ifindex version="1.0" xmlns="http://babel.ifarchive.org/protocol/iFiction/">'
                 f"<story><bibliographic><title>{title}</title></bibliographic></story></ifindex>").encode()  # fmt: skip
 
     def chunk(name, data):

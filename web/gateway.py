@@ -163,8 +163,8 @@ def origins_of(name, port, given):
 
 
 def read_words():
-    words = argparse.ArgumentParser(usage="web/gateway.py --host ADDRESS ..  or  --hosts FILE ..; --help tells more", description=__doc__,
-                                    formatter_class=argparse.RawDescriptionHelpFormatter)  # fmt: skip
+    usage = "web/gateway.py --host ADDRESS ..  or  --hosts FILE ..; --help tells more"
+    words = argparse.ArgumentParser(usage=usage, description=__doc__, formatter_class=argparse.RawDescriptionHelpFormatter)
     which = words.add_mutually_exclusive_group(required=True)
     which.add_argument("--host", type=address_of)
     which.add_argument("--hosts", type=pathlib.Path)

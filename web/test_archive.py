@@ -154,7 +154,8 @@ async def strangers(client, archive, player):
     want("what is told of games of others", [text for text, _ in told], [NONE] * 4)
     if min(seconds for _, seconds in told) < 1:
         raise Otherwise(f"one of them is told sooner: {told}")
-    want("a title of no host", (await refusal(client, archive, begin={"title": "Nothing", "seed": 1}))[0], "no host has this title")
+    text, _ = await refusal(client, archive, begin={"title": "Nothing", "seed": 1})
+    want("a title of no host", text, "no host has this title")
 
 
 async def fill(client, archive, player):
@@ -225,8 +226,8 @@ async def moved(client, archive, player):
 
 LEFT_OUT = "is left out: what it answers isn't understood"
 RUBBISH = [("words", b"HELLO\n" * 64, LEFT_OUT), ("otherSession", b"SHOW 99 0\n.\n" * 64, LEFT_OUT),
-           ("noNumber", b"SHOW 0 x\n.\n" * 64, LEFT_OUT), ("noText", b"\xff\n" * 64, LEFT_OUT), ("noCause", b"NO\n" * 64, LEFT_OUT),
-           ("otherCause", b"NO 99\n" * 64, LEFT_OUT), ("halfLine", b"x" * 100_000, "is waited for"),
+           ("noNumber", b"SHOW 0 x\n.\n" * 64, LEFT_OUT), ("noText", b"\xff\n" * 64, LEFT_OUT),
+           ("noCause", b"NO\n" * 64, LEFT_OUT), ("otherCause", b"NO 99\n" * 64, LEFT_OUT), ("halfLine", b"x" * 100_000, "is waited for"),
            ("nothing", b"", "hasn't answered for 5 seconds")]  # fmt: skip
 
 
@@ -241,8 +242,7 @@ async def strange_host(name, said):
         writer.close()
 
     server = await asyncio.start_server(answer, "127.0.0.1", 0)
-    port = server.sockets[0].getsockname()[1]
-    return server, f'[[host]]\nname = "{name}"\naddress = "127.0.0.1"\nport = {port}\nstories = ["s.ulx"]\n'
+    return server, archives.part_of(name, server.sockets[0].getsockname()[1], ["s.ulx"])
 
 
 async def rubbish(client, archive, player):
@@ -289,9 +289,7 @@ class Counted(StandIn):
 async def read_again(client, archive, player):
     """A file that is wrong leaves all as it was; one that is right is taken, and no link is lost."""
     host = Counted()
-    port = await host.start()
-    more = f'[[host]]\nname = "counted"\naddress = "127.0.0.1"\nport = {port}\nstories = ["c.ulx"]\nlinks = 1\n'
-    archive.write(more, {"c.ulx": "Counted"})
+    archive.write(archives.part_of("counted", await host.start(), ["c.ulx"], "links = 1\n"), {"c.ulx": "Counted"})
     archive.read_again()
     looker = await looking(client, archive)
     await lobby_of(looker, lambda told: told.get("Counted") == ("open", 64), "a host that was added")
@@ -364,8 +362,8 @@ async def run(asked, room):
         raise Otherwise(f"the gateways say {said!r}")
     shows = players.shows_of_run(story, player.lines, asked.program)
     players.want_same("the last move", player.update, shows[-1])
-    print(f"test_archive: {count} files of hosts were refused as they should be; {units_said}; hosts that were full, gone, back, moved and "
-          f"strange, and files read again, hurt nobody else: {player.moves} moves beside them; no game was begun twice")  # fmt: skip
+    print(f"test_archive: {count} files of hosts were refused as they should be; {units_said}; hosts that were full, gone, back, "
+          f"moved and strange, and files read again, hurt nobody else: {player.moves} moves beside them; no game was begun twice")
 
 
 def main():

@@ -416,10 +416,11 @@ async def known(client, gateway):
     await spectator.send({"type": "init", "gen": 0, "metrics": small, "watch": {"game": player.game, "word": player.word}})
     told = await spectator.read("update", "error")
     if told["type"] == "error":
-        want("a spectator of it", (told["message"], await until_closed(spectator)), ("this host can't be watched: it has no spectators", []))
+        want("a spectator of it", told["message"], "this host can't be watched: it has no spectators")
     else:
         seen = [told] + [await spectator.read("update") for _ in updates[1:]]
-        want("what a spectator sees", [(one["gen"], one["content"]) for one in seen], [(one["gen"], one["content"]) for one in updates])
+        for got, wanted in zip(seen, updates):
+            want("what a spectator sees", (got["gen"], got["content"]), (wanted["gen"], wanted["content"]))
     return f"this host knows {'SIZE' if now['gen'] == 2 else 'no SIZE'} and {'WATCH' if told['type'] == 'update' else 'no WATCH'}"
 
 

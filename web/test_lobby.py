@@ -5,9 +5,9 @@
 
 Two hosts serve The Well House and The Workbench, a third The Mill from a container with a title of its own, a fourth a small
 story. Before them stand two gateways, behind haproxy. The third host is filled and the fourth killed: the lobby has to say
-so. Then The Well House is begun by the keyboard and played by the first moves of stories/cottage.moves; on the way its host moves,
-each gateway is killed once, and another browser comes back to the game by its link alone, a third one looks on by the
-other link, and links of no game are tried. Behind each move every window of the page must have the text of `run`. With
+so. Then The Well House is begun by the keyboard and played by the first moves of stories/cottage.moves; on the way its host
+moves, each gateway is killed once, and another browser comes back to the game by its link alone, a third one looks on by
+the other link, and links of no game are tried. Behind each move every window of the page must have the text of `run`. With
 --pictures it leaves pictures. Wants what test_page.py does, and haproxy. It ends with 1 where something is otherwise."""
 
 import argparse
@@ -26,6 +26,7 @@ from host import Host as Run
 
 HOUSE, WORK, MILL, SMALL = "The Well House", "The Workbench", "The Mill", "A Small Story"
 MOVES = 24
+OPEN = "return [...document.querySelectorAll('#titles button:enabled')].map((one) => one.textContent)"
 ROWS = "return [...document.querySelectorAll('#titles li')].map((row) => [...row.children].map((one) => one.textContent))"
 
 
@@ -63,9 +64,8 @@ def lobby(page, archive, pictures):
     away = "its host is away"
     page.wait("a full host and one that is gone", lambda: rows_of(page)[MILL] == "full" and rows_of(page)[SMALL] == away)
     page.picture(pictures, "lobby-full")
-    for title in (MILL, SMALL):
-        if page.driver.execute_script(f"return [...document.querySelectorAll('#titles button:enabled')].some((one) => one.textContent === '{title}')"):
-            raise Otherwise(f"{title} can be begun")
+    if (can_be_begun := page.driver.execute_script(OPEN)) != [HOUSE, WORK]:
+        raise Otherwise(f"the lobby lets {can_be_begun} be begun")
     archive.hosts["host4"].start()
     page.wait("the host that is back", lambda: rows_of(page)[SMALL] == "64 free")
 
@@ -139,8 +139,8 @@ def run(asked, room):
         said = archive.kill()
     if key in said:
         raise Otherwise("the gateways' log has a key")
-    print(f"test_lobby: {MOVES} moves of The Well House, as by `run`, while its host moved and each gateway was killed; a full host and one "
-          f"that was gone were told; one browser came back by the link; a spectator {seen}")  # fmt: skip
+    print(f"test_lobby: {MOVES} moves of The Well House, as by `run`, while its host moved and each gateway was killed; a full host "
+          f"and one that was gone were told; one browser came back by the link; a spectator {seen}")  # fmt: skip
 
 
 def main():
