@@ -107,7 +107,7 @@ class Host:
         one way where the session is in use and in another where it is free."""
         lines = [f"OPEN {session} {'0' * KEY_LETTERS} {NO_STORY} 0 1 1" for session in range(SESSIONS)]
         try:
-            replies = await asyncio.wait_for(self.links.look(lines), ANSWER_SECONDS)
+            replies = await asyncio.wait_for(self.links.ask_all(lines, is_patient=False), ANSWER_SECONDS)
             if any(reply.refusal not in (IN_USE, FREE) for reply in replies):
                 raise Strange
         except Unreached:

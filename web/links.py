@@ -92,15 +92,19 @@ class Links:
         self.broken = 0         # how many links have broken off: the host may be another since
 
     async def ask(self, line, is_patient=True):
-        """The reply to a line. Where the host goes it is waited for, and is sent the line again. To who isn't
-        patient a host that can't be reached before the line was sent is `Unreached`."""
+        reply, = await self.ask_all([line], is_patient)
+        return reply
+
+    async def ask_all(self, lines, is_patient=True):
+        """The replies to lines, in their order. Where the host goes it is waited for, and is sent the lines again. To
+        who isn't patient a host that can't be reached before they were sent is `Unreached`."""
         async with self.room:
             while True:
                 is_new = not self.idle
                 try:
                     link = await self.begin() if is_new else self.idle.pop()
                     is_patient = True
-                    return await self.ask_over(link, line)
+                    return await self.ask_over(link, lines)
                 except (OSError, EOFError) as cause:
                     if is_new:
                         self.note(False)
@@ -109,9 +113,9 @@ class Links:
                     if is_new:
                         await asyncio.sleep(AGAIN_SECONDS)
 
-    async def ask_over(self, link, line):
+    async def ask_over(self, link, lines):
         try:
-            reply, = await link.ask([line])
+            replies = await link.ask(lines)
         except BaseException:
             self.broken += 1
             link.close()
@@ -121,24 +125,7 @@ class Links:
         else:
             link.close()
         self.note(True)
-        return reply
-
-    async def look(self, lines):
-        """The replies to lines that change nothing, over a link that isn't kept longer. A host that isn't there
-        is `Unreached`."""
-        async with self.room:
-            link = None
-            try:
-                link = await self.begin()
-                replies = await link.ask(lines)
-            except (OSError, EOFError) as cause:
-                self.note(False)
-                raise Unreached from cause
-            finally:
-                if link:
-                    link.close()
-            self.note(True)
-            return replies
+        return replies
 
     async def begin(self):
         address = self.address
