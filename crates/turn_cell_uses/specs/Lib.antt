@@ -4,4 +4,3 @@ pub mod Rows
 pub mod DeskTag
 pub mod Events
 pub mod Answers
-pub mod Crew
