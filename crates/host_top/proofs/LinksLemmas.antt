@@ -28,7 +28,8 @@ use Rattle.host_top.specs.Status.{status_of_stop}
 use Rattle.host_top.specs.declared.door_call.DoorCall.{DoorCall}
 use Rattle.host_top.specs.declared.status.Status.{Status}
 use Rattle.host_top.specs.declared.status.Status.TheVariants as ends
-use Rattle.host_top.proofs.ConversedLemmas.{EndsOn, counts, grows, meanwhile, reaches}
+use Rattle.host_top.proofs.ConversedLemmas.{EndsOn, counts, grows, journal_back, meanwhile}
+use Rattle.host_top.proofs.ConversedLemmas.{reaches}
 
 -- ---- the journal
 
@@ -58,6 +59,8 @@ links_served disks OnDoor given back givens backs stories budget workers rows ho
       faults = counts disks given back givens backs stories budget rows host first last opened end;
       uncertain = end.0.uncertain;
       images = end.4;
+      left =
+          journal_back disks given back givens backs stories budget rows host first last opened end;
       meanwhile =
           meanwhile disks given back givens backs stories budget rows host first last opened end;
       reaches =

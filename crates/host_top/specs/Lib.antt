@@ -2,6 +2,7 @@ pub mod Headline
 pub mod Speech
 pub mod RunText
 pub mod Between
+pub mod JournalBack
 pub mod Piped
 pub mod Served
 pub mod Begun

@@ -11,6 +11,7 @@ use Rattle.line_talk.specs.Streams.{SourceState, SinkState, Gave, Wrote}
 use Rattle.disk_model.specs.declared.disk.Disk.{Ghosts as DiskWords}
 use Rattle.host_top.specs.DoorServed.{OfDoor}
 use Rattle.host_top.specs.Files.{OutsideState, Told, after_call, after_one}
+use Rattle.host_top.specs.JournalBack.{JournalBack}
 use Rattle.host_top.specs.Piped.{HostedOver, StoresBack}
 use Rattle.host_top.specs.Served.{BeginsRefusal, RefusesJournal}
 use Rattle.host_top.specs.declared.door_call.DoorCall.{DoorCall}
@@ -42,6 +43,7 @@ pub record LinksServed {D : Type 0} (disks : DiskWords D) (Serves : OfDoor D)
   pub uncertain : Option Row
   pub images :
       EachImage disks.tells disks.may_leave back (MaySpell (rows_of journal) uncertain)
+  pub left : JournalBack disks rows journal uncertain back
   -- meanwhile an image is one that the opening may meet, or spells the rows handed in and the first
   -- of those that were accepted since, or these and one row more
   pub meanwhile :

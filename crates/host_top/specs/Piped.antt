@@ -1,12 +1,12 @@
 -- What `pipe` leaves of the disks of a folder, of its input and of its output (own).
 use Rattle.std.specs.Prelude.{◌≡◌, ◌⊎◌, ℕ, ◌+◌, ◌^◌, ◌<◌, ◌≤◌, max, IsTrue, List, [], ◌∷◌, length}
-use Rattle.std.specs.Prelude.{Option, map, slice_set}
+use Rattle.std.specs.Prelude.{Option, map, slice_set, ◌++◌}
 use Rattle.std.specs.List.{AllZip}
-use Rattle.disk_model.specs.Disk.{EachImage, LeavesOnly}
+use Rattle.disk_model.specs.Disk.{EachImage, LeavesOnly, OnlyLooks}
 use Rattle.gate_journal.specs.declared.entry.Entry.{Entry as JournalEntry}
 use Rattle.gate_journal.specs.declared.row.Row.{Row}
 use Rattle.gate_journal.specs.declared.fault.JournalFault.{JournalFault}
-use Rattle.gate_journal.specs.Faults.{HasCause, Explains}
+use Rattle.gate_journal.specs.Faults.{HasCause, Explains, IsNoFault}
 use Rattle.gate_journal.specs.Log.{IsBetween, MayOpen, MaySpell, ReachesGate, Rises, rows_of}
 use Rattle.gate_journal.specs.Rows.{SpellsRows, IsJournal, commands_of, journal_bytes}
 use Rattle.host_serve.specs.Ending.{AreAgreedDisks}
@@ -24,6 +24,7 @@ use Rattle.disk_model.specs.declared.disk.Disk.{Ghosts as DiskWords}
 use Rattle.host_top.specs.Folder.{LetsGo, StoreFails}
 use Rattle.host_top.specs.declared.folder.Back.{Back}
 use Rattle.host_top.specs.declared.folder.Back.TheVariants.{All, Journal, Snap, Nothing}
+use Rattle.host_top.specs.JournalBack.{JournalBack}
 use Rattle.host_top.specs.Said.{SaysFault}
 use Rattle.host_top.specs.Status.{status_of_served}
 use Rattle.line_talk.specs.Streams.{SourceState, SinkState, Gave, Wrote}
@@ -118,10 +119,14 @@ pub record Conversed {D : Type 0} (disks : DiskWords D) (stories : List Story) (
   pub entries : HasEntries journal histories
   pub faults : Rises (disks.faults given) journal (disks.faults back)
   pub accepted : HaveCommands (rows_of journal) histories
+  -- its rows are those handed in, and more behind them
+  pub more : List Row
+  pub grows : rows_of journal ≡ rows ++ more
   -- each image spells these rows, or these and the one row whose gate is uncertain
   pub uncertain : Option Row
   pub images :
       EachImage disks.tells disks.may_leave back (MaySpell (rows_of journal) uncertain)
+  pub left : JournalBack disks rows journal uncertain back
   -- meanwhile an image is one that the opening may meet, or spells the rows handed in and the first
   -- of those that were accepted since, or these and one row more
   pub meanwhile :
@@ -141,6 +146,12 @@ pub record NotOpened {D : Type 0} (disks : DiskWords D) (given back : D)
   pub fault : JournalFault
   pub explains : IsTrue (disks.tells given) → Explains (disks.seen given) fault
   pub cause : HasCause (disks.faults given) (disks.faults back) fault
+  -- unless the disk failed it was only looked at
+  pub looked :
+      IsNoFault fault
+      → OnlyLooks disks.tells disks.may_leave disks.moment disks.left_since disks.reach disks.room
+      disks.label given back
+      × (IsTrue (disks.tells given) → disks.seen back ≡ disks.seen given)
   pub gave : Gave input now []
   pub says : SaysFault fault output new status
   pub images :
