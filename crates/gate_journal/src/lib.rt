@@ -10,6 +10,7 @@ mod history;
 mod journal;
 mod laws;
 mod load;
+mod look;
 mod mark;
 mod parse;
 mod payload;
@@ -28,6 +29,7 @@ pub use laws::{
     ends_within, has_one_corrupt_place, has_one_reading, opening_finds, spells_one_list,
     spells_or_is_corrupt,
 };
+pub use look::scan;
 pub use parse::{Rows, read_rows, row_behind};
 pub use room::row_bytes;
 pub use row::Row;
