@@ -11,7 +11,7 @@ use Rattle.gate_journal.specs.declared.command.Command.TheVariants as commands
 use Rattle.gate_journal.specs.declared.entry.Entry.TheVariants.{Kept, Faulted}
 use Rattle.line_words.specs.declared.request.Request.{Request}
 use Rattle.line_words.specs.declared.request.Request.TheVariants.{Open, Line, Char, File, Last}
-use Rattle.line_words.specs.declared.request.Request.TheVariants.{Close}
+use Rattle.line_words.specs.declared.request.Request.TheVariants.{Close, Watch}
 use Rattle.session_core.specs.Checks.{command_of}
 use Rattle.session_desk.specs.declared.refused.Refused.{Refused}
 use Rattle.session_desk.specs.declared.refused.Refused.TheVariants.{DiskFault, NoMemory}
@@ -28,6 +28,7 @@ IsInRange (Char s key n win code) = IsCommand (commands.Char win code)
 IsInRange (File s key n name) = IsCommand (commands.File name)
 IsInRange (Last s key) = Unit {0}
 IsInRange (Close s key n) = Unit {0}
+IsInRange (Watch s word from) = Unit {0}
 
 -- the desk's commands are the journal's rows of its session
 abbrev pub IsKept : {D : Type 0} → DeskState → Log D → Type 0

@@ -109,6 +109,14 @@ impl<'i> Desk<'i> {
         self.commands.len()
     }
 
+    /// All commands that the session number ever accepted, oldest first.
+    pub fn commands(&self) -> &[Command]
+        ensures value { result.now ≡ self.now.commands }
+        ensures within { length result.now ≤ 8192 }
+    {
+        self.commands.as_slice()
+    }
+
     /// The budget of a turn, in ticks, with which the session is to be opened.
     pub fn budget(&self) -> u64
         ensures value { result ≡ self.now.budget }
