@@ -54,12 +54,15 @@ pub record Commits
   -- no gate is uncertain
   pub certain : new_log.uncertain ≡ None
 
--- what a refusal leaves of the journal: its disk's fault as an entry, or all as before
-abbrev pub RefusalLeaves : {D : Type 0} → (D → ℕ) → ℕ → Log D → Log D → Refused → Type 0
-RefusalLeaves faults session old new (DiskFault fault) =
+-- what a refusal leaves of the journal: its disk's fault as an entry, with the row that was asked
+-- for, or all as before
+abbrev pub RefusalLeaves :
+    {D : Type 0} → (D → ℕ) → ℕ → Command → Log D → Log D → Refused → Type 0
+RefusalLeaves faults session command old new (DiskFault fault) =
     IsFault fault (faults old.disk) (faults new.disk)
-    × (new.entries ≡ old.entries ++ Faulted (session + 1) fault.from fault.to ∷ [])
-RefusalLeaves faults session old new NoMemory = SameLog old new
+    × (new.entries ≡ old.entries
+    ++ Faulted (next_row (rows_of old.entries) session command) fault.from fault.to ∷ [])
+RefusalLeaves faults session command old new NoMemory = SameLog old new
 
 -- where the disk failed the closing gate was left as it was, or closed, or had its write begun, and
 -- then the new row stands behind an uncertain gate
