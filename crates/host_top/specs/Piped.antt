@@ -14,8 +14,10 @@ use Rattle.host_serve.specs.Opening.{AreAgreed, histories_in_rows}
 use Rattle.host_serve.specs.Serves.{AnsweredLine}
 use Rattle.host_serve.specs.Told.{AnsweredOf, WritesReplies}
 use Rattle.host_serve.specs.declared.served.Served.{Served}
-use Rattle.session_core.specs.Hosts.{AreMet, entries_of, histories_met, replies_met, session_on}
-use Rattle.session_core.specs.Turning.{MayMeet, Turned, commands_in, decision_in, turn_in}
+use Rattle.host_serve.specs.Alone.{AreMet, histories_met, replies_met}
+use Rattle.host_serve.specs.Said.{said_in, turn_said_in}
+use Rattle.session_core.specs.Hosts.{entries_of, session_on}
+use Rattle.session_core.specs.Turning.{MayMeet, Turned, commands_in}
 use Rattle.session_core.specs.declared.decision.Decision.{Decision}
 use Rattle.session_core.specs.declared.entry.Entry.{Entry}
 use Rattle.session_desk.specs.Turn.{history_in}
@@ -44,13 +46,13 @@ HasEntries journal histories =
 -- host held of that session
 abbrev pub turn_held : List Story → ℕ → List (List Entry) → AnsweredLine → Turned
 turn_held stories budget histories t =
-    turn_in stories budget (entries_of histories (session_on t.line)) t.world 0 t.line t.outcome
+    turn_said_in stories budget (entries_of histories (session_on t.line)) t.world 0 t.line
+    t.outcome
 
--- and what the session decides on it
+-- and what the session says to it
 abbrev pub decision_held : List Story → ℕ → List (List Entry) → AnsweredLine → Decision
 decision_held stories budget histories t =
-    decision_in stories budget (commands_in (entries_of histories (session_on t.line))) t.world
-    t.line
+    said_in stories budget (commands_in (entries_of histories (session_on t.line))) t.world t.line
 
 -- the turns of lines, one after the other, lead from these histories to those
 abbrev pub Lead : List Story → ℕ → List (List Entry) → List AnsweredLine → List (List Entry)
