@@ -1,5 +1,5 @@
 -- The places of a session's OPEN rows in a journal.
-use Rattle.std.proofs.Common.{◌≡◌, inl, ⊎_elim, ℕ, zero, suc, ◌+◌, ◌<◌, ◌==◌, ◌&&◌, Bool, true}
+use Rattle.std.proofs.Common.{◌≡◌, inl, ⊎_elim, ℕ, zero, suc, ◌+◌, ◌<◌, ◌≤◌, ◌==◌, ◌&&◌, Bool, true}
 use Rattle.std.proofs.Common.{false, cond, List, [], ◌∷◌, ◌++◌, length, Option, Some, None, Result}
 use Rattle.std.proofs.Common.{Ok, Err, refl, sym, ap, subst, ◌∙◌, ne_eqb, append_assoc, arith}
 use Rattle.std.specs.Prelude.{IfOk}
@@ -126,10 +126,10 @@ if_one true p x c = contains_one p x c
 if_one false p x c = absurd (contains_none x c)
 
 -- each of these places is before the end
-abbrev AreBelow : List ℕ → ℕ → Type 0
+abbrev pub AreBelow : List ℕ → ℕ → Type 0
 AreBelow places end = (x : ℕ) → Contains places x → x < end
 
-below_next : (s : ℕ) (rows : List Row) (r : Row)
+pub below_next : (s : ℕ) (rows : List Row) (r : Row)
     → IsNext rows r
     → AreBelow (opens_of rows s) (length (journal_bytes rows))
     → AreBelow (opens_of (rows ++ r ∷ []) s) (length (journal_bytes (rows ++ r ∷ [])))
@@ -162,12 +162,49 @@ opens_below s rows journal =
     behind_each (λ (all : List Row). AreBelow (opens_of all s) (length (journal_bytes all))) [] rows
     (below_next s) journal (λ x has. absurd (contains_none x has))
 
+-- and the last one is the greatest
+abbrev AreUpToLast : List ℕ → Type 0
+AreUpToLast places =
+    (last : ℕ) → last_row places ≡ Some last → (x : ℕ) → Contains places x → x ≤ last
+
+up_to_last : (opens : Bool) (places : List ℕ) (p : ℕ) → AreBelow places p → AreUpToLast places
+    → AreUpToLast (places ++ cond opens (p ∷ []) [])
+up_to_last true places p below up last is x has =
+    let at : p ≡ last = some_is p last (sym (last-append None places p) ∙ is) in
+    ⊎_elim (λ old. let lt = below x old in omega (arith, lt, at))
+    (λ new. let same = contains_one p x new in omega (arith, same, at))
+    (Contains-append_cases places (p ∷ []) x has)
+up_to_last false places p below up last is x has =
+    subst AreUpToLast (sym (append-nil places)) up last is x has
+
+last_next : (s : ℕ) (rows : List Row) (r : Row)
+    → IsNext rows r
+    → AreBelow (opens_of rows s) (length (journal_bytes rows)) × AreUpToLast (opens_of rows s)
+    → AreBelow (opens_of (rows ++ r ∷ []) s) (length (journal_bytes (rows ++ r ∷ [])))
+    × AreUpToLast (opens_of (rows ++ r ∷ []) s)
+last_next s rows r next both = (
+  below_next s rows r next both.0,
+  subst AreUpToLast (sym (opens_of-append rows (r ∷ []) s))
+      (up_to_last (r.session == s && is_open r.command) (opens_of rows s) r.place
+      (subst (AreBelow (opens_of rows s)) (sym next.place) both.0) both.1),
+)
+
+-- a session's last place is the greatest of them
+pub opens_last : (s : ℕ) (rows : List Row)
+    → IsJournal rows → (last : ℕ) → last_row (opens_of rows s) ≡ Some last
+    → (x : ℕ) → Contains (opens_of rows s) x
+    → x ≤ last
+opens_last s rows journal =
+    (behind_each (λ (all : List Row). AreBelow (opens_of all s) (length (journal_bytes all))
+    × AreUpToLast (opens_of all s)) [] rows (last_next s) journal
+    (λ x has. absurd (contains_none x has), λ last is x has. absurd (contains_none x has))).1
+
 -- ---- behind a commit
 
 same_session : (s : ℕ) → (s == s) ≡ true
 same_session s = grind (arith, nat_tests)
 
-one_open : (opens : Bool) (places : List ℕ) (p q : ℕ)
+pub one_open : (opens : Bool) (places : List ℕ) (p q : ℕ)
     → p ≡ q
     → places ++ cond opens (p ∷ []) [] ≡ cond opens (places ++ q ∷ []) places
 one_open true places p q e = ap (λ (x : ℕ). places ++ x ∷ []) e

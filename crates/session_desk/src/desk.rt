@@ -256,6 +256,13 @@ impl<'i> Desk<'i> {
         Ok(())
     }
 
+    /// Lets the world go.
+    pub(crate) fn forget(&mut self)
+        ensures { self.new ≡ desk_emptied self.old }
+    {
+        self.held = Held::Nothing;
+    }
+
     /// The lines of the last show: `E closed` once the session was closed, and none before it was
     /// first opened. None where the desk is cold.
     pub fn last(&self) -> Option<&[u8]>

@@ -81,7 +81,8 @@ impl<'i, D: Disk> Model for SharedDesk<'i, D> {
       rows = rows_of (seen d.first.value);
     } };
 
-    ghost invariant = { λ d. IsWhole D.tells D.seen D.room D.label D.faults D.reach
+    ghost invariant = { λ d. IsWhole D.tells D.seen D.moment D.left_since
+        D.room D.label D.faults D.reach
         d.marks.items d.place
         (record {
           desk = d.desk;
@@ -136,6 +137,8 @@ impl<'i, D: Disk + Drop> SharedDesk<'i, D> {
         let desk = Desk::open(alloc, session, stories, budget, rows)?;
         let marks = vec![in alloc; Mark::Accepted { by: 0 }; desk.len()]?;
         let place = last_open(rows, session);
+        // with the header comes what holds of every store's images
+        let _made = store.is_made();
         let given = Snapshot::of(&store);
         let first = Snapshot::of(&pass);
         let saves = Saves::open(store);
@@ -295,8 +298,8 @@ impl<'i, D: Disk + Drop> SharedDesk<'i, D> {
     pub fn into_parts(self) -> (Pass<Journal<D>>, Store<D>)
         ensures value { result ≡ (self.entry.pass, self.entry.saves.store) }
         ensures shared { IsShared self.entry }
-        ensures store { EndsStore D.tells D.may_leave D.seen D.room D.label D.faults D.reach
-            self.entry }
+        ensures store { EndsStore D.tells D.may_leave D.seen D.moment D.left_since
+            D.room D.label D.faults D.reach self.entry }
     {
         let SharedDesk {
             desk: _,
