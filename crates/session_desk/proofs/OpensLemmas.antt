@@ -19,7 +19,7 @@ use Rattle.gate_journal.specs.declared.entry.Entry.TheVariants.{Kept, Faulted}
 use Rattle.gate_journal.proofs.RowLemmas.{spelled-push}
 use Rattle.line_words.specs.declared.request.Request.{Request}
 use Rattle.line_words.specs.declared.request.Request.TheVariants.{Open, Line, Char, File, Last}
-use Rattle.line_words.specs.declared.request.Request.TheVariants.{Close}
+use Rattle.line_words.specs.declared.request.Request.TheVariants.{Close, Watch}
 use Rattle.story_run.specs.declared.story.Story.{Story}
 use Rattle.session_core.specs.Checks.{command_of, opening_command}
 use Rattle.session_core.specs.History.{game_of, is_in_use, later, story_at}
@@ -46,7 +46,7 @@ opens_of-append (r ∷ xs) ys s =
 pub rows_of-append : (xs ys : List JournalEntry) → rows_of (xs ++ ys) ≡ rows_of xs ++ rows_of ys
 rows_of-append [] ys = refl
 rows_of-append (Kept r ∷ xs) ys = ap (λ (rows : List Row). r ∷ rows) (rows_of-append xs ys)
-rows_of-append (Faulted by from to ∷ xs) ys = rows_of-append xs ys
+rows_of-append (Faulted r from to ∷ xs) ys = rows_of-append xs ys
 
 -- ---- entries of other sessions
 
@@ -63,7 +63,7 @@ pub later_numbered : (seen rest : List JournalEntry)
     → Each IsNumbered (rows_of rest)
 later_numbered [] rest each = each
 later_numbered (Kept r ∷ seen) rest each = later_numbered seen rest each.1
-later_numbered (Faulted by from to ∷ seen) rest each = later_numbered seen rest each
+later_numbered (Faulted r from to ∷ seen) rest each = later_numbered seen rest each
 
 abbrev pub Others : ℕ → List JournalEntry → Type 0
 Others s rest = Each (IsForeign entry_number ((s + 1) ∷ [])) rest
@@ -90,8 +90,8 @@ foreign_none s (Kept r ∷ rest) n f =
     let differ : (r.session == s) ≡ false =
     ne_eqb r.session s (λ e. f.0 (inl (sym (n.0 ∙ ap (λ (k : ℕ). k + 1) e)))) in
     rw differ (foreign_none s rest n.1 f.1)
-foreign_none s (Faulted by from to ∷ rest) n f =
-    let differ : (by == s + 1) ≡ false = ne_eqb by (s + 1) (λ e. f.0 (inl (sym e))) in
+foreign_none s (Faulted r from to ∷ rest) n f =
+    let differ : (r.by == s + 1) ≡ false = ne_eqb r.by (s + 1) (λ e. f.0 (inl (sym e))) in
     rw differ (foreign_none s rest n f.1)
 
 -- nor an OPEN row
@@ -228,7 +228,8 @@ opens_added s log c (Ok place) at =
     (length (journal_bytes (rows_of log))) place (sym at)
 opens_added s log c (Err (DiskFault fault)) at =
     ap (λ (rows : List Row). opens_of rows s)
-    (rows_of-append log (Faulted (s + 1) fault.from fault.to ∷ []) ∙ append-nil (rows_of log))
+    (rows_of-append log (Faulted (next_row (rows_of log) s c) fault.from fault.to ∷ [])
+    ∙ append-nil (rows_of log))
 opens_added s log c (Err NoMemory) at =
     ap (λ (es : List JournalEntry). opens_of (rows_of es) s) (append-nil log)
 
@@ -287,6 +288,7 @@ to_open stories (Char s key n win code) c e = rw (sym (some_is _ c e)) refl
 to_open stories (File s key n name) c e = rw (sym (some_is _ c e)) refl
 to_open stories (Last s key) c e = absurd cc
 to_open stories (Close s key n) c e = rw (sym (some_is _ c e)) refl
+to_open stories (Watch s word from) c e = absurd cc
 
 -- the place of the last OPEN row behind a commit
 pub row_by : (stories : List Story) (s : ℕ) (old new : List JournalEntry) (place : Option ℕ)
