@@ -1,6 +1,6 @@
 -- What `pipe` leaves of the disks of a folder, of its input and of its output (own).
 use Rattle.std.specs.Prelude.{◌≡◌, ◌⊎◌, ℕ, ◌+◌, ◌^◌, ◌<◌, ◌≤◌, max, IsTrue, List, [], ◌∷◌, length}
-use Rattle.std.specs.Prelude.{Option, map, slice_set, ◌++◌}
+use Rattle.std.specs.Prelude.{Option, map, slice_set, ◌++◌, Some, slice_get}
 use Rattle.std.specs.List.{AllZip}
 use Rattle.disk_model.specs.Disk.{EachImage, LeavesOnly, OnlyLooks}
 use Rattle.gate_journal.specs.declared.entry.Entry.{Entry as JournalEntry}
@@ -21,6 +21,8 @@ use Rattle.session_core.specs.Turning.{MayMeet, Turned, commands_in}
 use Rattle.session_core.specs.declared.decision.Decision.{Decision}
 use Rattle.session_core.specs.declared.entry.Entry.{Entry}
 use Rattle.session_desk.specs.Turn.{history_in}
+use Rattle.session_saves.specs.Agreement.{AgreesWithBeginning, last_row, opens_of}
+use Rattle.session_saves.specs.Saves.{HasOpenSince}
 use Rattle.story_run.specs.declared.story.Story.{Story}
 use Rattle.disk_model.specs.declared.disk.Disk.{Ghosts as DiskWords}
 use Rattle.host_top.specs.Folder.{LetsGo, StoreFails}
@@ -84,13 +86,32 @@ pub record IsStoreBack {D : Type 0} (disks : DiskWords D) (given back : D) : Typ
   pub counts : disks.faults given ≤ disks.faults back
   pub reaches : disks.reach back ≤ max (disks.reach given) 16781344
 
--- and so do those of all stores; where they were sound, each image agrees with these rows
+-- A session's snapshot file, from the disk handed in to the one handed back. Each image that a stop
+-- may leave since then agrees with the first of the rows put back. While no OPEN of the session
+-- comes, an open area of its last game is never lost.
+pub record StaysSound {D : Type 0} (disks : DiskWords D) (stories : List Story)
+    (rows after : List Row) (s : ℕ) (given back : D) : Type 0 where
+  pub agreed :
+      LeavesOnly disks.moment disks.left_since given back (AgreesWithBeginning stories after s)
+  pub newest :
+      opens_of after s ≡ opens_of rows s
+      → (place least : ℕ) → last_row (opens_of after s) ≡ Some place
+      → EachImage disks.tells disks.may_leave given (HasOpenSince place least)
+      → LeavesOnly disks.moment disks.left_since given back (HasOpenSince place least)
+
+-- The disks of all stores come back. Where they were sound, each image of them agrees with the rows
+-- of the journal put back; and where each image handed in agreed, the files stay sound meanwhile.
 pub record StoresBack {D : Type 0} (disks : DiskWords D) (stories : List Story)
     (rows after : List Row) (givens backs : List D) : Type 0 where
   pub each : AllZip (IsStoreBack disks) givens backs
   pub agreed :
       AreAgreed disks.tells disks.seen stories rows givens
       → AreAgreedDisks disks.tells disks.may_leave stories after backs
+  pub meanwhile :
+      AreAgreed disks.tells disks.seen stories rows givens
+      → AreAgreedDisks disks.tells disks.may_leave stories rows givens
+      → (s : ℕ) (given back : D) → slice_get givens s ≡ Some given → slice_get backs s ≡ Some back
+      → StaysSound disks stories rows after s given back
 
 -- The lines that were answered, from the sessions of the journal handed in, each by what its turn
 -- met; what was written; and what a stop leaves of the disks handed back.

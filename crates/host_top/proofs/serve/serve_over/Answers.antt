@@ -30,7 +30,7 @@ returns-clause-value g c = λ input. rw c.in-Ok.ensures.silent (links_served g.D
     (c.serve_links-status.ensures.served done) c.end-journal.ensures.value)
     (stores_back g.D.Disk _ _ _ _ _ _ _ _ _ _ c.in-Ok.ensures.ok.2
     c.end-journal.ensures.value c.in-Ok.ensures.stores c.end-journal.ensures.stores
-    c.in-Ok.ensures.sound))
+    g.met.D.Disk.seen_may_stay c.in-Ok.ensures.sound))
 
 stores_same : (g : Over) (c : After-end-journal g)
     → AreSame g.D.Disk c.args.disks.snaps.items c.end-journal.result.1.items
