@@ -19,5 +19,6 @@ pub mod Plain
 pub mod Files
 pub mod MemoryOutside
 pub mod MemoryState
+pub mod Rejoining
 pub mod DoorServed
 pub mod LinksServed
