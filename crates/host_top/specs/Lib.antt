@@ -20,5 +20,6 @@ pub mod Plain
 pub mod Files
 pub mod MemoryOutside
 pub mod MemoryState
+pub mod Rejoining
 pub mod DoorServed
 pub mod LinksServed
