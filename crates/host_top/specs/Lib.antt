@@ -21,3 +21,4 @@ pub mod MemoryOutside
 pub mod MemoryState
 pub mod DoorServed
 pub mod LinksServed
+pub mod Replayed

@@ -78,7 +78,7 @@ all_fail [] e = tt
 all_fail ((true, why) ∷ more) e = absurd cc
 all_fail ((false, why) ∷ more) e = (refl, all_fail more e)
 
-accepted_none : (stories : List Story) (game : List Command) (show : Option Command → List ℕ)
+pub accepted_none : (stories : List Story) (game : List Command) (show : Option Command → List ℕ)
     (request : Request) (refusal : Option No) (command : Command)
     → (decided stories game show request refusal).accepted ≡ Some command
     → (refusal ≡ None) × (accepted_by stories game request ≡ Some command)
@@ -136,7 +136,7 @@ same_list : (xs : List ℕ) → bytes_eq xs xs ≡ true
 same_list xs = (bytes_eq-Decides xs xs).1 refl
 
 -- a game opened with this key, once a command has joined it whose number was the next one
-record Joins (stories : List Story) (g : List Command) (key : List ℕ) (n : ℕ) (x : Command)
+pub record Joins (stories : List Story) (g : List Command) (key : List ℕ) (n : ℕ) (x : Command)
     : Type 0 where
   pub keyed : has_key (joined g x) key ≡ true
   pub last : last_of (joined g x) ≡ Some x
@@ -169,7 +169,7 @@ joins stories (commands.File name ∷ cs) key n x keyed next = absurd cc
 joins stories (commands.Close ∷ cs) key n x keyed next = absurd cc
 
 -- the number is one of a session, and the command that comes next joins the game
-known_joins : (stories : List Story) (g : List Command) (far used : Bool) (key : List ℕ) (n : ℕ)
+pub known_joins : (stories : List Story) (g : List Command) (far used : Bool) (key : List ℕ) (n : ℕ)
     (x : Command)
     → (far || not (has_key g key && used)) ≡ false → (n == command_count g + 1) ≡ true
     → (far ≡ false) × Joins stories g key n x

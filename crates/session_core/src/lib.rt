@@ -12,6 +12,7 @@ mod sessions;
 mod world;
 
 pub use checks::{is_fresh, is_other_story, session_of};
+pub use commands::Commands;
 pub use decision::{Decision, MAX_COMMANDS, command_of, decide, plain_refusal, shown_number};
 pub use entry::{Entry, Outcome};
 pub use history::{game_of, is_in_use, is_open, story_at};
