@@ -3,6 +3,7 @@ pub mod SpeechLemmas
 pub mod StoriesLemmas
 pub mod ServedLemmas
 pub mod WrittenLemmas
+pub mod ReplayLemmas
 pub mod ToldLemmas
 pub mod CauseLemmas
 pub mod StopLemmas

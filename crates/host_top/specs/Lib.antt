@@ -23,3 +23,4 @@ pub mod MemoryState
 pub mod Rejoining
 pub mod DoorServed
 pub mod LinksServed
+pub mod Replayed
