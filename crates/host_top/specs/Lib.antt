@@ -14,7 +14,6 @@ pub mod Stories
 pub mod StoryFile
 pub mod Status
 pub mod Follows
-pub mod Complete
 pub mod Spoken
 pub mod Plain
 pub mod Files

@@ -195,8 +195,7 @@ impl StoreState {
 
     /// The disk makes its next call. Where that isn't good the disk reads as `reads` from then on.
     pub fn call(&mut self, alloc: Global, good: bool, reads: &Bytes) -> Result<(), AllocError>
-        ensures ok { OnOk result (self.new ≡ file_after self.old (Event.Call good reads.now)) }
-        ensures err { OnErr result (self.new ≡ self.old) }
+        ensures { OnOk result (self.new ≡ file_after self.old (Event.Call good reads.now)) }
     {
         let Some(call) = next_call(alloc, &self.step)? else {
             return Ok(());
