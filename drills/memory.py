@@ -12,7 +12,10 @@ and then given again. What each show has to be stands in the rows; which line is
 docs/FORMATS.md. A run ends with 0 or 7. With 0 each line has one reply: the usual one for a history that some of the
 lines before may be missing from, or `NO 12`; behind that the line's command may be accepted or not, and what is said
 later has to fit one of the two. With 7 an end of the replies is missing. Then a host without such a refusal opens the
-folder, and the LAST that it gives has to fit too. It ends with 1 where something is otherwise."""
+folder, and the LAST that it gives has to fit too.
+
+Before that `run`, `check` and `init` are run so: each ends with 0 and all that it writes otherwise, or with 7 and a part of
+it; and a folder that `init` left is begun by another `init`, or was begun. It ends with 1 where something is otherwise."""
 
 import argparse
 import os
@@ -157,28 +160,45 @@ class Drill:
             if file.name not in ("journal", "snap00"):
                 file.unlink()
 
-    def run(self, place, lines, told):
+    def run(self, words, lines, told):
         given = "".join(line + "\n" for line in lines).encode()
-        words = [PROGRAM, "pipe", place, self.story]
-        return subprocess.run(words, input=given, capture_output=True, env=told, timeout=SECONDS)
+        return subprocess.run([PROGRAM, *words], input=given, capture_output=True, env=told, timeout=SECONDS)
+
+    def counted(self, number, words, lines):
+        """One run, with the request of that number refused, and how many requests were made."""
+        made = self.folder / "made"
+        made.write_bytes(bytes(8))
+        ran = self.run(words, lines, {"LD_PRELOAD": str(self.library), "REFUSED": str(number), "REQUESTS_IN": str(made)})
+        if ran.returncode not in (0, 7):
+            raise Otherwise(f"status {ran.returncode}: {ran.stderr.decode(errors='replace')!r}")
+        if ran.stderr.count(b"\n") != (1 if ran.returncode else 0):
+            raise Otherwise(f"status {ran.returncode}, and standard error has {ran.stderr!r}")
+        return ran, int.from_bytes(made.read_bytes(), "little")
+
+    def refuse_each(self, *words):
+        """Runs of a command that answers no requests, one for each request for memory."""
+        lines = ["LINE 1 =go", "CHAR 1 65", "LINE 1 =on"]
+        usual, made = self.counted(0, words, lines)
+        for number in range(1, made + 1):
+            shutil.rmtree(self.folder / "n", ignore_errors=True)
+            ran, _ = self.counted(number, words, lines)
+            if not usual.stdout.startswith(ran.stdout) or ran.returncode == 0 and ran.stdout != usual.stdout:
+                raise Otherwise(f"{words[0]}, request {number}: {ran.stdout!r}")
+            if words[0] == "init" and self.run(words, [], {}).stdout not in ((b"not empty\n",) if ran.stdout else (b"ready\n",)):
+                raise Otherwise(f"init, request {number}: another init doesn't begin the folder")
+        return made
 
     def refuse(self, number):
         """One run, with the request of that number refused: its status, and how many requests were made."""
-        place, made = self.folder / "d", self.folder / "made"
+        place = self.folder / "d"
         shutil.copytree(self.base, place)
-        made.write_bytes(bytes(8))
-        told = {"LD_PRELOAD": str(self.library), "REFUSED": str(number), "REQUESTS_IN": str(made)}
         try:
-            ran = self.run(place, self.script.lines, told)
-            if ran.returncode not in (0, 7):
-                raise Otherwise(f"status {ran.returncode}: {ran.stderr.decode(errors='replace')!r}")
-            if ran.stderr.count(b"\n") != (1 if ran.returncode else 0):
-                raise Otherwise(f"status {ran.returncode}, and standard error has {ran.stderr!r}")
+            ran, made = self.counted(number, ["pipe", place, self.story], self.script.lines)
             counts = judge(self.script, ran.returncode, ran.stdout.decode())
-            then = self.run(place, [f"LAST 0 {self.script.key}"], {})
+            then = self.run(["pipe", place, self.story], [f"LAST 0 {self.script.key}"], {})
             if then.returncode or then.stdout.decode() not in {self.script.last(count) for count in counts}:
                 raise Otherwise(f"where {sorted(counts, key=str)} may be accepted, the folder shows {then.stdout!r}")
-            return ran, int.from_bytes(made.read_bytes(), "little")
+            return ran, made
         finally:
             shutil.rmtree(place)
 
@@ -205,8 +225,15 @@ def main():
         return 0
     script, image = (long_script(), story("two_rooms")) if asked.long else (echo_script(), story("echo"))
     wrong, ends, said, runs = 0, {0: 0, 7: 0}, 0, 0
-    with tempfile.TemporaryDirectory(prefix="memory-") as name:
+    root = "/dev/shm" if os.access("/dev/shm", os.W_OK) else None
+    with tempfile.TemporaryDirectory(prefix="memory-", dir=root) as name:
         drill = Drill(pathlib.Path(name), script, image)
+        try:
+            plain = 0 if asked.long else sum(drill.refuse_each(*words) for words in (
+                ("run", drill.story), ("check", drill.story), ("init", drill.folder / "n")))
+        except Otherwise as cause:
+            print(f"memory: {cause}")
+            return 1
         usual, made = drill.refuse(0)
         if usual.returncode or b"NO 12" in usual.stdout or judge(script, 0, usual.stdout.decode()) != {max(script.commands)}:
             print(f"memory: with nothing refused the run is otherwise: {usual.stdout!r}")
@@ -220,7 +247,7 @@ def main():
             except (Otherwise, subprocess.TimeoutExpired, UnicodeDecodeError) as cause:
                 wrong += 1
                 print(f"memory: request {number}: {cause}", flush=True)
-    print(f"memory: {made} requests, {runs} runs with one of them refused: {ends[7]} ended with 7, in {said} a line was"
+    print(f"memory: {plain} requests of run, check and init; {made} requests of pipe, {runs} runs with one of them refused: {ends[7]} ended with 7, in {said} a line was"
           f" answered NO 12, {wrong} were otherwise")
     return 1 if wrong else 0
 
