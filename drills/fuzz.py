@@ -1,6 +1,6 @@
 #!/usr/bin/env python3
-"""Gives the program damaged images, containers, saves, journals, snapshot files and lines, case by case by numbers drawn
-from a seed, and looks how it takes them.
+"""Gives the program damaged images, tables of Glk calls, containers, saves, journals, snapshot files and lines, case by case
+by numbers drawn from a seed, and looks how it takes them.
 
     drills/fuzz.py [CASES] [--seed N] [--first CASE]        2,000 cases unless told otherwise
 
@@ -42,6 +42,19 @@ BAD_STORY = re.compile(r"bad 0 (image [1-5]|blorb [1-4])\n")
 
 class Otherwise(Exception):
     pass
+
+
+def calls_of_rows():
+    """The calls that rows have a story of calls_glk.hex make, as lists of numbers: the selector, the count, the arguments."""
+    made = collections.defaultdict(list)
+    for row in sorted((TOP / "rows").glob("*.row")):
+        for line in row.read_text().splitlines():
+            if line.startswith("call "):
+                name, *numbers = line.split()[1:]
+                selector, *given = (int(it.removeprefix("x"), 0) for it in numbers)
+                by_count = numbers[1:2] and numbers[1][0] == "x"
+                made[row, name].append([selector + 0x10000, *given] if by_count else [selector, len(given), *given])
+    return list(made.values())
 
 
 def replies_of(text):
@@ -109,7 +122,8 @@ class Fuzz:
         self.place, self.said, self.slowest = place, collections.Counter(), (0, "")
         self.stories = [story(file.stem) for file in sorted((TOP / "rows" / "stories").glob("*.hex"))]
         self.stories += [(TOP / "stories" / f"{name}.ulx").read_bytes() for name in ("workbench", "cottage", "mill")]
-        self.echo, self.saver = story("echo"), story("restores_a_changed_save")
+        self.echo, self.saver, self.caller = story("echo"), story("restores_a_changed_save"), story("calls_glk")
+        self.tables = calls_of_rows()
         self.container = bytes.fromhex(FRONT) + story("hi")
         self.pieces = [b"OPEN", b"LINE", b"CHAR", b"FILE", b"LAST", b"CLOSE", b"0", b"1", b"2", b"63", b"64", b"k", b"=go",
                        b"=%41", b"=%zz", b"=", b"65", b"4294967295", b"4294967296", b"80", b"24", b"", b"\xff", b"-1", b"01"]
@@ -205,6 +219,24 @@ class Fuzz:
             whole = Damage(draw).some(whole)
         self.play(draw, whole, BUDGET if draw.randrange(16) == 0 else FEW_TICKS)
 
+    def calls(self, draw):
+        calls = [list(call) for call in draw.choice(self.tables)[:120]]
+        for _ in range(draw.choice((1, 1, 2, 4, 8))):
+            way, at = draw.randrange(6), draw.randrange(len(calls))
+            if way == 0 and len(calls) > 1:
+                del calls[at]
+            elif way == 1:
+                calls.insert(at, list(draw.choice(draw.choice(self.tables))))
+            elif way == 2:
+                other = draw.randrange(len(calls))
+                calls[at], calls[other] = calls[other], calls[at]
+            elif calls[at][2:]:
+                place = draw.randrange(2, len(calls[at]))
+                near = calls[at][place] + draw.choice((-1, 1))
+                calls[at][place] = draw.choice((near, near, draw.randrange(6), draw.choice(WORDS), 512, 520, 0x300))
+        table = b"".join(struct.pack(">I", word & 0xFFFFFFFF) for call in calls for word in call)[:2560]
+        self.play(draw, self.caller[:0x600] + table + self.caller[0x600 + len(table) :], FEW_TICKS)
+
     def a_container(self, draw):
         self.play(draw, Damage(draw).some(self.container), FEW_TICKS)
 
@@ -266,7 +298,7 @@ class Fuzz:
             raise Otherwise(f"{len(lines)} lines have {len(got[0])} replies, and over a stop {len(got[1])}")
 
     def case(self, seed, number):
-        kinds = (self.image, self.save, self.image, self.journal, self.a_container, self.lines, self.image, self.snapshot)
+        kinds = (self.image, self.save, self.calls, self.journal, self.a_container, self.lines, self.image, self.snapshot)
         kind = kinds[number % len(kinds)]
         self.said[kind.__name__.replace("a_", "")] += 1
         kind(random.Random(f"{seed} {number}"))
