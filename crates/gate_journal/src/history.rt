@@ -15,6 +15,7 @@ use crate::row::Row;
 use crate::seats::may_stand;
 use std::alloc::{AllocError, Global};
 use std::marker::Model;
+use std::snapshot::Snapshot;
 
 /// A list of entries: the rows apart, and marks that say where they stand among the faults.
 #[derive(Drop)]
@@ -52,7 +53,7 @@ impl History {
     pub fn of(alloc: Global, rows: Vec<Row>) -> Result<History, AllocError>
         ensures { IfOk result (λ h. h.list ≡ rows_kept rows.items) }
     {
-        let marks = vec![in alloc; Mark::Row; rows.len()]?;
+        let marks = rows.iter().map(|_| Mark::Row).collect(alloc)?;
         Ok(History { rows, marks })
     }
 
@@ -66,13 +67,14 @@ impl History {
         Ok(())
     }
 
-    /// Takes a fault down.
-    pub fn note_fault(&mut self, by: u64, from: u64, to: u64) -> DiskFault
+    /// Takes down a fault in the append of this row.
+    pub fn note_fault(&mut self, row: &Row, from: u64, to: u64) -> DiskFault
         requires { self.old.room ≡ true }
         ensures value { (result.from ≡ from) × (result.to ≡ to) }
-        ensures entry { self.new.list ≡ self.old.list ++ Faulted by from to ∷ [] }
+        ensures entry { self.new.list ≡ self.old.list ++ Faulted row.now from to ∷ [] }
     {
-        let _ = self.marks.push(Mark::Fault { by, from, to });
+        let asked = Snapshot::of(row);
+        let _ = self.marks.push(Mark::Fault { asked, from, to });
         DiskFault { from, to }
     }
 

@@ -118,7 +118,7 @@ pub appended : {D T : Type 0} (faults : D → ℕ) (request : Request) (desk new
     (old new : Log D) (c : Command) (done : Result T Refused)
     → command_of desk.stories request ≡ Some c
     → OnOk done (Commits request desk old new_desk new)
-    → IfErr done (λ why. RefusalLeaves faults desk.session old new why)
+    → IfErr done (λ why. RefusalLeaves faults desk.session c old new why)
     → new.entries
     ≡ old.entries ++ entries_added (rows_of old.entries) desk.session (Some c) (met_by done)
 appended faults request desk new_desk old new c (Ok x) asked ok err =
@@ -140,7 +140,7 @@ at_most_one s rows None OutOfMemory old new is = inl (is ∙ append-nil old)
 at_most_one s rows None Forgotten old new is = inl (is ∙ append-nil old)
 at_most_one s rows (Some c) Answered old new is = inr (Kept (next_row rows s c), is, refl)
 at_most_one s rows (Some c) (DiskFailed from to) old new is =
-    inr (Faulted (s + 1) from to, is, refl)
+    inr (Faulted (next_row rows s c) from to, is, refl)
 at_most_one s rows (Some c) OutOfMemory old new is = inl (is ∙ append-nil old)
 at_most_one s rows (Some c) Forgotten old new is = inr (Kept (next_row rows s c), is, refl)
 

@@ -20,7 +20,8 @@ use Rattle.turn_cell.specs.Passes.{seen}
 use Rattle.session_desk.specs.declared.held.Held.{Held}
 use Rattle.session_desk.specs.declared.turned.Turned.{Turned}
 use Rattle.session_desk.specs.declared.verdict.Verdict.TheVariants.{Cold}
-use Rattle.session_desk.specs.Desk.{committed, DeskState, game, HoldsOwnWorld, ran, shown_to}
+use Rattle.session_desk.specs.Desk.{committed, desk_emptied, DeskState, game, HoldsOwnWorld, ran}
+use Rattle.session_desk.specs.Desk.{shown_to}
 use Rattle.session_desk.specs.Laws.{decision_by_desk}
 use Rattle.session_desk.specs.Shared.{desk_tag, DeskTag, GoesOn, Rests, SharedState, TakesEntry}
 use Rattle.session_desk.specs.Shared.{TurnsTo}
@@ -30,6 +31,16 @@ use Rattle.session_desk.proofs.LawLemmas.{cold_alone}
 use Rattle.session_desk.proofs.NowLemmas.{is_by}
 use Rattle.session_desk.specs.Turn.{AcceptsNothing, IsShown}
 use Rattle.session_desk.proofs.TurnLemmas.{may_forget}
+
+-- as the world is let go
+pub rests-emptied : {D : Type 0} (old mid : SharedState D) → Rests old mid
+    → Rests old (record mid { desk = desk_emptied mid.desk })
+rests-emptied old mid r = record {
+  desk = ap (λ (d : DeskState). desk_emptied d) r.desk;
+  history = r.history;
+  pass = r.pass;
+  tag = r.tag;
+}
 
 -- ---- the reply and the history
 

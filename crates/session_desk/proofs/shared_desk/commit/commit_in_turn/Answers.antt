@@ -21,7 +21,7 @@ returns-clause-journal g c = λ command asked. record {
   adds = c.leave.ensures.seen
       ∙ appended g.D.Disk.faults c.args.request.now c.args.desk.now c.commit-done.new.self
       c.enter-journal.result c.commit-done.new.journal command c.commit-done.result
-      asked c.commit-done.ensures.ok c.commit-done.ensures.cause;
+      asked c.commit-done.ensures.ok (c.commit-done.ensures.cause command asked);
 }
 
 pub returns-clause-history : goal.returns-clause-history
@@ -34,7 +34,7 @@ returns-clause-history g c = λ command asked.
     (c.leave.ensures.seen
     ∙ appended g.D.Disk.faults c.args.request.now c.args.desk.now c.commit-done.new.self
     c.enter-journal.result c.commit-done.new.journal command c.commit-done.result
-    asked c.commit-done.ensures.ok c.commit-done.ensures.cause)
+    asked c.commit-done.ensures.ok (c.commit-done.ensures.cause command asked))
 
 pub returns-clause-opens : goal.returns-clause-opens
 returns-clause-opens g c = λ command asked.
@@ -46,5 +46,5 @@ returns-clause-opens g c = λ command asked.
     (c.leave.ensures.seen
     ∙ appended g.D.Disk.faults c.args.request.now c.args.desk.now c.commit-done.new.self
     c.enter-journal.result c.commit-done.new.journal command c.commit-done.result
-    asked c.commit-done.ensures.ok c.commit-done.ensures.cause)
+    asked c.commit-done.ensures.ok (c.commit-done.ensures.cause command asked))
     c.commit-done.ensures.place
