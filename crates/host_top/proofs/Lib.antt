@@ -18,5 +18,9 @@ pub mod FolderLemmas
 pub mod UsedLemmas
 pub mod MeetLemmas
 pub mod ConversedLemmas
+pub mod CrewLemmas
+pub mod AddedLemmas
+pub mod RejoinLemmas
+pub mod IdleLemmas
 pub mod DoorLemmas
 pub mod LinksLemmas

@@ -123,12 +123,13 @@ pub fn top<R: Threads + Wait + Sync, O: Outside, S: Source, K: Sink>(
     output: &mut K,
 ) -> u8
     // 2 comes exactly where the words aren't taken, unless memory was wanted before that was known,
-    // and nothing is read or written then
+    // and nothing is read, written, loaded or lent then, and no door opened
     ensures bad_words { result ≡ 2 → asked_by (map string_bytes words.now) ≡ None }
     ensures untaken { asked_by (map string_bytes words.now) ≡ None
         → (result ≡ 2) ⊎ (result ≡ 7) }
     ensures nothing { asked_by (map string_bytes words.now) ≡ None
-        → Gave (S.source input.old) (S.source input.new) []
+        → (O.outside outside.new ≡ O.outside outside.old)
+        × Gave (S.source input.old) (S.source input.new) []
         × Wrote (K.sink output.old) (K.sink output.new) [] }
 
     // what was asked is done as far as the status says
