@@ -1,4 +1,5 @@
 """A story in storyhost, alone or in a session of a host: its windows, what it waits for, and moves."""
+import hashlib
 import os
 import pathlib
 import socket
@@ -59,6 +60,7 @@ USAGES = {0: "data", 1: "saved game", 2: "transcript", 3: "commands"}
 SAVED_GAME = 1
 WRITE, READ = 1, 2
 GREATEST = 0xFFFFFFFF       # the greatest number of a command
+SHOWS = 8                   # the most shows of a reply to a spectator
 SLOW = 3                    # seconds, after which a player is told that the host hasn't answered
 # In the main window's text: what was printed in that turn before it was cleared isn't shown.
 CLEARED = "\f"
@@ -116,6 +118,11 @@ def bad_words(said, story):
     return f"{story}: {why} ({said})"
 
 
+def word_of(key):
+    """The word by which spectators of a session with this key look at it; it gives no right to play."""
+    return hashlib.sha256(key.encode()).hexdigest()[:16]
+
+
 def code_of(reply):
     return reply.partition(" ")[2].partition(" ")[0]
 
@@ -136,6 +143,17 @@ def close(pipe):
         pipe.close()
     except BrokenPipeError:
         pass
+
+
+def is_whole(reply):
+    """Whether the bytes of a reply come to its end: a refusal has one line, each show ends with a line of its own."""
+    head, _, _ = reply.partition(b"\n")
+    shows = 1
+    if head.startswith(b"SEEN ") and len(reply) > len(head):
+        shows = int(head.split()[3]) - int(head.split()[2]) + 1
+    if head.startswith(b"NO "):
+        return len(reply) > len(head)
+    return reply.endswith(b"\n.\n") and reply.count(b"\n.\n") == shows
 
 
 def reply_of(file):
@@ -326,13 +344,47 @@ class Host(Game):
             self.process.returncode = os.waitstatus_to_exitcode(self.status)
 
 
-class Session(Game):
+class Linked(Game):
+    """A game over a link to its host."""
+
+    def __init__(self, link, number, say, shows=None):
+        super().__init__(shows)
+        self.link, self.number, self.say = link, number, say
+        self.count = None       # of the commands that were accepted, where the game was seen
+
+    def exchange(self, line):
+        """The lines of the reply to a request. Where the host is gone it is started again, or waited for a
+        minute, and the request is sent again: a host that has kept it shows it, and applies it once."""
+        for again in range(121):
+            try:
+                self.told([line], "< ")
+                lines = self.link.exchange(line, self.say)
+                break
+            except (Stopped, OSError):
+                self.link.end()
+                if self.count is None and again == 9:
+                    raise SystemExit(f"play.py: no host answers at {self.link}. Is it started?") from None
+                if self.count is None:
+                    self.say("[no host answers yet; it is waited for]")
+                else:
+                    self.say("[the host has stopped; it is waited for, a minute]")
+                    self.note = "[the host had stopped; it is there again, and the game goes on]"
+                time.sleep(0.5 if again else 0)
+        else:
+            raise SystemExit("play.py: the host is gone; what it has answered is kept")
+        self.told(lines)
+        return lines
+
+    def finish(self):
+        self.link.end()
+
+
+class Session(Linked):
     """A session of a host, which keeps what was played."""
 
     def __init__(self, link, number, key, say, shows=None):
-        super().__init__(shows)
-        self.link, self.number, self.key, self.say = link, number, key, say
-        self.count = None       # of the commands that were accepted, where the game was seen
+        super().__init__(link, number, say, shows)
+        self.key = key
 
     def play_on(self, story, seed, size):
         """Shows what the story said last; where the session is free, opens it. Says whether it did so. (A host that
@@ -392,27 +444,8 @@ class Session(Game):
             raise Refused(refusal)
 
     def ask(self, line):
-        """The refusal of a request, or None where its show was taken. Where the host is gone it is
-        started again, or waited for a minute, and the request is sent again: a host that has kept
-        it shows it, and applies it once."""
-        for again in range(121):
-            try:
-                self.told([line], "< ")
-                lines = self.link.exchange(line, self.say)
-                break
-            except (Stopped, OSError):
-                self.link.end()
-                if self.count is None and again == 9:
-                    raise SystemExit(f"play.py: no host answers at {self.link}. Is it started?") from None
-                if self.count is None:
-                    self.say("[no host answers yet; it is waited for]")
-                else:
-                    self.say("[the host has stopped; it is waited for, a minute]")
-                    self.note = "[the host had stopped; it is there again, and the game goes on]"
-                time.sleep(0.5 if again else 0)
-        else:
-            raise SystemExit("play.py: the host is gone; what it has answered is kept")
-        self.told(lines)
+        """The refusal of a request, or None where its show was taken."""
+        lines = self.exchange(line)
         if lines[0].startswith("NO "):
             return lines[0]
         if not lines[0].startswith("SHOW "):
@@ -423,8 +456,54 @@ class Session(Game):
             self.show(lines[1:])
         return None
 
-    def finish(self):
-        self.link.end()
+
+class Watched(Linked):
+    """A session of a host as its spectators see it: from its last moves on, a show after the other."""
+
+    def __init__(self, link, number, word, say, shows=None):
+        super().__init__(link, number, say, shows)
+        self.word = word
+
+    def at(self, number):
+        """The reply to a request for the shows from this number on."""
+        return self.exchange(f"WATCH {self.number} {self.word} {number}")
+
+    def more(self):
+        """Takes the shows that weren't seen, at most eight; says whether there were any. Of a game that wasn't seen
+        it begins with the last eight."""
+        if self.count is None:
+            self.begin(self.at(GREATEST))
+        lines = self.at(self.count + 1)
+        if lines[0].startswith("NO 5 "):
+            if int(lines[0].split()[2]) < self.count:
+                self.windows, self.main, self.note = {}, None, "[another game was begun]"
+                self.begin(lines)
+                return self.more()
+            return False
+        self.must(lines)
+        shows, body = [], []
+        for line in lines[1:]:
+            body.append(line)
+            if line == ".":
+                shows.append(body[1:])
+                body = []
+        for show in shows:
+            self.show(show)
+        self.count = int(lines[0].split()[3])
+        return True
+
+    def begin(self, lines):
+        """Takes from the refusal of a number that is too great how many commands there are."""
+        if not lines[0].startswith("NO 5 "):
+            self.must(lines)
+        self.count = max(int(lines[0].split()[2]) - SHOWS, -1)
+
+    def must(self, lines):
+        if code_of(lines[0]) == "2":
+            over = "the game was closed" if self.count is not None else "there is no game of that number with that word"
+            raise SystemExit(f"play.py: session {self.number}: {over} (NO 2)")
+        if not lines[0].startswith("SEEN "):
+            raise Refused(lines[0])
 
 
 class Pipe:
@@ -498,7 +577,7 @@ class Address:
             link.settimeout(SLOW)
             link.sendall(line.encode() + b"\n")
             got = b""
-            while not got.endswith(b"\n.\n") and not (got.startswith(b"NO ") and got.endswith(b"\n")):
+            while not is_whole(got):
                 try:
                     piece = link.recv(65536)
                 except TimeoutError:

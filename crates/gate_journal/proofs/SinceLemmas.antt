@@ -224,6 +224,11 @@ module _
           ap (λ (es : List Entry). take log.opening.found es) pushed
           ∙ take-append-le log.opening.found log.entries (e ∷ []) since.many
 
+      here :
+          IsTrue (tells log.disk) → LeavesOnly moment left_since log.disk disk
+          (Meanwhile rows log.uncertain (next_row rows session command))
+      here = rw is leaves
+
       -- the images of the append, and those behind it
       asks : (c : List ℕ) → Meanwhile rows log.uncertain (next_row rows session command) c
           → StandsBehind log.entries (Some (row_in e)) c
@@ -278,11 +283,6 @@ module _
 
       same_found : found_in log.entries ≡ found_in entries
       same_found = sym (ap rows_of taken)
-
-      here :
-          IsTrue (tells log.disk) → LeavesOnly moment left_since log.disk disk
-          (Meanwhile rows log.uncertain (next_row rows session command))
-      here = rw is leaves
 
       images :
           (start : List Row) → IsJournal start

@@ -37,8 +37,8 @@ use Rattle.host_serve.specs.declared.host.Passes.{Passes}
 use Rattle.host_serve.specs.Ending.{AreAgreedDisks, EndsAt, EndsWith, GivesBack, IsAgreedDisk}
 use Rattle.host_serve.specs.Ending.{KeepFiles, KeepsFileOf}
 use Rattle.host_serve.specs.Gathering.{BringsIn, Gathers, Heard, KeepsRoot, Returns}
-use Rattle.host_serve.specs.Holders.{Holder, IsAloneHolder, holder_at, holder_of, holders, seen_at}
-use Rattle.host_serve.specs.Holders.{seens}
+use Rattle.host_serve.specs.Holders.{Holder, IsWholeHolder, IsAloneHolder, holder_at, holder_of, holders}
+use Rattle.host_serve.specs.Holders.{seen_at, seens}
 use Rattle.host_serve.specs.Hosts.{AreOf, IsHost, IsSound, cell_id, rows_at_opening, opened_stores}
 use Rattle.host_serve.specs.Hosts.{tag_at}
 use Rattle.host_serve.proofs.ListLemmas.{goes_on, length_more, one_more, same_some}
@@ -172,19 +172,21 @@ module _ {D : Type 0} (tells : D → Bool) (may_leave : D → List ℕ → Type 
   pub brings_in : (s : ℕ) (h : Holder) (old : List Entry) (tag : Option (DeskTag D))
       (desk : SharedState D) (other root : Pass (Log D) JournalEntry) (back : D)
       → Continues (IsForeign entry_by h.holds) desk.history old
-      → (IsAloneHolder h → desk.history ≡ old) → tag ≡ Some (desk_tag desk)
+      → (IsAloneHolder h → desk.history ≡ old) → (IsWholeHolder h → desk.history ≡ old)
+      → tag ≡ Some (desk_tag desk)
       → desk.desk.session ≡ s → IsShared desk
       → EndsStore tells may_leave reads moment left_since room label faults reach desk
       → back ≡ desk.saves.store.disk → other ≡ desk.pass
       → Continues (IsForeign entry_number (pass_numbers other)) (seen root) (seen other)
       → BringsIn tells may_leave reads moment left_since faults reach room label s h old tag root back
-  brings_in s h old tag desk other root back since alone tagged same shared e is_back is joined =
+  brings_in s h old tag desk other root back since alone complete tagged same shared e is_back is
+      joined =
       let after = subst (λ (l : List ℕ). Continues (IsForeign entry_number l) (seen root)
       (seen other)) (ap (λ (p : Pass (Log D) JournalEntry). pass_numbers p) is ∙ (shared.pass.only
       ∙ ap (λ (k : ℕ). (k + 1) ∷ []) same)) joined in
       record {
         final = desk.history;
-        ends = record { since = since; alone = alone };
+        ends = record { since = since; alone = alone; complete = complete };
         heard = record {
           seen = seen other;
           since = after;

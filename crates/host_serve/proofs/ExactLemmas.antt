@@ -13,8 +13,9 @@ use Rattle.session_core.specs.declared.entry.Entry.TheVariants.{Faulted}
 use Rattle.session_core.specs.declared.entry.Outcome.{Outcome}
 use Rattle.session_core.specs.declared.entry.Outcome.TheVariants.{Answered, DiskFailed, OutOfMemory}
 use Rattle.session_core.specs.declared.entry.Outcome.TheVariants.{Forgotten}
-use Rattle.session_core.specs.Turning.{MayMeet, turn_in, turn_met}
+use Rattle.session_core.specs.Turning.{MayMeet, turn_met}
 use Rattle.host_serve.specs.Holders.{Holder, holder_at, seen_at}
+use Rattle.host_serve.specs.Said.{turn_said_in}
 use Rattle.host_serve.specs.Serves.{AnsweredLine, AddsItsEntry, AddsNothing, IsExact}
 use Rattle.host_serve.specs.Serves.{MayMeetIn, decided_on_line, marked, turned}
 use Rattle.host_serve.proofs.ListLemmas.{length_more}
@@ -46,7 +47,7 @@ module _ (stories : List Story) (budget : ℕ) (holders : List Holder) (new : Li
       → Replies (decided_on_line stories budget (marked new t) t).reply (marked new t)
       (holder_at holders t.mark.session).number (turned stories budget holders new t).reply
       (turned stories budget holders new t).history
-  unfolding turn_in
+  unfolding turn_said_in
   turned_replies met = met_replies (marked new t) (holder_at holders t.mark.session).number
       (decided_on_line stories budget (marked new t) t).reply
       (decided_on_line stories budget (marked new t) t).accepted t.outcome met

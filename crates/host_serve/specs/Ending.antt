@@ -18,13 +18,16 @@ use Rattle.session_desk.specs.Shared.{unnumbered}
 use Rattle.session_desk.specs.Turn.{history_in}
 use Rattle.host_serve.specs.declared.host.Host.{Host}
 use Rattle.host_serve.specs.declared.host.Passes.{Passes}
-use Rattle.host_serve.specs.Holders.{Holder, IsAloneHolder, holder_at, holders, seen_at, seens}
+use Rattle.host_serve.specs.Holders.{Holder, IsWholeHolder, IsAloneHolder, holder_at, holders, seen_at}
+use Rattle.host_serve.specs.Holders.{seens}
 
 -- the history of a session as its host ends, where this holder's pass had seen so much: others'
--- entries came since, and none where the pass is alone
+-- entries came since, and none where the pass is alone or all that were split from it were joined
+-- into it again
 pub record EndsAt (h : Holder) (old final : List Entry) : Type 0 where
   pub since : Continues (IsForeign entry_by h.holds) final old
   pub alone : IsAloneHolder h → final ≡ old
+  pub complete : IsWholeHolder h → final ≡ old
 
 -- The histories of all sessions as a host ends, and its journal then: of each session it has the
 -- accepted commands and the faults, and no others, in their order.

@@ -1,7 +1,7 @@
 -- What `pipe` leaves of its disk, its input and its output, from what its host says as it is
 -- opened, serves and ends.
 use Rattle.std.proofs.Common.{◌≡◌, ◌⊎◌, ℕ, ◌+◌, ◌<◌, ◌≤◌, max, List, [], ◌∷◌, ◌++◌, length, map}
-use Rattle.std.proofs.Common.{take, sym, ap, ◌∙◌, subst, Bool, IsTrue, arith, refl}
+use Rattle.std.proofs.Common.{take, drop, IfSome, sym, ap, ◌∙◌, subst, Bool, IsTrue, arith, refl}
 use Rattle.std.proofs.lemmas.List.{length-map}
 use Rattle.std.proofs.Math.Seq.{take-append_seam}
 use Rattle.std.proofs.lemmas.Option.{same_Some}
@@ -9,7 +9,7 @@ use Rattle.std.specs.Prelude.{Some, slice_get}
 use Rattle.disk_model.specs.Disk.{EachImage, LeavesOnly, SameDisk}
 use Rattle.disk_model.proofs.Moments.{and_then, weaker}
 use Rattle.gate_journal.specs.Log.{IsBetween, IsSinceOpened, Log, MayOpen, MaySpell, Opening, Rises}
-use Rattle.gate_journal.specs.Log.{rows_kept, rows_found, rows_of}
+use Rattle.gate_journal.specs.Log.{EndsInFaultOf, InTurn, rows_kept, rows_found, rows_of}
 use Rattle.gate_journal.proofs.LogLemmas.{rows_of-all}
 use Rattle.gate_journal.proofs.SinceLemmas.{rows_of-append}
 use Rattle.gate_journal.specs.Rows.{SpellsRows, IsJournal, journal_bytes}
@@ -35,7 +35,8 @@ use Rattle.story_run.specs.declared.story.Story.{Story}
 use Rattle.host_top.specs.Between.{ServesBetween}
 use Rattle.disk_model.specs.declared.disk.Disk.{Ghosts as DiskWords}
 use Rattle.host_top.specs.Folder.{AreSame}
-use Rattle.host_top.specs.Piped.{Conversed, IsStoreBack, StaysSound, StoresBack}
+use Rattle.host_top.specs.JournalBack.{JournalBack}
+use Rattle.host_top.specs.Piped.{Conversed, IsStoreBack, StoresBack, StaysSound}
 use Rattle.session_saves.specs.Agreement.{AgreesWithBeginning}
 use Rattle.session_saves.specs.Saves.{HasOpenSince}
 use Rattle.host_serve.proofs.StoreLemmas.{slot_since, zip_at}
@@ -142,6 +143,40 @@ module _ {D : Type 0} (disks : DiskWords D) (given back : D) (givens backs : Lis
       ap (λ (n : ℕ). rows_of (take n end.0.entries)) many
       ∙ ap (λ (es : List JournalEntry). rows_of (take (length (rows_kept rows)) es)) all_rows
       ∙ ap rows_of (take-append_seam (rows_kept rows) end.2.grows.0) ∙ rows_of-all rows
+
+  many : end.0.opening.found ≡ length rows
+  many = ap (λ (o : Opening D). o.found) opening
+
+  found_entries : take (length rows) end.0.entries ≡ rows_kept rows
+  found_entries =
+      let as_many : length rows ≡ length (rows_kept rows) = sym (length-map rows _) in
+      ap (λ (n : ℕ). take n end.0.entries) as_many
+      ∙ ap (λ (es : List JournalEntry). take (length (rows_kept rows)) es) all_rows
+      ∙ take-append_seam (rows_kept rows) end.2.grows.0
+
+  pub journal_back : JournalBack disks rows end.0.entries end.0.uncertain back
+  journal_back = record {
+    stands = end.3;
+    numbers = since.numbers;
+    opens = end.5;
+    owner =
+        subst (λ (n : ℕ).
+        IfSome end.0.uncertain (λ (r : Row). EndsInFaultOf r (drop n end.0.entries))) many
+        since.unsure;
+    start = end.0.start;
+    steps = end.0.steps;
+    in_turn =
+        subst (λ (d : D).
+        IsTrue (disks.tells d)
+        → InTurn disks.moment disks.left_since (rows_kept rows) end.0.start
+        (drop (length rows) end.0.entries) end.0.steps d) (sym end.1)
+        (λ told. subst (λ (es : List JournalEntry).
+        InTurn disks.moment disks.left_since es end.0.start (drop (length rows) end.0.entries)
+        end.0.steps end.0.disk) found_entries
+        (subst (λ (n : ℕ).
+        InTurn disks.moment disks.left_since (take n end.0.entries) end.0.start
+        (drop n end.0.entries) end.0.steps end.0.disk) many (since.in_turn told)));
+  }
 
   pub same_back : SameDisk disks.tells disks.room disks.label given back
   same_back =
@@ -326,8 +361,11 @@ module _ {D : Type 0} (disks : DiskWords D) (given back : D) (givens backs : Lis
       faults = counts;
       accepted =
           λ s below. sym (commands_in-history end.0.entries s) ∙ ap commands_in (entries s below);
+      more = rows_of end.2.grows.0;
+      grows = grows;
       uncertain = end.0.uncertain;
       images = end.4;
+      left = journal_back;
       meanwhile = meanwhile;
       reaches = reaches;
       stores = stores;

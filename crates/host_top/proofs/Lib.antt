@@ -3,6 +3,7 @@ pub mod SpeechLemmas
 pub mod StoriesLemmas
 pub mod ServedLemmas
 pub mod WrittenLemmas
+pub mod ReplayLemmas
 pub mod ToldLemmas
 pub mod CauseLemmas
 pub mod StopLemmas
@@ -17,5 +18,9 @@ pub mod FolderLemmas
 pub mod UsedLemmas
 pub mod MeetLemmas
 pub mod ConversedLemmas
+pub mod CrewLemmas
+pub mod AddedLemmas
+pub mod RejoinLemmas
+pub mod IdleLemmas
 pub mod DoorLemmas
 pub mod LinksLemmas

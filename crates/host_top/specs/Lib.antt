@@ -2,6 +2,7 @@ pub mod Headline
 pub mod Speech
 pub mod RunText
 pub mod Between
+pub mod JournalBack
 pub mod Piped
 pub mod Served
 pub mod Begun
@@ -19,5 +20,7 @@ pub mod Plain
 pub mod Files
 pub mod MemoryOutside
 pub mod MemoryState
+pub mod Rejoining
 pub mod DoorServed
 pub mod LinksServed
+pub mod Replayed

@@ -17,6 +17,7 @@ use crate::once::say_once;
 use crate::outside::{Fetch, Outside};
 use crate::pipe::pipe;
 use crate::refuse::refuse;
+use crate::replay::replay;
 use crate::run::run;
 use crate::serve::serve;
 use crate::status::Status;
@@ -75,6 +76,7 @@ fn act<R: Threads + Wait + Sync, O: Outside, S: Source, K: Sink>(
                 rt, alloc, &stories, budget, folder, serving, outside, output,
             )
         }
+        Action::Replay => replay(rt, alloc, &stories, command.folder, outside, output),
         Action::Drill(number) => drill(rt, alloc, number, output),
         Action::Help(topic) => say_once(help_text(topic).as_bytes(), output),
         Action::Version => say_once(VERSION_TEXT.as_bytes(), output),

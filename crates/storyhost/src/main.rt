@@ -6,7 +6,7 @@ mod edge;
 
 use edge::{Reading, SystemFiles, Trouble, Waiting, Writing};
 use host_top::{Status, top};
-use std::io::ErrorKind;
+use std::io::{ErrorKind, IsTerminal};
 use std::process::ExitCode;
 use std::{env, io};
 
@@ -34,7 +34,7 @@ fn main(rt: HostRuntime) -> ExitCode {
     let Ok(words) = arguments.skip(1).collect::<Vec<String>>(alloc) else {
         return exit_with(&rt, Status::NoMemory.code(), None);
     };
-    let mut outside = SystemFiles::new(alloc, &rt);
+    let mut outside = SystemFiles::new(alloc, &rt, rt.stderr().is_terminal());
     let mut input = Reading::new(Waiting::new(rt.reader(), &rt));
     let mut output = Writing::new(Waiting::new(io::writer(&rt), &rt));
     let code = top(&rt, alloc, &words, &mut outside, &mut input, &mut output);

@@ -6,7 +6,7 @@ ghost use Rattle.std.specs.BTreeMap.{get_by_text};
 ghost use Rattle.host_top.specs.Files.{Told, AreBelow};
 
 use super::disk::FileDisk;
-use super::held::find;
+use super::held::{find, look};
 use super::patience::Patience;
 use super::tcp::{AcceptFault, TcpDoor};
 use super::trouble::Trouble;
@@ -37,13 +37,18 @@ pub struct SystemFiles<'r, R> {
     door_faults: u64,
     shut: u64,
     door_calls: DoorCalls,
+    /// Disks that are lent are only looked at.
+    looks: bool,
+    /// Standard error is told how far the work is.
+    tells: bool,
     /// What went wrong first.
     trouble: Option<Trouble>,
     ghost below: { AreBelow (get_by_text loans) calls },
 }
 
 impl<'r, R> SystemFiles<'r, R> {
-    pub fn new(alloc: Global, rt: &'r R) -> SystemFiles<'r, R> {
+    /// Standard error is told how far the work is where that is asked for.
+    pub fn new(alloc: Global, rt: &'r R, tells: bool) -> SystemFiles<'r, R> {
         SystemFiles {
             rt,
             loans: BTreeMap::new(alloc),
@@ -53,6 +58,8 @@ impl<'r, R> SystemFiles<'r, R> {
             door_faults: 0,
             shut: 0,
             door_calls: DoorCalls::none(),
+            looks: false,
+            tells,
             trouble: None,
         }
     }
@@ -159,7 +166,12 @@ where
             self.disk_faults = self.disk_faults.saturating_add(1);
             return Err(Fetch::Failed);
         }
-        let file = match find(self.rt, name) {
+        let found = if self.looks {
+            look(self.rt, name)
+        } else {
+            find(self.rt, name)
+        };
+        let file = match found {
             Ok(file) => file,
             Err(error) => {
                 if error.kind() == ErrorKind::OutOfMemory {
@@ -217,6 +229,20 @@ where
                 self.door_faults = self.door_faults.saturating_add(1);
                 Err(Failed)
             }
+        }
+    }
+
+    fn only_look(&mut self) {
+        self.looks = true;
+    }
+
+    fn progress(&mut self, left: usize, all: usize) {
+        if self.tells {
+            let written = all.saturating_sub(left);
+            // Where standard error fails, too, nobody is left to be told.
+            let _ = self
+                .rt
+                .eprintln(format_args!("storyhost: {written} of {all} games"));
         }
     }
 

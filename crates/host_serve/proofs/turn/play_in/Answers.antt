@@ -3,7 +3,7 @@ use Rattle.session_desk.specs.Shared.{DeskTag}
 use Rattle.session_desk.specs.Sound.{IsSoundDesk}
 use Rattle.host_serve.proofs.ListLemmas.{same_some}
 use Rattle.host_serve.proofs.TurnLemmas.{turns_in}
-use Rattle.host_serve.proofs.turn.turn_in.Goals as goal
+use Rattle.host_serve.proofs.turn.play_in.Goals as goal
 
 pub returns-clause-value : goal.returns-clause-value
 returns-clause-value g c =
@@ -13,7 +13,7 @@ returns-clause-value g c =
       turn.now,
       turns_in _ _ _ _ _ _ _ c.enter-desk.result.desk c.enter-desk.result.history
           c.number-by.result c.args.request.now c.number-by.ensures c.enter-desk.ensures.value
-          c.enter-desk.ensures.alone c.requires.read
+          c.enter-desk.ensures.alone c.requires.read c.requires.plays
           (ap (λ (t : DeskTag g.row.D.Denot). t.stories) tag) c.answer-reply.ensures.commands
           c.count-length.ensures
           (λ sound. turn.own

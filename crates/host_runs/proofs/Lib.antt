@@ -1,0 +1,2 @@
+pub mod LeavesLemmas
+pub mod CertainLemmas

@@ -1,0 +1,27 @@
+//! A run of `pipe` or `serve` (own).
+
+ghost use Rattle.host_runs.specs.Certain.{PipeIsCertain};
+ghost use Rattle.host_runs.specs.Leaves.{LinksLeave, PipeLeaves, RefusalLeaves};
+
+use disk_model::Disk;
+
+/// What `pipe` does over the disks of a folder is a run on its files: the shows in its replies are
+/// the run's, and each image of its disks is what a stop may leave.
+pub fn pipe_leaves<D: Disk>()
+    ensures { PipeLeaves D.Disk }
+{}
+
+/// So is what `serve` does, without its shows.
+pub fn links_leave<D: Disk>()
+    ensures { LinksLeave D.Disk }
+{}
+
+/// A run that doesn't open the journal is one that leaves the folder so that an opening may meet it.
+pub fn refusal_leaves<D: Disk>()
+    ensures { RefusalLeaves D.Disk }
+{}
+
+/// Where no reply of `pipe` is `NO 11`, a stop leaves the rows with the accepted commands alone.
+pub fn pipe_is_certain<D: Disk>()
+    ensures { PipeIsCertain D.Disk }
+{}

@@ -1,0 +1,163 @@
+-- A journal's disk that is lent to be looked at, and what is written of it.
+use Rattle.std.proofs.Common.{◌≡◌, ◌⊎◌, inl, inr, List, [], ◌∷◌, refl, sym, ◌∙◌, subst, Option}
+use Rattle.std.proofs.Common.{None, Some, IsTrue}
+use Rattle.disk_model.specs.Disk.{SameDisk}
+use Rattle.disk_model.specs.declared.disk.Disk.{Ghosts as DiskWords}
+use Rattle.gate_journal.specs.Faults.{Explains, HasCause, UnlessFault}
+use Rattle.gate_journal.specs.declared.fault.JournalFault.{JournalFault}
+use Rattle.gate_journal.specs.declared.fault.JournalFault.TheVariants as fault
+use Rattle.line_talk.specs.Streams.{SourceState, SinkState}
+use Rattle.line_talk.specs.declared.sink.Stop.{Stop}
+use Rattle.line_talk.specs.declared.sink.Stop.TheVariants as stop
+use Rattle.line_talk.proofs.StreamsLemmas.{gave_none}
+use Rattle.story_run.specs.declared.story.Story.{Story}
+use Rattle.host_top.specs.Borrowed.{Lending, journal_in, loan_by}
+use Rattle.host_top.specs.Files.{IsLent, IsLentFrom, Lends, OutsideState, TakesDiskBack, Told}
+use Rattle.host_top.specs.Replayed.{BeginsTranscript, IsTranscript, ReplaysFolder, ReplaysOn}
+use Rattle.host_top.specs.Replayed.{ReplaysOver, WritesReplayed}
+use Rattle.host_top.specs.Said.{SaysFault, SaysLine, bad_journal, bad_journal_at}
+use Rattle.host_top.specs.Served.{RefusesJournal}
+use Rattle.host_top.specs.Status.{status_of_stop}
+use Rattle.host_top.specs.declared.loan.Loan.{Loan}
+use Rattle.host_top.specs.declared.status.Status.{Status}
+use Rattle.host_top.specs.declared.status.Status.TheVariants.{Done, BadFolder, DiskFault}
+use Rattle.line_talk.specs.Writing.{IsPartOf}
+use Rattle.host_top.proofs.BorrowLemmas.{lent_loan}
+use Rattle.host_top.proofs.LendingLemmas.{returned_one}
+use Rattle.host_top.proofs.LoansLemmas.{counts_one, counts_out}
+use Rattle.host_top.proofs.ServedLemmas.{where_told, WroteSome}
+use Rattle.host_top.proofs.WrittenLemmas.{never_begun}
+
+module _ {D : Type 0} (disks : DiskWords D) where
+  -- ---- the disk is lent, and put back
+
+  pub journal_is_lent : (folder first second : List ℕ) (given back : D) (a b : OutsideState D)
+      → first ≡ journal_in folder → second ≡ journal_in folder
+      → Lends disks.label disks.faults first given a b
+      → SameDisk disks.tells disks.room disks.label given back
+      → IsLent (b.loan second) (disks.label back)
+  journal_is_lent folder first second given back a b is again lends same =
+      let name : List ℕ = journal_in folder in
+      let l : Lending D = record { name = name; given = given; back = None } in
+      let loan : b.loan name ≡ Some (loan_by disks l) =
+      lent_loan disks name given a b
+      (subst (λ (n : List ℕ). Lends disks.label disks.faults n given a b) is lends) in
+      subst (λ (n : List ℕ). IsLent (b.loan n) (disks.label back)) (sym again)
+      (subst (λ (x : Option Loan). IsLent x (disks.label back)) (sym loan) (sym same.name, refl))
+
+  pub folder_replayed : (stories : List Story) (folder first second : List ℕ) (given back : D)
+      (a b c : OutsideState D) (input : SourceState) (output new : SinkState) (status : Status)
+      → first ≡ journal_in folder → second ≡ journal_in folder
+      → Lends disks.label disks.faults first given a b
+      → (IsTrue (disks.tells given) → IsLentFrom disks.seen disks.may_leave (a.disk first) given)
+      → ReplaysOver disks stories given back output new status
+      → TakesDiskBack disks.faults second back b c
+      → ReplaysFolder disks stories folder a c input input output new status
+  folder_replayed stories folder first second given back a b c input output new status is again
+      lends lent over takes =
+      let name : List ℕ = journal_in folder in
+      let lends' = subst (λ (n : List ℕ). Lends disks.label disks.faults n given a b) is lends in
+      let lent' =
+      subst (λ (n : List ℕ). IsTrue (disks.tells given)
+      → IsLentFrom disks.seen disks.may_leave (a.disk n) given) is lent in
+      let takes' = subst (λ (n : List ℕ). TakesDiskBack disks.faults n back b c) again takes in
+      let l : Lending D = record { name = name; given = given; back = None } in
+      record {
+        given = given;
+        back = back;
+        borrowed = returned_one disks name given back a b c lends' lent' over.looks.looks.same takes';
+        counts = counts_one disks a b c [] l [] back
+            (counts_out disks a b (l ∷ []) (refl, tt) lends'.count)
+            refl (lent_loan disks name given a b lends') takes';
+        replays = over;
+        gave = gave_none input;
+      }
+
+  -- ---- what is written, for a caller who is told the output and the disks
+
+  module _ (stories : List Story) (journal : Told D) where
+    cut_transcript : (text part : List ℕ) (cause : Stop) → IsTranscript disks stories journal text
+        → IsPartOf part text → WritesReplayed (status_of_stop cause) disks stories journal part
+    cut_transcript text part stop.Output is begins = inl (text, is, begins)
+    cut_transcript text part stop.Memory is begins = inr (inl (text, is, begins))
+
+    transcript_told : (text : List ℕ) (output new : SinkState) (status : Status)
+        → IsTranscript disks stories journal text → SaysLine Done text output new status
+        → WroteSome output new (WritesReplayed status disks stories journal)
+    transcript_told text output new status is (inl said) = (
+      text,
+      said.1,
+      subst (λ (s : Status). WritesReplayed s disks stories journal text) (sym said.0) is,
+    )
+    transcript_told text output new status is (inr (cause, ends, stopped)) = (
+      stopped.wrote.part,
+      stopped.wrote.wrote,
+      subst (λ (s : Status). WritesReplayed s disks stories journal stopped.wrote.part) (sym ends)
+          (cut_transcript text stopped.wrote.part cause is (stopped.rest, stopped.wrote.split)),
+    )
+
+    cut_refusal : (line part : List ℕ) (cause : Stop) → RefusesJournal disks journal line
+        → IsPartOf part line → WritesReplayed (status_of_stop cause) disks stories journal part
+    cut_refusal line part stop.Output refuses begins = inr (line, refuses, begins)
+    cut_refusal line part stop.Memory refuses begins = inr (inr (line, refuses, begins))
+
+    refusal_told : (line : List ℕ) (output new : SinkState) (status : Status)
+        → RefusesJournal disks journal line → SaysLine BadFolder line output new status
+        → WroteSome output new (WritesReplayed status disks stories journal)
+    refusal_told line output new status refuses (inl said) = (
+      line,
+      said.1,
+      subst (λ (s : Status). WritesReplayed s disks stories journal line) (sym said.0) refuses,
+    )
+    refusal_told line output new status refuses (inr (cause, ends, stopped)) = (
+      stopped.wrote.part,
+      stopped.wrote.wrote,
+      subst (λ (s : Status). WritesReplayed s disks stories journal stopped.wrote.part) (sym ends)
+          (cut_refusal line stopped.wrote.part cause refuses (stopped.rest, stopped.wrote.split)),
+    )
+
+    fault_told : (given : D) (output new : SinkState) (status : Status) (why : JournalFault)
+        → (IsTrue (disks.tells given) → IsLentFrom disks.seen disks.may_leave journal given)
+        → (IsTrue (disks.tells given) → Explains (disks.seen given) why)
+        → SaysFault why output new status
+        → WroteSome output new (WritesReplayed status disks stories journal)
+    fault_told given output new status fault.NotJournal lent explains says =
+        refusal_told bad_journal output new status
+        (inl (refl, where_told disks journal given _ lent explains)) says
+    fault_told given output new status (fault.Corrupt place) lent explains says =
+        refusal_told (bad_journal_at place) output new status
+        (inr (place, refl, where_told disks journal given _ lent explains)) says
+    fault_told given output new status (fault.DiskFault counts) lent explains says = (
+      [],
+      says.1,
+      subst (λ (s : Status). WritesReplayed s disks stories journal []) (sym says.0) refl,
+    )
+    fault_told given output new status fault.NoMemory lent explains says = (
+      [],
+      says.1,
+      subst (λ (s : Status). WritesReplayed s disks stories journal []) (sym says.0) (inl refl),
+    )
+
+  pub replay_told : (stories : List Story) (folder : List ℕ) (outside beyond : OutsideState D)
+      (input now : SourceState) (output new : SinkState) (status : Status)
+      → ReplaysOn disks stories folder outside beyond input now output new status
+      → WroteSome output new
+      (WritesReplayed status disks stories (outside.disk (journal_in folder)))
+  replay_told stories folder outside beyond input now output new status (inl none) = (
+    [],
+    none.wrote,
+    never_begun
+        (λ (s : Status). WritesReplayed s disks stories (outside.disk (journal_in folder)) [])
+        DiskFault status _ refl (inl refl) none.cause,
+  )
+  replay_told stories folder outside beyond input now output new status (inr r) =
+      let journal = outside.disk (journal_in folder) in
+      let lent = r.borrowed.each.0.lent in
+      elim r.replays.does [
+        | inl t ↦ transcript_told stories journal _ output new status (record {
+          rows = t.rows;
+          spelled = where_told disks journal r.given _ lent t.spelled;
+          text_is = refl;
+        }) t.says
+        | inr n ↦ fault_told stories journal r.given output new status n.fault lent n.explains n.says
+      ]

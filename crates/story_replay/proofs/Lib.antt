@@ -1,0 +1,3 @@
+pub mod GameLemmas
+pub mod TextLemmas
+pub mod LawLemmas

@@ -1,0 +1,78 @@
+-- The text of a game, one show after the other.
+use Rattle.std.proofs.Common.{◌≡◌, ℕ, zero, suc, ◌+◌, ◌<◌, List, [], ◌∷◌, ◌++◌, length, get_or}
+use Rattle.std.proofs.Common.{take, map, refl, sym, ap, ◌∙◌, append_assoc, arith, Option, Some}
+use Rattle.std.proofs.Common.{Result, Ok, IfOk, codes}
+use Rattle.std.proofs.lemmas.List.{take_more}
+use Rattle.std.specs.List.{AllZip}
+use Rattle.gate_journal.specs.Scan.{unnumbered}
+use Rattle.gate_journal.specs.declared.command.Command.{Command}
+use Rattle.gate_journal.specs.declared.row.Row.{Row}
+use Rattle.session_core.specs.Answer.{turned_in}
+use Rattle.session_core.specs.History.{input_of, world_of}
+use Rattle.session_core.proofs.RepeatLemmas.{joined}
+use Rattle.session_core.proofs.WorldLemmas.{world_of-joined}
+use Rattle.story_run.specs.declared.story.Story.{Story}
+use Rattle.story_replay.specs.Text.{game_text, shows_below, shown, transcript}
+use Rattle.story_replay.specs.declared.game.Game.{Game}
+use Rattle.line_words.specs.Reply.{print_reply}
+use Rattle.story_replay.proofs.GameLemmas.{games_unnumbered}
+use Rattle.std.specs.List.{flat_map}
+
+-- ---- the world with a command more
+
+joined_whole : (game : List Command) (n : ℕ) (x : Command) → 0 < n → n < length game
+    → joined (take n game) x ≡ take n game ++ x ∷ []
+joined_whole [] n x some within = absurd (omega (arith, within))
+joined_whole (c ∷ cs) zero x some within = absurd (omega (arith, some))
+joined_whole (c ∷ cs) (suc n) x some within = refl
+
+pub world_more : (stories : List Story) (game : List Command) (n : ℕ) (c : Command) → 0 < n
+    → n < length game → c ≡ get_or game n c
+    → turned_in (world_of stories (take n game)) (input_of c)
+    ≡ world_of stories (take (n + 1) game)
+world_more stories game n c some within is =
+    world_of-joined stories (take n game) c
+    ∙ ap (world_of stories) (joined_whole game n c some within
+    ∙ ap (λ (x : Command). take n game ++ x ∷ []) is ∙ sym (take_more game n c within))
+
+-- ---- the shows
+
+pub show_written : (text line a b body : List ℕ)
+    → line ≡ codes "SHOW " ++ (a ++ (codes " " ++ (b ++ codes "\n")))
+    → ((text ++ line) ++ body) ++ codes ".\n"
+    ≡ text ++ (codes "SHOW" ++ ((32 ∷ a) ++ ((32 ∷ b) ++ ((10 ∷ []) ++ (body ++ codes ".\n")))))
+show_written text line a b body is =
+    let rest : List ℕ = body ++ codes ".\n" in
+    append_assoc (text ++ line) body (codes ".\n")
+    ∙ append_assoc text line rest
+    ∙ ap (λ (l : List ℕ). text ++ (l ++ rest)) is
+    ∙ ap (λ (l : List ℕ). text ++ (codes "SHOW " ++ l))
+    (append_assoc a (32 ∷ (b ++ 10 ∷ [])) rest
+    ∙ ap (λ (l : List ℕ). a ++ 32 ∷ l) (append_assoc b (10 ∷ []) rest))
+
+pub shows_more : (stories : List Story) (game : Game) (n : ℕ) (old text : List ℕ)
+    → text ≡ old ++ shows_below stories game n
+    → text ++ print_reply (shown stories game n) ≡ old ++ shows_below stories game (n + 1)
+shows_more stories game n old text is =
+    let next : n + 1 ≡ suc n = omega arith in
+    ap (λ (l : List ℕ). l ++ print_reply (shown stories game n)) is
+    ∙ append_assoc old (shows_below stories game n) (print_reply (shown stories game n))
+    ∙ ap (λ (k : ℕ). old ++ shows_below stories game k) (sym next)
+
+-- ---- texts that were made side by side
+
+pub all_texts : {A B E : Type 0} (f : A → B) (xs : List A) (ys : List B)
+    → AllZip (λ x (y : Result B E). IfOk y (λ t. t ≡ f x)) xs (map Ok ys) → ys ≡ map f xs
+all_texts f [] [] all = refl
+all_texts f [] (y ∷ ys) all = absurd all
+all_texts f (x ∷ xs) [] all = absurd all
+all_texts f (x ∷ xs) (y ∷ ys) all = rw (all.0, all_texts f xs ys all.1) refl
+
+-- ---- the numbers of rows have no part in a transcript
+
+pub transcript_unnumbered : (stories : List Story) (rows : List Row)
+    → transcript stories (map unnumbered rows) ≡ transcript stories rows
+unfolding transcript
+transcript_unnumbered stories rows =
+    ap (λ (games : List Game). flat_map (game_text stories) games ++ codes "done\n")
+    (games_unnumbered rows)
