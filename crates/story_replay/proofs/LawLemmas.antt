@@ -12,7 +12,7 @@ use Rattle.line_words.specs.declared.request.Request.{Request}
 use Rattle.session_core.specs.Answer.{answer, game_show}
 use Rattle.session_core.specs.Checks.{session_of}
 use Rattle.session_core.specs.History.{command_count, game_of, later}
-use Rattle.session_core.proofs.ShownLemmas.{answered}
+use Rattle.story_replay.proofs.ShownLemmas.{answered}
 use Rattle.story_run.specs.declared.story.Story.{Story}
 use Rattle.story_replay.specs.Games.{commands_from, game_from, games_in}
 use Rattle.story_replay.specs.Laws.{HoldsEachShow, StandsIn}

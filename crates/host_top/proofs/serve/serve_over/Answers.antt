@@ -34,8 +34,8 @@ returns-clause-value g c = λ input. rw c.in-Ok.ensures.silent (links_served g.D
     g.O.Door.Conn.Link.lent g.D.Disk _ _ _ _ _ _ _ _ _ _ _ _ c.in-Ok.ensures.ok.2
     c.in-Ok.ensures.sound c.serve_links-status.ensures.served c.serve_links-status.ensures.whole
     c.end-journal.ensures.value)
-    (λ idle. no_row g.D.Disk _ _ c.args.disks.snaps.items _ _ _ _ _ _ _ c.in-Ok.ensures.ok.2 c.end-journal.ensures.value
-    c.serve_links-status.ensures.whole
+    (λ idle. no_row g.D.Disk _ _ c.args.disks.snaps.items _ _ _ _ _ _ _ c.in-Ok.ensures.ok.2
+    c.end-journal.ensures.value c.serve_links-status.ensures.whole
     (none_at_seven _ _ c.serve_links-status.ensures.served idle))
     (stores_back g.D.Disk _ _ _ _ _ _ _ _ _ _ c.in-Ok.ensures.ok.2
     c.end-journal.ensures.value c.in-Ok.ensures.stores c.end-journal.ensures.stores
