@@ -6,12 +6,11 @@ use Rattle.gate_journal.specs.declared.command.Command.{Command}
 use Rattle.line_words.specs.declared.request.Request.{Request}
 use Rattle.line_words.specs.declared.reply.No.{No}
 use Rattle.line_words.specs.declared.reply.No.TheVariants as no
-use Rattle.line_words.specs.declared.reply.Reply.TheVariants as replies
 use Rattle.story_run.specs.declared.story.Story.{Story}
 use Rattle.story_run.specs.World.{WorldState}
 use Rattle.session_core.specs.History.{game_of}
 use Rattle.session_core.specs.Checks.{comes_late, is_full, is_unwanted}
-use Rattle.session_core.specs.Answer.{accepted_by, answer_in, first_refusal, plain_checks}
+use Rattle.session_core.specs.Answer.{accepted_by, first_refusal, plain_checks}
 use Rattle.session_core.specs.Answer.{refusal_in}
 use Rattle.session_desk.specs.Laws.{IsByWorld, WorldIsNeeded}
 use Rattle.session_desk.specs.Verdict.{foretold, is_to_story, needs_world, verdict_by}
@@ -32,18 +31,16 @@ last_three false true full = inr (inr (inl refl))
 last_three false false true = inr (inr (inr refl))
 last_three false false false = inl refl
 
-shown : (s n : ℕ) (body : List ℕ) (accepted : Option Command)
-    → IsByWorld (verdict_by (replies.Show s n body) accepted)
-shown s n body (Some c) = inr (inl refl)
-shown s n body None = inl refl
+taken : (accepted : Option Command) → IsByWorld (verdict_by None accepted)
+taken (Some c) = inr (inl refl)
+taken None = inl refl
 
 told_by : (stories : List Story) (history : List Command) (now : Option WorldState)
     (request : Request)
     → IsLate (refusal_in now stories history (game_of history) request)
     → IsByWorld (foretold stories history now request)
-unfolding answer_in
 told_by stories history now request (inl none) =
-    rw none (shown _ _ _ (accepted_by stories (game_of history) request))
+    rw none (taken (accepted_by stories (game_of history) request))
 told_by stories history now request (inr (inl over)) = rw over (inr (inr (inl refl)))
 told_by stories history now request (inr (inr (inl unwanted))) =
     rw unwanted (inr (inr (inr (inl refl))))

@@ -32,6 +32,7 @@ split_held g c =
 
 pub returns-in-Ok-clause-served : goal.returns-in-Ok-clause-served
 returns-in-Ok-clause-served g c =
+    let joined = (goal.at.returns-in-Ok-clause-served g c).After-join_all in
     crew_rejoins g.O.Door.Door g.O.Door.Conn.Source.source g.O.Door.Conn.Sink.sink
     g.O.Door.Conn.Link.lent _ _ _ c.args.roots.now c.split_among.new.roots c.join_all.new.roots
     c.deref_mut.result.now c.serve_door-status.new.workers _
@@ -39,15 +40,16 @@ returns-in-Ok-clause-served g c =
     (sym c.deref_mut.ensures.value) c.in-Ok.ensures.ok.0)
     (subst (Each (HaveSeen (seens c.args.roots.now.desks.items))) (sym c.deref_mut.ensures.value)
     c.in-Ok.ensures.begin)
-    c.serve_door-status.ensures.served c.in-Ok.ensures.split.0 (split_held g c)
+    c.serve_door-status.ensures.served c.in-Ok.ensures.split.0 (split_held g joined)
     c.serve_door-status.ensures.held
     (subst (λ (l : List (Passes g.row.O-Disk.Denot)). JoinsAll c.split_among.new.roots l
-    c.join_all.new.roots) (workers_are g c) c.join_all.ensures.joined)
+    c.join_all.new.roots) (workers_are g joined) c.join_all.ensures.joined)
 
 pub returns-in-Ok-clause-whole : goal.returns-in-Ok-clause-whole
 returns-in-Ok-clause-whole g c =
+    let joined = (goal.at.returns-in-Ok-clause-whole g c).After-join_all in
     c.join_all.ensures.held
     (subst (λ (l : List (Passes g.row.O-Disk.Denot)). AreAllHeld c.split_among.new.roots
-    (c.split_among.new.roots ∷ l)) (sym (workers_are g c))
+    (c.split_among.new.roots ∷ l)) (sym (workers_are g joined))
     (held_then c.split_among.new.roots c.deref_mut.result.now c.serve_door-status.new.workers
-    c.serve_door-status.ensures.held (split_held g c)))
+    c.serve_door-status.ensures.held (split_held g joined)))

@@ -24,7 +24,8 @@ pub serve_links-status-requires-clause-roots : goal.serve_links-status-requires-
 serve_links-status-requires-clause-roots g c = search (rules, are_roots)
 
 pub serve_links-status-requires-clause-held : goal.serve_links-status-requires-clause-held
-serve_links-status-requires-clause-held g c = lone_held _ c.in-Ok.ensures.ok.2.alone
+serve_links-status-requires-clause-held g c =
+    λ κ within. lone_held c.in-Ok.opened.1 c.in-Ok.ensures.ok.2.alone
 
 pub returns-clause-value : goal.returns-clause-value
 returns-clause-value g c = λ input. rw c.in-Ok.ensures.silent (links_served g.D.Disk _
@@ -34,8 +35,8 @@ returns-clause-value g c = λ input. rw c.in-Ok.ensures.silent (links_served g.D
     g.O.Door.Conn.Link.lent g.D.Disk _ _ _ _ _ _ _ _ _ _ _ _ c.in-Ok.ensures.ok.2
     c.in-Ok.ensures.sound c.serve_links-status.ensures.served c.serve_links-status.ensures.whole
     c.end-journal.ensures.value)
-    (λ idle. no_row g.D.Disk _ _ c.args.disks.snaps.items _ _ _ _ _ _ _ c.in-Ok.ensures.ok.2 c.end-journal.ensures.value
-    c.serve_links-status.ensures.whole
+    (λ idle. no_row g.D.Disk _ _ c.args.disks.snaps.items _ _ _ _ _ _ _ c.in-Ok.ensures.ok.2
+    c.end-journal.ensures.value c.serve_links-status.ensures.whole
     (none_at_seven _ _ c.serve_links-status.ensures.served idle))
     (stores_back g.D.Disk _ _ _ _ _ _ _ _ _ _ c.in-Ok.ensures.ok.2
     c.end-journal.ensures.value c.in-Ok.ensures.stores c.end-journal.ensures.stores

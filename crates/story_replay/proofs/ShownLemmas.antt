@@ -8,7 +8,7 @@ use Rattle.gate_journal.specs.declared.command.Command.{Command}
 use Rattle.gate_journal.specs.declared.command.Command.TheVariants as commands
 use Rattle.line_words.specs.declared.request.Request.{Request}
 use Rattle.line_words.specs.declared.request.Request.TheVariants.{Open, Line, Char, File, Last}
-use Rattle.line_words.specs.declared.request.Request.TheVariants.{Close}
+use Rattle.line_words.specs.declared.request.Request.TheVariants.{Close, Watch}
 use Rattle.line_words.specs.declared.reply.Reply.TheVariants as replies
 use Rattle.story_run.specs.declared.story.Story.{Story}
 use Rattle.session_core.specs.Answer.{accepted_by, answer, checks, game_show, history_extended}
@@ -69,6 +69,7 @@ counts_request stories history (File s key n name) x a f e =
 counts_request stories history (Last s key) x a f e = absurd cc
 counts_request stories history (Close s key n) x a f e =
     rw (sym (some_is _ x e)) (next_counts stories history s _ key n commands.Close refl a f)
+counts_request stories history (Watch s word from) x a f e = absurd cc
 
 -- a request that is accepted is answered by the show of the game with its command, and by that
 -- command's number
@@ -88,5 +89,5 @@ answered stories history request command e =
     (refusal_of stories history game request) command e in
     let taken = chosen (is_fresh game request) (command_of stories request) command by.1 in
     let fails = all_fail (checks (world_of stories game) stories history game request) by.0 in
-    let counts = counts_request stories history request command fails.0 taken.0 taken.1 in
+    let counts = counts_request stories history request command fails.1.0 taken.0 taken.1 in
     (counts.some, rw (by.0, taken.0, taken.1, ← counts.last) refl)
