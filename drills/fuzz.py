@@ -196,12 +196,12 @@ class Fuzz:
         over = [at for at, reply in enumerate([opening, *shows]) if re.search(r"^E ", reply, re.M)]
         if not over and len(shows) != len(inputs) or over and over[0] != len(shows):
             raise Otherwise(f"{len(inputs)} inputs have {len(shows)} replies")
-        lines, wanted, count = [b"OPEN 0 k 0 1 80 24"], ["SHOW 0 0\n" + opening], 0
+        lines, wanted, count = [b"OPEN 0 k 0 1 80 24"], [("SHOW 0 0\n" + opening).rstrip("\n")], 0
         for line, reply in zip(inputs, shows):
             word, rest = line.split(b" ", 1)
             lines.append(b"%s 0 k %d %s" % (word, count + 1, rest))
             count += not reply.startswith("NO ")
-            wanted.append(reply if reply.startswith("NO ") else f"SHOW 0 {count}\n{reply}")
+            wanted.append(reply if reply.startswith("NO ") else f"SHOW 0 {count}\n{reply}".rstrip("\n"))
         self.new_folder("d")
         cut = max(draw.randint(1, len(lines)), draw.randint(1, len(lines)))
         got = []
