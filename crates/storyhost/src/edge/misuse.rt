@@ -49,7 +49,7 @@ fn arguments_of(command: &str) -> Option<&'static [&'static str]> {
     match command {
         "run" | "check" => Some(&["FILE"]),
         "init" => Some(&["DIR"]),
-        "pipe" => Some(&["DIR", "STORY"]),
+        "pipe" | "replay" => Some(&["DIR", "STORY"]),
         "serve" => Some(&["DIR", "PORT", "WORKERS", "STORY"]),
         "drill" => Some(&["N"]),
         _ => None,
