@@ -14,6 +14,7 @@ use Rattle.disk_model.specs.declared.disk.Disk.{Ghosts}
 use Rattle.gate_journal.specs.contracts.journal.Journal as journal
 use Rattle.gate_journal.specs.contracts.history.History as history
 use Rattle.gate_journal.specs.contracts.mark.Mark as entry_mark
+use Rattle.gate_journal.specs.contracts.moments.Moments as moments
 use Rattle.gate_journal.proofs.room.Room.TheSendSync as room
 use Rattle.gate_journal.proofs.row.Row.TheSendSync as row
 use Rattle.gate_journal.specs.contracts.row.Row as row_type
@@ -40,9 +41,13 @@ rows_send = search (sendable, row.the_send, vec.the_send, global.the_send, heap.
 history_send : IsSend history.the_row
 history_send = search (sendable, view_send, rows_send, entry_marks_send) depth 30
 
+moments_send : (T : RattleType) → IsSend T → IsSend (moments.the_row T)
+moments_send T s =
+    search (sendable, view_send, vec.the_send, global.the_send, heap.the_frees) depth 40
+
 pub journal_send : (T : RattleType) (g : Ghosts T.Denot) → IsSend T → IsSend (journal.the_row T g)
 journal_send T g s =
-    search (sendable, view_send, history_send, room.the_send, row.the_send) depth 30
+    search (sendable, view_send, history_send, moments_send, room.the_send, row.the_send) depth 30
 
 marks_send : IsSend (vec_type.the_field mark_type.the_row global_type.the_row heap_type.ghosts).row
 marks_send =
