@@ -61,12 +61,12 @@ shows_more stories game n old text is =
 
 -- ---- texts that were made side by side
 
-pub all_texts : {A B E : Type 0} (f : A → B) (xs : List A) (ys : List B)
+pub all_texts : {A B : Type 0} (E : Type 0) (f : A → B) (xs : List A) (ys : List B)
     → AllZip (λ x (y : Result B E). IfOk y (λ t. t ≡ f x)) xs (map Ok ys) → ys ≡ map f xs
-all_texts f [] [] all = refl
-all_texts f [] (y ∷ ys) all = absurd all
-all_texts f (x ∷ xs) [] all = absurd all
-all_texts f (x ∷ xs) (y ∷ ys) all = rw (all.0, all_texts f xs ys all.1) refl
+all_texts E f [] [] all = refl
+all_texts E f [] (y ∷ ys) all = absurd all
+all_texts E f (x ∷ xs) [] all = absurd all
+all_texts E f (x ∷ xs) (y ∷ ys) all = rw (all.0, all_texts E f xs ys all.1) refl
 
 -- ---- the numbers of rows have no part in a transcript
 
