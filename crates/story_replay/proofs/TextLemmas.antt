@@ -1,9 +1,9 @@
 -- The text of a game, one show after the other.
 use Rattle.std.proofs.Common.{◌≡◌, ℕ, zero, suc, ◌+◌, ◌<◌, List, [], ◌∷◌, ◌++◌, length, get_or}
 use Rattle.std.proofs.Common.{take, map, refl, sym, ap, ◌∙◌, append_assoc, arith, Option, Some}
-use Rattle.std.proofs.Common.{Result, Ok, IfOk, codes}
+use Rattle.std.proofs.Common.{Result, Ok, Err, IfOk, MatchResult, codes}
 use Rattle.std.proofs.lemmas.List.{take_more}
-use Rattle.std.specs.List.{AllZip}
+use Rattle.std.specs.List.{AllZip, Contains}
 use Rattle.gate_journal.specs.Scan.{unnumbered}
 use Rattle.gate_journal.specs.declared.command.Command.{Command}
 use Rattle.gate_journal.specs.declared.row.Row.{Row}
@@ -67,6 +67,15 @@ all_texts E f [] [] all = refl
 all_texts E f [] (y ∷ ys) all = absurd all
 all_texts E f (x ∷ xs) [] all = absurd all
 all_texts E f (x ∷ xs) (y ∷ ys) all = rw (all.0, all_texts E f xs ys all.1) refl
+
+pub collected : {A B V : Type 0} (E : Type 0) (items : V → List B) (f : A → B) (xs : List A)
+    (made : List (Result B E)) (v : Result V E)
+    → MatchResult v (λ c. (ys : List B) × (made ≡ map Ok ys) × (items c ≡ ys))
+    (λ e. Contains made (Err e))
+    → AllZip (λ x (y : Result B E). IfOk y (λ t. t ≡ f x)) xs made
+    → IfOk v (λ c. items c ≡ map f xs)
+collected E items f xs made (Ok c) m all = m.2 ∙ all_texts E f xs m.0 (rw m.1 at all)
+collected E items f xs made (Err e) m all = tt
 
 -- ---- the numbers of rows have no part in a transcript
 
