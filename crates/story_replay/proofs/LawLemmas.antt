@@ -65,6 +65,7 @@ module _ (s : ℕ) (r : Row) (after : List Row) (own : (r.session == s) ≡ true
   record Begins (rows : List Row) (g : List Command) : Type 0 where
     pub at : ℕ
     pub game : Game
+    pub owner : game.session ≡ s
     pub stands : slice_get (games_in s rows) at ≡ Some game
     pub begins : take (length g) game.commands ≡ g
 
@@ -73,6 +74,7 @@ module _ (s : ℕ) (r : Row) (after : List Row) (own : (r.session == s) ≡ true
   last_begins true opens some = record {
     at = 0;
     game = game_from r after;
+    owner = grind (arith, nat_tests, own);
     stands = rw (own, opens) refl;
     begins = rw opens refl;
   }
@@ -92,6 +94,7 @@ module _ (s : ℕ) (r : Row) (after : List Row) (own : (r.session == s) ≡ true
       record {
         at = more.at;
         game = more.game;
+        owner = more.owner;
         stands = rw mine more.stands;
         begins = rw mine more.begins;
       }
@@ -100,12 +103,14 @@ module _ (s : ℕ) (r : Row) (after : List Row) (own : (r.session == s) ≡ true
       record {
         at = more.at;
         game = more.game;
+        owner = more.owner;
         stands = rw (mine, opened) more.stands;
         begins = rw (mine, opened, later_none (game_of (up_to s before r))) more.begins;
       }
   begins_by b before true true [] mine opened is ih some = record {
     at = 0;
     game = game_from b (before ++ r ∷ after);
+    owner = grind (arith, nat_tests, mine);
     stands = rw (mine, opened) refl;
     begins =
         let same : b.session ≡ s = grind (arith, nat_tests, mine) in
@@ -120,6 +125,7 @@ module _ (s : ℕ) (r : Row) (after : List Row) (own : (r.session == s) ≡ true
       record {
         at = suc more.at;
         game = more.game;
+        owner = more.owner;
         stands = rw (mine, opened) more.stands;
         begins = rw whole more.begins;
       }
@@ -150,6 +156,7 @@ holds stories before after r request is accepted =
       begins = whole;
       shows =
           said.1
-          ∙ ap (λ (n : ℕ). Show n (command_count g) (game_show stories g)) is
-          ∙ ap (λ (l : List Command). Show s (command_count g) (game_show stories l)) (sym whole);
+          ∙ ap (λ (n : ℕ). Show n (command_count g) (game_show stories g)) (is ∙ sym b.owner)
+          ∙ ap (λ (l : List Command). Show b.game.session (command_count g) (game_show stories l))
+          (sym whole);
     }

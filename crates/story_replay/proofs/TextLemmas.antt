@@ -1,20 +1,21 @@
 -- The text of a game, one show after the other.
 use Rattle.std.proofs.Common.{◌≡◌, ℕ, zero, suc, ◌+◌, ◌<◌, List, [], ◌∷◌, ◌++◌, length, get_or}
 use Rattle.std.proofs.Common.{take, map, refl, sym, ap, ◌∙◌, append_assoc, arith, Option, Some}
-use Rattle.std.proofs.Common.{Result, Ok, Err, IfOk, MatchResult, codes}
+use Rattle.std.proofs.Common.{Bool, Result, Ok, Err, IfOk, MatchResult, codes}
 use Rattle.std.proofs.lemmas.List.{take_more}
 use Rattle.std.specs.List.{AllZip, Contains}
 use Rattle.gate_journal.specs.Scan.{unnumbered}
 use Rattle.gate_journal.specs.declared.command.Command.{Command}
 use Rattle.gate_journal.specs.declared.row.Row.{Row}
-use Rattle.session_core.specs.Answer.{turned_in}
-use Rattle.session_core.specs.History.{input_of, world_of}
+use Rattle.session_core.specs.Answer.{game_show, show_while, turned_in}
+use Rattle.session_core.specs.History.{input_of, is_in_use, world_of}
 use Rattle.session_core.proofs.RepeatLemmas.{joined}
 use Rattle.session_core.proofs.WorldLemmas.{world_of-joined}
+use Rattle.story_run.specs.World.{WorldState}
 use Rattle.story_run.specs.declared.story.Story.{Story}
 use Rattle.story_replay.specs.Text.{game_text, shows_below, shown, transcript}
 use Rattle.story_replay.specs.declared.game.Game.{Game}
-use Rattle.line_words.specs.Reply.{print_reply}
+use Rattle.line_words.specs.Reply.{print_reply, print_show}
 use Rattle.story_replay.proofs.GameLemmas.{games_unnumbered}
 use Rattle.std.specs.List.{flat_map}
 
@@ -58,6 +59,22 @@ shows_more stories game n old text is =
     ap (λ (l : List ℕ). l ++ print_reply (shown stories game n)) is
     ∙ append_assoc old (shows_below stories game n) (print_reply (shown stories game n))
     ∙ ap (λ (k : ℕ). old ++ shows_below stories game k) (sym next)
+
+pub one_show : (stories : List Story) (game : Game) (n : ℕ) (used : Bool)
+    (world : Option WorldState) (body old text new : List ℕ)
+    → text ≡ old ++ shows_below stories game n
+    → new ≡ text ++ print_show game.session n body
+    → body ≡ show_while used world
+    → used ≡ is_in_use (take (n + 1) game.commands)
+    → world ≡ world_of stories (take (n + 1) game.commands)
+    → new ≡ old ++ shows_below stories game (n + 1)
+unfolding game_show
+one_show stories game n used world body old text new text_is new_is body_is used_is world_is =
+    new_is
+    ∙ ap (λ (b : List ℕ). text ++ print_show game.session n b)
+    (body_is ∙ ap (λ (u : Bool). show_while u world) used_is
+    ∙ ap (show_while (is_in_use (take (n + 1) game.commands))) world_is)
+    ∙ shows_more stories game n old text text_is
 
 -- ---- texts that were made side by side
 

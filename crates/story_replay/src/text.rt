@@ -132,6 +132,7 @@ fn game_line(alloc: Global, game: &Game) -> Result<Vec<u8>, AllocError>
 }
 
 /// Adds what stands behind the line of a game.
+#[tactic(auto, unfolding(crate::specs::Text::game_body))]
 fn push_body(
     alloc: Global,
     stories: &[Story<'_>],
@@ -147,6 +148,7 @@ fn push_body(
 }
 
 /// The text of a game.
+#[tactic(auto, unfolding(crate::specs::Text::game_text))]
 pub fn game_text(alloc: Global, stories: &[Story<'_>], game: &Game) -> Result<Bytes, AllocError>
     ensures { IfOk result (λ text. text ≡ game_text stories.now game.now) }
 {
