@@ -1,19 +1,20 @@
 -- The text of a game, one show after the other.
 use Rattle.std.proofs.Common.{◌≡◌, ℕ, zero, suc, ◌+◌, ◌<◌, List, [], ◌∷◌, ◌++◌, length, get_or}
 use Rattle.std.proofs.Common.{take, map, refl, sym, ap, ◌∙◌, append_assoc, arith, Option, Some}
-use Rattle.std.proofs.Common.{Bool, Result, Ok, Err, IfOk, MatchResult, codes}
+use Rattle.std.proofs.Common.{Bool, true, Result, Ok, Err, IfOk, MatchResult, codes}
 use Rattle.std.proofs.lemmas.List.{take_more}
 use Rattle.std.specs.List.{AllZip, Contains}
 use Rattle.gate_journal.specs.Scan.{unnumbered}
 use Rattle.gate_journal.specs.declared.command.Command.{Command}
 use Rattle.gate_journal.specs.declared.row.Row.{Row}
 use Rattle.session_core.specs.Answer.{game_show, show_while, turned_in}
+use Rattle.session_core.specs.Checks.{is_other_story}
 use Rattle.session_core.specs.History.{input_of, is_in_use, world_of}
 use Rattle.session_core.proofs.RepeatLemmas.{joined}
 use Rattle.session_core.proofs.WorldLemmas.{world_of-joined}
 use Rattle.story_run.specs.World.{WorldState}
 use Rattle.story_run.specs.declared.story.Story.{Story}
-use Rattle.story_replay.specs.Text.{game_text, shows_below, shown, transcript}
+use Rattle.story_replay.specs.Text.{game_body, game_text, shows_below, shown, transcript}
 use Rattle.story_replay.specs.declared.game.Game.{Game}
 use Rattle.line_words.specs.Reply.{print_reply, print_show}
 use Rattle.story_replay.proofs.GameLemmas.{games_unnumbered}
@@ -75,6 +76,12 @@ one_show stories game n used world body old text new text_is new_is body_is used
     (body_is ∙ ap (λ (u : Bool). show_while u world) used_is
     ∙ ap (show_while (is_in_use (take (n + 1) game.commands))) world_is)
     ∙ shows_more stories game n old text text_is
+
+-- what stands in the place of all shows
+pub other_body : (stories : List Story) (game : Game)
+    → is_other_story stories game.commands ≡ true → codes "NO 13\n" ≡ game_body stories game
+unfolding game_body
+other_body stories game other = rw other refl
 
 -- ---- texts that were made side by side
 
