@@ -21,7 +21,9 @@ loop-rest-init g c = (upto_none _ _, refl)
 pub returns-in_err-texts-clause-err : goal.returns-in_err-texts-clause-err
 returns-in_err-texts-clause-err g c =
     let p = err_from_is_err_and c.from_residual.result c.from_residual.ensures.1 in
-    rw (p.1, p.2) (stopped_memory _ c.loop-rest.invariant.0)
+    rw (p.1, p.2)
+    (stopped_memory {text = flat_map (game_text c.args.stories.now) c.args.games.now}
+    (flat_map (game_text c.args.stories.now) c.loop-rest.rest.now) c.loop-rest.invariant.0)
 
 pub returns-in_err-write_texts-clause-err : goal.returns-in_err-write_texts-clause-err
 returns-in_err-write_texts-clause-err g c =

@@ -4,11 +4,16 @@ use Rattle.std.specs.List.{flat_map}
 use Rattle.line_talk.specs.Streams.{Wrote}
 use Rattle.line_talk.specs.Writing.{Stopped}
 use Rattle.line_talk.proofs.StreamsLemmas.{wrote_then}
-use Rattle.line_talk.proofs.WritingLemmas.{stopped_more, stopped_then}
+use Rattle.line_talk.proofs.WritingLemmas.{stopped_at_once, stopped_more, stopped_then}
 use Rattle.story_replay.specs.Games.{games_of}
 use Rattle.story_replay.specs.Text.{game_text}
 use Rattle.host_top.proofs.ReplayLemmas.{on_ok, transcript_parts}
 use Rattle.host_top.proofs.replay.write_transcript.Goals as goal
+
+pub returns-in_err-games-clause-err : goal.returns-in_err-games-clause-err
+returns-in_err-games-clause-err g c =
+    let p = err_from_is_err_and c.from_residual.result c.from_residual.ensures.1 in
+    rw (p.1, p.2) (stopped_at_once _ _)
 
 pub returns-in_err-write_games-clause-err : goal.returns-in_err-write_games-clause-err
 returns-in_err-write_games-clause-err g c =
