@@ -1,7 +1,7 @@
 -- A journal's disk that is lent to be looked at, and what is written of it.
 use Rattle.std.proofs.Common.{◌≡◌, ◌⊎◌, inl, inr, ℕ, ◌+◌, ◌<◌, List, [], ◌∷◌, ◌++◌, length, get_or}
 use Rattle.std.proofs.Common.{drop, map, refl, sym, ap, ◌∙◌, subst, Option, None, Some, IsTrue}
-use Rattle.std.proofs.Common.{arith, codes}
+use Rattle.std.proofs.Common.{◌≤◌, codes, Result, Ok, Err, OnOk}
 use Rattle.std.proofs.Math.ListN.{drop_of_length-le}
 use Rattle.std.proofs.lemmas.Grind.{flat_map-append}
 use Rattle.std.proofs.lemmas.List.{append-nil, drop_more}
@@ -53,10 +53,9 @@ texts_behind {A} f xs i x within is =
     ∙ ap (λ (y : A). y ∷ drop (i + 1) xs) (sym is))
     ∙ flat_map-cons f x (drop (i + 1) xs)
 
-pub none_behind : {A : Type 0} (f : A → List ℕ) (xs : List A) (i : ℕ) → (i < length xs → ⊥)
+pub none_behind : {A : Type 0} (f : A → List ℕ) (xs : List A) (i : ℕ) → length xs ≤ i
     → flat_map f (drop i xs) ≡ []
-none_behind f xs i past =
-    ap (flat_map f) (drop_of_length-le xs (omega (arith, past)))
+none_behind f xs i past = ap (flat_map f) (drop_of_length-le xs past)
 
 pub games_behind : {A : Type 0} (f : A → List ℕ) (rest some more : List A)
     → rest ≡ some ++ more
@@ -64,6 +63,11 @@ pub games_behind : {A : Type 0} (f : A → List ℕ) (rest some more : List A)
 games_behind f rest some more is =
     ap (flat_map f) is ∙ flat_map-append f some more
     ∙ ap (λ (l : List ℕ). l ++ flat_map f more) (sym (flat_map-map (λ (t : List ℕ). t) f some))
+
+-- what holds where a call answers Ok
+pub on_ok : {T E : Type 0} (r : Result T E) (P Q : Type 0) → OnOk r P → (P → Q) → OnOk r Q
+on_ok (Ok v) P Q p f = f p
+on_ok (Err e) P Q p f = tt
 
 -- ---- the parts of a transcript
 

@@ -38,29 +38,34 @@ module _ (s : ℕ) (r : Row) (after : List Row) (own : (r.session == s) ≡ true
   last_runs_on true opens none = absurd (later_some r.command [] [] (rw opens at none))
   last_runs_on false shut none = rw (own, shut) refl
 
+  runs_by : (b : Row) (before : List Row) (mine opens : Bool) → (b.session == s) ≡ mine
+      → is_open b.command ≡ opens
+      → (game_of (up_to s before r) ≡ [] → take (length (up_to s before r))
+      (commands_from s (before ++ r ∷ after)) ≡ up_to s before r)
+      → game_of (up_to s (b ∷ before) r) ≡ []
+      → take (length (up_to s (b ∷ before) r)) (commands_from s (b ∷ before ++ r ∷ after))
+      ≡ up_to s (b ∷ before) r
+  runs_by b before false opens mine opened more none = rw mine (more (rw mine at none))
+  runs_by b before true true mine opened more none =
+      later_some b.command (up_to s before r) (game_of (up_to s before r))
+      (rw (mine, opened) at none)
+  runs_by b before true false mine opened more none =
+      rw (mine, opened) (ap (λ (l : List Command). b.command ∷ l)
+      (more (sym (later_none (game_of (up_to s before r))) ∙ (rw (mine, opened) at none))))
+
   runs_on : (before : List Row) → game_of (up_to s before r) ≡ []
       → take (length (up_to s before r)) (commands_from s (before ++ r ∷ after))
       ≡ up_to s before r
-
-  runs_by : (b : Row) (before : List Row) (mine opens : Bool) → (b.session == s) ≡ mine
-      → is_open b.command ≡ opens → game_of (up_to s (b ∷ before) r) ≡ []
-      → take (length (up_to s (b ∷ before) r)) (commands_from s (b ∷ before ++ r ∷ after))
-      ≡ up_to s (b ∷ before) r
   runs_on [] none = last_runs_on (is_open r.command) refl none
-  runs_on (b ∷ before) none = runs_by b before (b.session == s) (is_open b.command) refl refl none
-  runs_by b before false opens mine opened none = rw mine (runs_on before (rw mine at none))
-  runs_by b before true true mine opened none =
-      later_some b.command (up_to s before r) (game_of (up_to s before r))
-      (rw (mine, opened) at none)
-  runs_by b before true false mine opened none =
-      rw (mine, opened) (ap (λ (l : List Command). b.command ∷ l)
-      (runs_on before (sym (later_none (game_of (up_to s before r))) ∙ (rw (mine, opened) at none))))
+  runs_on (b ∷ before) none =
+      runs_by b before (b.session == s) (is_open b.command) refl refl (runs_on before) none
 
   -- ---- a game of the whole begins so
 
   record Begins (rows : List Row) (g : List Command) : Type 0 where
     pub at : ℕ
     pub game : Game
+    pub owner : game.session ≡ s
     pub stands : slice_get (games_in s rows) at ≡ Some game
     pub begins : take (length g) game.commands ≡ g
 
@@ -69,6 +74,7 @@ module _ (s : ℕ) (r : Row) (after : List Row) (own : (r.session == s) ≡ true
   last_begins true opens some = record {
     at = 0;
     game = game_from r after;
+    owner = grind (arith, nat_tests, own);
     stands = rw (own, opens) refl;
     begins = rw opens refl;
   }
@@ -76,36 +82,35 @@ module _ (s : ℕ) (r : Row) (after : List Row) (own : (r.session == s) ≡ true
       let none : length (game_of (r.command ∷ [])) ≡ 0 = rw shut refl in
       absurd (omega (arith, some, none))
 
-  begins : (before : List Row) → 0 < length (game_of (up_to s before r))
-      → Begins (before ++ r ∷ after) (game_of (up_to s before r))
-
   begins_by : (b : Row) (before : List Row) (mine opens : Bool) (g : List Command)
       → (b.session == s) ≡ mine → is_open b.command ≡ opens
-      → game_of (up_to s before r) ≡ g → 0 < length (game_of (up_to s (b ∷ before) r))
+      → game_of (up_to s before r) ≡ g
+      → (0 < length (game_of (up_to s before r))
+      → Begins (before ++ r ∷ after) (game_of (up_to s before r)))
+      → 0 < length (game_of (up_to s (b ∷ before) r))
       → Begins (b ∷ before ++ r ∷ after) (game_of (up_to s (b ∷ before) r))
-  begins [] some = last_begins (is_open r.command) refl some
-  begins (b ∷ before) some =
-      begins_by b before (b.session == s) (is_open b.command) (game_of (up_to s before r)) refl refl
-      refl some
-  begins_by b before false opens g mine opened is some =
-      let more = begins before (rw mine at some) in
+  begins_by b before false opens g mine opened is ih some =
+      let more = ih (rw mine at some) in
       record {
         at = more.at;
         game = more.game;
+        owner = more.owner;
         stands = rw mine more.stands;
         begins = rw mine more.begins;
       }
-  begins_by b before true false g mine opened is some =
-      let more = begins before (rw (mine, opened, later_none (game_of (up_to s before r))) at some) in
+  begins_by b before true false g mine opened is ih some =
+      let more = ih (rw (mine, opened, later_none (game_of (up_to s before r))) at some) in
       record {
         at = more.at;
         game = more.game;
+        owner = more.owner;
         stands = rw (mine, opened) more.stands;
         begins = rw (mine, opened, later_none (game_of (up_to s before r))) more.begins;
       }
-  begins_by b before true true [] mine opened is some = record {
+  begins_by b before true true [] mine opened is ih some = record {
     at = 0;
     game = game_from b (before ++ r ∷ after);
+    owner = grind (arith, nat_tests, mine);
     stands = rw (mine, opened) refl;
     begins =
         let same : b.session ≡ s = grind (arith, nat_tests, mine) in
@@ -113,16 +118,24 @@ module _ (s : ℕ) (r : Row) (after : List Row) (own : (r.session == s) ≡ true
         (ap (λ (n : ℕ). take (length (up_to s before r)) (commands_from n (before ++ r ∷ after)))
         same ∙ runs_on before is));
   }
-  begins_by b before true true (c ∷ cs) mine opened is some =
-      let more = begins before (rw is (omega arith)) in
+  begins_by b before true true (c ∷ cs) mine opened is ih some =
+      let more = ih (rw is (omega arith)) in
       let whole : game_of (up_to s (b ∷ before) r) ≡ game_of (up_to s before r) =
       rw (mine, opened, is) refl in
       record {
         at = suc more.at;
         game = more.game;
+        owner = more.owner;
         stands = rw (mine, opened) more.stands;
         begins = rw whole more.begins;
       }
+
+  begins : (before : List Row) → 0 < length (game_of (up_to s before r))
+      → Begins (before ++ r ∷ after) (game_of (up_to s before r))
+  begins [] some = last_begins (is_open r.command) refl some
+  begins (b ∷ before) some =
+      begins_by b before (b.session == s) (is_open b.command) (game_of (up_to s before r)) refl refl
+      refl (begins before) some
 
 number_of : (g : List Command) → 0 < length g → command_count g + 1 ≡ length g
 number_of g some = omega (arith, some)
@@ -143,6 +156,7 @@ holds stories before after r request is accepted =
       begins = whole;
       shows =
           said.1
-          ∙ ap (λ (n : ℕ). Show n (command_count g) (game_show stories g)) is
-          ∙ ap (λ (l : List Command). Show s (command_count g) (game_show stories l)) (sym whole);
+          ∙ ap (λ (n : ℕ). Show n (command_count g) (game_show stories g)) (is ∙ sym b.owner)
+          ∙ ap (λ (l : List Command). Show b.game.session (command_count g) (game_show stories l))
+          (sym whole);
     }

@@ -1,20 +1,22 @@
 -- The text of a game, one show after the other.
 use Rattle.std.proofs.Common.{◌≡◌, ℕ, zero, suc, ◌+◌, ◌<◌, List, [], ◌∷◌, ◌++◌, length, get_or}
 use Rattle.std.proofs.Common.{take, map, refl, sym, ap, ◌∙◌, append_assoc, arith, Option, Some}
-use Rattle.std.proofs.Common.{Result, Ok, IfOk, codes}
+use Rattle.std.proofs.Common.{Bool, true, Result, Ok, Err, IfOk, MatchResult, codes}
 use Rattle.std.proofs.lemmas.List.{take_more}
-use Rattle.std.specs.List.{AllZip}
+use Rattle.std.specs.List.{AllZip, Contains}
 use Rattle.gate_journal.specs.Scan.{unnumbered}
 use Rattle.gate_journal.specs.declared.command.Command.{Command}
 use Rattle.gate_journal.specs.declared.row.Row.{Row}
-use Rattle.session_core.specs.Answer.{turned_in}
-use Rattle.session_core.specs.History.{input_of, world_of}
+use Rattle.session_core.specs.Answer.{game_show, show_while, turned_in}
+use Rattle.session_core.specs.Checks.{is_other_story}
+use Rattle.session_core.specs.History.{input_of, is_in_use, world_of}
 use Rattle.session_core.proofs.RepeatLemmas.{joined}
 use Rattle.session_core.proofs.WorldLemmas.{world_of-joined}
+use Rattle.story_run.specs.World.{WorldState}
 use Rattle.story_run.specs.declared.story.Story.{Story}
-use Rattle.story_replay.specs.Text.{game_text, shows_below, shown, transcript}
+use Rattle.story_replay.specs.Text.{game_body, game_text, shows_below, shown, transcript}
 use Rattle.story_replay.specs.declared.game.Game.{Game}
-use Rattle.line_words.specs.Reply.{print_reply}
+use Rattle.line_words.specs.Reply.{print_reply, print_show}
 use Rattle.story_replay.proofs.GameLemmas.{games_unnumbered}
 use Rattle.std.specs.List.{flat_map}
 
@@ -59,14 +61,45 @@ shows_more stories game n old text is =
     ∙ append_assoc old (shows_below stories game n) (print_reply (shown stories game n))
     ∙ ap (λ (k : ℕ). old ++ shows_below stories game k) (sym next)
 
+pub one_show : (stories : List Story) (game : Game) (n : ℕ) (used : Bool)
+    (world : Option WorldState) (body old text new : List ℕ)
+    → text ≡ old ++ shows_below stories game n
+    → new ≡ text ++ print_show game.session n body
+    → body ≡ show_while used world
+    → used ≡ is_in_use (take (n + 1) game.commands)
+    → world ≡ world_of stories (take (n + 1) game.commands)
+    → new ≡ old ++ shows_below stories game (n + 1)
+unfolding game_show
+one_show stories game n used world body old text new text_is new_is body_is used_is world_is =
+    new_is
+    ∙ ap (λ (b : List ℕ). text ++ print_show game.session n b)
+    (body_is ∙ ap (λ (u : Bool). show_while u world) used_is
+    ∙ ap (show_while (is_in_use (take (n + 1) game.commands))) world_is)
+    ∙ shows_more stories game n old text text_is
+
+-- what stands in the place of all shows
+pub other_body : (stories : List Story) (game : Game)
+    → is_other_story stories game.commands ≡ true → codes "NO 13\n" ≡ game_body stories game
+unfolding game_body
+other_body stories game other = rw other refl
+
 -- ---- texts that were made side by side
 
-pub all_texts : {A B E : Type 0} (f : A → B) (xs : List A) (ys : List B)
+pub all_texts : {A B : Type 0} (E : Type 0) (f : A → B) (xs : List A) (ys : List B)
     → AllZip (λ x (y : Result B E). IfOk y (λ t. t ≡ f x)) xs (map Ok ys) → ys ≡ map f xs
-all_texts f [] [] all = refl
-all_texts f [] (y ∷ ys) all = absurd all
-all_texts f (x ∷ xs) [] all = absurd all
-all_texts f (x ∷ xs) (y ∷ ys) all = rw (all.0, all_texts f xs ys all.1) refl
+all_texts E f [] [] all = refl
+all_texts E f [] (y ∷ ys) all = absurd all
+all_texts E f (x ∷ xs) [] all = absurd all
+all_texts E f (x ∷ xs) (y ∷ ys) all = rw (all.0, all_texts E f xs ys all.1) refl
+
+pub collected : {A B V : Type 0} (E : Type 0) (items : V → List B) (f : A → B) (xs : List A)
+    (made : List (Result B E)) (v : Result V E)
+    → MatchResult v (λ c. (ys : List B) × (made ≡ map Ok ys) × (items c ≡ ys))
+    (λ e. Contains made (Err e))
+    → AllZip (λ x (y : Result B E). IfOk y (λ t. t ≡ f x)) xs made
+    → IfOk v (λ c. items c ≡ map f xs)
+collected E items f xs made (Ok c) m all = m.2 ∙ all_texts E f xs m.0 (rw m.1 at all)
+collected E items f xs made (Err e) m all = tt
 
 -- ---- the numbers of rows have no part in a transcript
 

@@ -66,6 +66,7 @@ fn push_games(
 
 /// The games of these rows, by ascending session and then in the order of the rows: one for each
 /// OPEN, with its session's commands up to the session's next OPEN. An error is want of memory.
+#[tactic(auto, unfolding(crate::specs::Games::games_of))]
 pub fn games(alloc: Global, rows: &[Row]) -> Result<Vec<Game>, AllocError>
     ensures { IfOk result (λ games. games.items ≡ games_of rows.now) }
 {

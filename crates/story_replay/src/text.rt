@@ -2,8 +2,8 @@
 
 ghost use Rattle.std.specs.Prelude.{◌≡◌, ◌+◌, ◌<◌, ◌++◌, length, take, IfOk, OnOk};
 ghost use Rattle.line_words.specs.Reply.{print_show};
-ghost use Rattle.session_core.specs.Answer.{show_while};
-ghost use Rattle.session_core.specs.History.{world_of};
+ghost use Rattle.session_core.specs.Answer.{show_while, turned_in};
+ghost use Rattle.session_core.specs.History.{input_of, world_of};
 ghost use Rattle.story_replay.specs.Text.{game_body, game_line, game_text, shows_below};
 
 use crate::game::Game;
@@ -14,6 +14,24 @@ use std::marker::Brand;
 use std::sync::ledger::{Blank, Ledger};
 use story_run::{Steps, Story, World};
 use story_text::Bytes;
+
+/// The world after what a command gives the story, if there is one. A turn is one step.
+fn turned_in<'i, L: Ledger>(
+    alloc: Global,
+    world: Option<World<'i>>,
+    command: &Command,
+    steps: &mut Steps<L>,
+) -> Result<Option<World<'i>>, AllocError>
+    ensures { IfOk result (λ after. after ≡ turned_in world.entry (input_of command.now)) }
+{
+    match world {
+        Some(world) => {
+            let after = turn_on(alloc, world, command, steps)?;
+            Ok(Some(after))
+        }
+        None => Ok(None),
+    }
+}
 
 /// The world of a game with its command of this number, counted from 0, by that of the game before.
 fn world_with<'i, L: Ledger>(
@@ -29,12 +47,9 @@ fn world_with<'i, L: Ledger>(
     ensures { IfOk result (λ world. world ≡ world_of stories.now (take (number + 1) game.now)) }
 {
     if number == 0 {
-        return world_of(alloc, stories, &game[..1]);
+        return world_of(alloc, stories, &game[..number + 1]);
     }
-    match before {
-        Some(world) => Ok(Some(turn_on(alloc, world, &game[number], steps)?)),
-        None => Ok(None),
-    }
+    turned_in(alloc, before, &game[number], steps)
 }
 
 /// Adds a show, as a reply is written.
@@ -117,6 +132,7 @@ fn game_line(alloc: Global, game: &Game) -> Result<Vec<u8>, AllocError>
 }
 
 /// Adds what stands behind the line of a game.
+#[tactic(auto, unfolding(crate::specs::Text::game_body))]
 fn push_body(
     alloc: Global,
     stories: &[Story<'_>],
@@ -132,6 +148,7 @@ fn push_body(
 }
 
 /// The text of a game.
+#[tactic(auto, unfolding(crate::specs::Text::game_text))]
 pub fn game_text(alloc: Global, stories: &[Story<'_>], game: &Game) -> Result<Bytes, AllocError>
     ensures { IfOk result (λ text. text ≡ game_text stories.now game.now) }
 {
