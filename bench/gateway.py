@@ -28,6 +28,7 @@ import players  # noqa: E402
 
 MOVES = ("look", "examine bench", "inventory", "n", "look", "s", "wait", "e", "w")
 SESSIONS, LINKS = 64, 4
+A_SECOND, NONE = (0.5, 1.5), (0, 0)     # seconds between two moves of a player
 
 
 class Bare:
@@ -69,19 +70,19 @@ class Browser:
 
     async def open(self):
         await self.display.connect()
-        self.update = await self.display.init(begin={"story": 0, "key": f"k{self.number}", "seed": 1})
+        self.update = await self.display.begin(f"k{self.number}")
 
     async def give(self, text):
         window = self.update["input"][0]["id"]
         self.update = await self.display.give({"type": "line", "gen": self.update["gen"], "window": window, "value": text})
 
 
-async def played(number, player, seconds, pause, begun):
-    """The times of one player's moves."""
-    draw, spent, due, at = random.Random(number), [], begun, 0
+async def played(number, player, seconds, pause, start):
+    """The times of one player's moves; a pause between two of them is drawn from the two numbers of `pause`."""
+    draw, spent, due, at = random.Random(number), [], start, 0
     while True:
-        due = max(due + draw.uniform(0.5, 1.5) * pause, time.perf_counter() if not pause else 0)
-        if due - begun > seconds:
+        due = max(due + draw.uniform(*pause), time.perf_counter() if not any(pause) else 0)
+        if due - start > seconds:
             return spent
         await asyncio.sleep(due - time.perf_counter())
         await player.give(MOVES[at % len(MOVES)])
@@ -89,11 +90,17 @@ async def played(number, player, seconds, pause, begun):
         spent.append(time.perf_counter() - due)
 
 
+async def begun(all_players, at_once=1):
+    """All of them, once they have begun their games, so many at once."""
+    for first in range(0, len(all_players), at_once):
+        await asyncio.gather(*(player.open() for player in all_players[first : first + at_once]))
+    return all_players
+
+
 async def crowd(all_players, seconds, pause):
-    for player in all_players:
-        await player.open()
-    begun = time.perf_counter()
-    times = await asyncio.gather(*(played(n, player, seconds, pause, begun) for n, player in enumerate(all_players)))
+    """The times of all players' moves."""
+    start = time.perf_counter()
+    times = await asyncio.gather(*(played(n, player, seconds, pause, start) for n, player in enumerate(all_players)))
     return [spent for some in times for spent in some]
 
 
@@ -102,7 +109,8 @@ async def by_links(asked, room, pause, count=SESSIONS):
     links = [Link(host.port) for _ in range(min(LINKS, count))]
     for link in links:
         await link.begin()
-    times = await crowd([Bare(n, links[n % len(links)]) for n in range(count)], asked.seconds, pause)
+    all_players = await begun([Bare(n, links[n % len(links)]) for n in range(count)])
+    times = await crowd(all_players, asked.seconds, pause)
     for link in links:
         link.writer.close()
     host.kill()
@@ -114,23 +122,24 @@ async def by_browsers(asked, room, pause):
     gateway = players.Gateway(host.port, "--rate", "100000")
     async with aiohttp.ClientSession(connector=aiohttp.TCPConnector(limit=0)) as client:
         before = spent_by(gateway)
-        times = await crowd([Browser(n, client, gateway) for n in range(SESSIONS)], asked.seconds, pause)
+        all_players = await begun([Browser(n, client, gateway) for n in range(SESSIONS)])
+        times = await crowd(all_players, asked.seconds, pause)
         memory, spent = gateway.memory(), spent_by(gateway) - before
     gateway.kill()
     host.kill()
     return times, memory, 1000 * spent / (len(times) + SESSIONS)
 
 
-def spent_by(gateway):
-    """The processor seconds of a gateway."""
-    fields = pathlib.Path(f"/proc/{gateway.process.pid}/stat").read_text().rpartition(")")[2].split()
+def spent_by(program):
+    """The processor seconds of a program."""
+    fields = pathlib.Path(f"/proc/{program.process.pid}/stat").read_text().rpartition(")")[2].split()
     return (int(fields[11]) + int(fields[12])) / os.sysconf("SC_CLK_TCK")
 
 
 def told(name, times, seconds):
     times = sorted(1000 * spent for spent in times)
-    print(f"{name}: median {statistics.median(times):.1f} ms, 99 of 100 within {times[len(times) * 99 // 100]:.1f} ms, "
-          f"{len(times) / seconds:.0f} moves a second", flush=True)  # fmt: skip
+    print(f"{name}: median {statistics.median(times):.1f} ms, 99 of 100 within {times[len(times) * 99 // 100]:.1f} ms, all within "
+          f"{times[-1]:.0f} ms, {len(times) / seconds:.0f} moves a second", flush=True)  # fmt: skip
     return statistics.median(times)
 
 
@@ -148,16 +157,17 @@ def main():
 
     ratios, most = [], 0
     for _ in range(asked.rounds):
-        told("one bare client alone, one move behind the other", run(by_links, 0, 1), asked.seconds)
-        bare = told("64 sessions by four bare links, a move a second each", run(by_links, 1), asked.seconds)
-        times, memory, _ = run(by_browsers, 1)
+        told("one bare client alone, one move behind the other", run(by_links, NONE, 1), asked.seconds)
+        bare = told("64 sessions by four bare links, a move a second each", run(by_links, A_SECOND), asked.seconds)
+        times, memory, _ = run(by_browsers, A_SECOND)
         ratios.append(told("64 players by the gateway, the same moves", times, asked.seconds) / bare)
         most = max(most, memory)
-    told("64 sessions by four bare links, without pauses", run(by_links, 0), asked.seconds)
-    times, memory, spent = run(by_browsers, 0)
+    told("64 sessions by four bare links, without pauses", run(by_links, NONE), asked.seconds)
+    times, memory, spent = run(by_browsers, NONE)
     told("64 players by the gateway, without pauses", times, asked.seconds)
     print(f"the gateway's median beside that of bare links: {' '.join(f'{ratio:.2f}' for ratio in ratios)} times; its memory at "
           f"most {max(most, memory):.0f} MiB; its processor time {spent:.2f} ms a move")
 
 
-main()
+if __name__ == "__main__":
+    main()

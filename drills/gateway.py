@@ -6,7 +6,7 @@
 Eight players by script play games of the Echo story over WebSocket through a gateway of four links: each begins
 a game, gives moves, ends the game and begins another. KILLS times, 40 unless told otherwise, the host (signal 9)
 or, in a third of the cases, the gateway is killed at a moment drawn from the seed, and started again. A player
-whose connection went comes back as the page does: by session and key, with the number that it has; where its
+whose connection went comes back as the page does: by the game's name and key, with the number that it has; where its
 last move isn't kept it is sent again as it was. Each update must be the one that `run` shows for the same moves,
 each applied once. It ends with 1 where it isn't so. Wants Debian's python3-aiohttp."""
 
@@ -43,9 +43,8 @@ class Player:
 
     async def game(self, key):
         """One game; what it was shown is in `finished`."""
-        wanted = {"begin": {"story": 0, "key": key, "seed": 1 + self.number}}
-        updates, lines = [await self.opened(wanted)], []
-        self.wanted = {"resume": {"session": self.display.session, "key": key}}
+        updates, lines = [await self.opened(key)], []
+        self.wanted = {"resume": {"game": self.display.game, "key": key}}
         for move in crash.draw_moves(self.draw, self.draw.randint(5, MOST_MOVES)):
             event = players.event_of(updates[-1], move)
             lines.append(players.line_of(event))
@@ -56,23 +55,23 @@ class Player:
 
     async def connect(self):
         """A connection, however long that takes: the gateway may be gone."""
-        gen = self.display.gen if self.display else 0
+        gen, game = (self.display.gen, self.display.game) if self.display else (0, None)
         while True:
-            self.display = players.Player(self.drill.client, self.drill.gateway.address)
-            self.display.gen = gen
+            self.display = players.Player(self.drill.client, self.drill.address)
+            self.display.gen, self.display.game = gen, game
             try:
                 return await self.display.connect()
             except GONE:
                 await asyncio.sleep(0.05)
 
-    async def opened(self, wanted):
-        """The first update of a game. Asked for again, the same session is found."""
+    async def opened(self, key):
+        """The first update of a game. Asked for again, the same game is found."""
+        if not self.display or self.display.socket.closed:
+            await self.connect()
+        self.display.gen, self.display.game = 0, None
         while True:
             try:
-                if not self.display or self.display.socket.closed:
-                    await self.connect()
-                self.display.gen = 0
-                return await self.display.init(**wanted)
+                return await self.display.begin(key, 1 + self.number)
             except GONE:
                 await self.connect()
 
@@ -114,24 +113,35 @@ class Player:
 
 
 class Drill:
-    def __init__(self, seed, host, gateway, client):
-        self.seed, self.host, self.gateway, self.client = seed, host, gateway, client
+    """Players at an address, and who kills the hosts and gateways behind it."""
+
+    def __init__(self, seed, address, client):
+        self.seed, self.address, self.client = seed, address, client
         self.answers, self.is_done, self.killed = 0, False, {"host": 0, "gateway": 0}
 
-    async def kill(self, kills):
+    async def kill(self, kills, draw_one):
+        """Kills what is drawn, a kind and a program, at moments that are drawn too, and starts it again."""
         draw = random.Random(self.seed)
-        for _ in range(kills):
+        for number in range(kills):
             until = self.answers + draw.randint(1, 30)
             while self.answers < until:
                 await asyncio.sleep(0.001)
             await asyncio.sleep(draw.random() * 0.02)
-            name = "gateway" if draw.random() < 1 / 3 else "host"
-            one = getattr(self, name)
+            kind, one = await asyncio.to_thread(draw_one, draw, number)
             one.kill()
             await asyncio.sleep(draw.random() * 0.1)
             await asyncio.to_thread(one.start)
-            self.killed[name] += 1
+            self.killed[kind] += 1
         self.is_done = True
+
+    def told(self, all_players, story, program):
+        """What is to be told of players who were shown what `run` shows."""
+        moves = sum([look(player, story, program) for player in all_players])
+        games = sum(len(player.games) for player in all_players)
+        again, back = sum(player.again for player in all_players), sum(player.came_back for player in all_players)
+        kills = f"{self.killed['host']} kills of {{hosts}} and {self.killed['gateway']} of {{gateways}}"
+        return (f"{kills}, {moves} moves in {games} games; players came back {back} times and gave {again} moves again: "
+                "none lost, none applied twice")  # fmt: skip
 
 
 def look(player, story, program):
@@ -154,19 +164,19 @@ async def run(asked, room):
     story.write_bytes(crash.echo_story())
     host = players.Host(room / "d", [story], 4, asked.program)
     gateway = players.Gateway(host.port, "--rate", "100000")
+
+    def draw_one(draw, _):
+        return ("gateway", gateway) if draw.random() < 1 / 3 else ("host", host)
+
     try:
         async with aiohttp.ClientSession() as client:
-            drill = Drill(asked.seed, host, gateway, client)
+            drill = Drill(asked.seed, gateway.address, client)
             all_players = [Player(number, drill) for number in range(asked.players)]
-            await asyncio.gather(drill.kill(asked.kills), *(player.play() for player in all_players))
+            await asyncio.gather(drill.kill(asked.kills, draw_one), *(player.play() for player in all_players))
     finally:
         host.kill()
         gateway.kill()
-    moves = sum([look(player, story, asked.program) for player in all_players])
-    games = sum(len(player.games) for player in all_players)
-    again, back = sum(player.again for player in all_players), sum(player.came_back for player in all_players)
-    print(f"gateway: {drill.killed['host']} kills of the host and {drill.killed['gateway']} of the gateway, {moves} moves in "
-          f"{games} games; players came back {back} times and gave {again} moves again: none lost, none applied twice")
+    print("gateway: " + drill.told(all_players, story, asked.program).format(hosts="the host", gateways="the gateway"))
 
 
 def main():

@@ -1,7 +1,7 @@
 "use strict";
-// A display of stories: it speaks RemGlk's JSON over one WebSocket, and shows what it is told as text alone.
+// A display of stories: it speaks RemGlk's JSON over one WebSocket, and shows what it is told as text alone. menu.js
+// has what stands before a game.
 
-const GAMES = "storyhost.games";
 const MOST_PARAGRAPHS = 3000;
 const KEYS = {
   ArrowLeft: "left", ArrowRight: "right", ArrowUp: "up", ArrowDown: "down", Enter: "return", Backspace: "delete",
@@ -13,7 +13,6 @@ const BUTTONS = [
 ];
 const UNREACHED = "The gateway isn't reached. It is tried again.";
 const FILES = { save: "saved game", transcript: "transcript", command: "command script", data: "file" };
-const $ = (id) => document.getElementById(id);
 
 let socket = null;
 let game = null;        // what init says: begin, resume or watch; and what is known of the game
@@ -27,98 +26,6 @@ let isFirst = false;    // whether the next update is the first of this connecti
 let measured = "";
 const windows = new Map();
 const past = [];
-
-// The games of this browser
-
-function kept() {
-  try {
-    const games = JSON.parse(localStorage.getItem(GAMES) || "[]");
-    return Array.isArray(games) ? games : [];
-  } catch {
-    return [];
-  }
-}
-
-function keep(games) {
-  try {
-    localStorage.setItem(GAMES, JSON.stringify(games));
-  } catch {
-    note("This browser keeps nothing: write the key down.", true);
-  }
-}
-
-function withoutGame(session, key) {
-  return kept().filter((one) => one.session !== session || one.key !== key);
-}
-
-function randomKey() {
-  const letters = "abcdefghijkmnpqrstuvwxyz23456789";
-  return Array.from(crypto.getRandomValues(new Uint8Array(20)), (byte) => letters[byte % 32]).join("");
-}
-
-function randomSeed() {
-  const [high, low] = crypto.getRandomValues(new Uint32Array(2));
-  return (high % 0x100000) * 0x100000000 + low;
-}
-
-// The menu
-
-function element(name, text, parts = {}) {
-  const made = document.createElement(name);
-  made.textContent = text;
-  Object.assign(made, parts);
-  return made;
-}
-
-function showMenu(text = "") {
-  $("menu").hidden = false;
-  $("game").hidden = true;
-  $("menu-note").textContent = text;
-  document.title = "Stories";
-  const games = kept();
-  $("kept").hidden = games.length === 0;
-  $("kept-games").replaceChildren(...games.map((one) => {
-    const row = element("li", "");
-    const go = element("button", `${one.title}, session ${one.session}`, { type: "button" });
-    go.onclick = () => start({ resume: { session: one.session, key: one.key }, title: one.title });
-    const forget = element("button", "Forget", { type: "button" });
-    forget.setAttribute("aria-label", `Forget ${one.title}, session ${one.session}`);
-    forget.onclick = () => {
-      keep(withoutGame(one.session, one.key));
-      showMenu();
-    };
-    row.append(go, forget);
-    return row;
-  }));
-  if (!socket) connect();
-}
-
-function showStories(stories) {
-  $("begin-story").replaceChildren(...stories.map((name, at) => element("option", name, { value: String(at) })));
-}
-
-function submits(form, act) {
-  $(form).onsubmit = (event) => {
-    event.preventDefault();
-    act();
-  };
-}
-
-submits("begin", () => {
-  const list = $("begin-story");
-  const key = $("begin-key").value || randomKey();
-  const title = list.selectedOptions[0] ? list.selectedOptions[0].textContent : "Story";
-  start({ begin: { story: Number(list.value), key, seed: randomSeed() }, title });
-});
-submits("resume", () => {
-  const session = Number($("resume-session").value), key = $("resume-key").value;
-  const known = kept().find((one) => one.session === session && one.key === key);
-  start({ resume: { session, key }, title: known ? known.title : "Story" });
-});
-submits("watch", () => start({
-  watch: { session: Number($("watch-session").value), word: $("watch-word").value },
-  title: `Watching session ${$("watch-session").value}`,
-}));
 
 // A game begins and ends
 
@@ -153,12 +60,20 @@ function clearWindows() {
 
 $("leave").onclick = () => stop("");
 $("about-open").onclick = () => {
-  const { session, key } = game.resume || {};
-  $("about-session").textContent = session === undefined ? "" : String(session);
-  $("about-key").textContent = key || "";
-  $("about-word").textContent = game.word || "";
+  const { game: name, key } = game.resume || {};
+  if (!name) return;
+  $("about-game").textContent = name;
+  $("about-play").value = linkOf("play", name, key);
+  $("about-watch").value = linkOf("watch", name, game.word);
   $("about").showModal();
 };
+for (const id of ["about-play", "about-watch"]) {
+  $(id).onfocus = () => $(id).select();
+  $(`${id}-copy`).onclick = () => {
+    $(id).select();
+    document.execCommand("copy");
+  };
+}
 $("about-close").onclick = () => $("about").close();
 $("about").onclose = () => focusInput();
 $("end").onclick = () => {
@@ -199,9 +114,10 @@ function send(message) {
 }
 
 function init() {
-  const metrics = measure();
-  measured = JSON.stringify(metrics);
   const { begin, resume, watch } = game;
+  // What begins a game is given again word for word.
+  const metrics = begin ? game.metrics = game.metrics || measure() : measure();
+  measured = JSON.stringify(metrics);
   send({ type: "init", gen, metrics, ...(resume ? { resume } : begin ? { begin } : { watch }) });
 }
 
@@ -222,10 +138,12 @@ function sendPending() {
 
 function take(message) {
   if (message.type === "menu") {
-    showStories(message.stories);
+    showTitles(message.stories);
     if ($("menu-note").textContent === UNREACHED) $("menu-note").textContent = "";
   } else if (!game) {
     return;
+  } else if (message.type === "begins") {
+    Object.assign(game.begin, { game: message.game, key: message.key });
   } else if (message.type === "session") {
     seat(message);
   } else if (message.type === "update") {
@@ -238,18 +156,17 @@ function take(message) {
     gen = 0;
     clearWindows();
   } else if (message.type === "closed") {
-    keep(withoutGame(game.resume.session, game.resume.key));
+    keep(withoutGame(game.resume.game, game.resume.key));
     stop("The game is ended.");
   }
 }
 
-function seat({ session, word }) {
-  const key = (game.resume || game.begin).key;
-  if (game.begin || !kept().some((one) => one.session === session && one.key === key)) {
-    keep([{ session, key, title: game.title }, ...withoutGame(session, key)]);
+function seat({ game: name, key, word }) {
+  if (game.begin || !kept().some((one) => one.game === name && one.key === key)) {
+    keep([{ game: name, key, title: game.title }, ...withoutGame(name, key)]);
   }
-  game = { resume: { session, key }, title: game.title, word };
-  note(`Session ${session}`);
+  game = { resume: { game: name, key }, title: game.title, word };
+  note(`Game ${name}`);
 }
 
 function refused({ message, late }) {
@@ -281,7 +198,7 @@ function update(message) {
     gen = message.gen;
     if (message.windows) placeWindows(message.windows);
     for (const content of message.content || []) fill(content);
-    if (given || first) note(game.resume ? `Session ${game.resume.session}` : "");
+    if (given || first) note(game.resume ? `Game ${game.resume.game}` : "");
     showInput(message.input || [], message.specialinput || null);
     if (message.ended) showEnd(message.ended, message.why || message.ended);
   } else {
@@ -561,4 +478,5 @@ new ResizeObserver(() => {
   resized = setTimeout(arrange, 300);
 }).observe($("windows"));
 
-showMenu();
+window.addEventListener("hashchange", followAddress);
+if (!followAddress()) showMenu();

@@ -6,9 +6,12 @@ import asyncio
 import json
 import os
 import pathlib
+import signal
 import socket
 import subprocess
 import sys
+import tempfile
+import time
 
 try:
     import aiohttp
@@ -24,7 +27,7 @@ UNIT = {"width": 80, "height": 24, "charwidth": 1, "charheight": 1}
 sys.path.append(str(TOP / "stories"))
 
 from host import KEYS, unescaped  # noqa: E402
-from play import read_moves  # noqa: E402
+from play import read_moves  # noqa: E402, F401
 
 STYLE_NAMES = ("normal", "emphasized", "preformatted", "header", "subheader", "alert", "note", "blockquote", "input",
                "user1", "user2")  # fmt: skip
@@ -39,58 +42,81 @@ def free_port():
         return door.getsockname()[1]
 
 
-class Host:
+def greatest_memory(process):
+    """In MiB, so far."""
+    with open(f"/proc/{process.pid}/status") as file:
+        return next(int(line.split()[1]) for line in file if line.startswith("VmHWM")) / 1024
+
+
+class Program:
+    """A program that runs beside this one, and what it says on standard error."""
+
+    def begin(self, words, is_there):
+        """Starts it, and waits until it's there."""
+        self.log = tempfile.TemporaryFile()
+        self.process = subprocess.Popen(words, stdin=subprocess.DEVNULL, stdout=subprocess.DEVNULL, stderr=self.log)
+        end = time.monotonic() + 60
+        while not is_there():
+            if self.process.poll() is not None or time.monotonic() > end:
+                raise Otherwise(f"{words[0]} isn't there, and says: {self.said()!r}")
+            time.sleep(0.005)
+
+    def said(self):
+        return os.pread(self.log.fileno(), 1 << 20, 0).decode()
+
+    def kill(self):
+        """Kills it, and gives what it said."""
+        self.process.kill()
+        self.process.wait()
+        told = self.said()
+        self.log.close()
+        return told
+
+    def memory(self):
+        return greatest_memory(self.process)
+
+
+class Host(Program):
     """A host on a port of its own, which may be killed and started again."""
 
     def __init__(self, folder, stories, workers=4, program=PROGRAM):
-        self.folder, self.program, self.port = str(folder), str(program), free_port()
-        self.words = [self.program, "serve", self.folder, str(self.port), str(workers), *map(str, stories)]
+        self.folder, self.program, self.stories, self.workers = str(folder), str(program), stories, workers
         subprocess.run([self.program, "init", self.folder], check=True, capture_output=True)
+        self.port = free_port()
         self.start()
 
     def start(self):
-        self.process = subprocess.Popen(self.words, stdin=subprocess.DEVNULL, stdout=subprocess.DEVNULL,
-                                        stderr=subprocess.PIPE)  # fmt: skip
-        told = self.process.stderr.readline().decode()
-        if ":" not in told:
-            raise Otherwise(f"serve didn't say where it serves, but: {told!r}")
+        words = [self.program, "serve", self.folder, str(self.port), str(self.workers), *map(str, self.stories)]
+        self.begin(words, lambda: ":" in self.said())
 
-    def kill(self):
-        self.process.kill()
+    def move(self, folder):
+        """Stops it, copies its folder as a keeper would, and starts it there, on another port."""
+        self.process.terminate()
         self.process.wait()
-        self.process.stderr.close()
+        subprocess.run(["cp", "-a", "--sparse=always", self.folder, str(folder)], check=True)
+        self.folder, self.port = str(folder), free_port()
+        self.start()
 
 
-class Gateway:
+class Gateway(Program):
     """A gateway on a port of its own, which may be killed and started again."""
 
-    def __init__(self, host_port, *words):
-        self.port, self.host_port, self.more = free_port(), host_port, words
+    def __init__(self, hosts, *words):
+        """`hosts` is the port of one, or the file of many."""
+        self.port = free_port()
+        which = ["--host", f"127.0.0.1:{hosts}"] if isinstance(hosts, int) else ["--hosts", str(hosts)]
+        self.words = [sys.executable, str(GATEWAY), *which, "--listen", f"127.0.0.1:{self.port}", *words]
         self.start()
 
     def start(self):
-        words = [sys.executable, GATEWAY, "--host", f"127.0.0.1:{self.host_port}", "--listen", f"127.0.0.1:{self.port}"]
-        self.process = subprocess.Popen([*words, *self.more], stderr=subprocess.PIPE, text=True)
-        told = self.process.stderr.readline()
-        if "http://" not in told:
-            raise Otherwise(f"the gateway says: {told!r}")
+        self.begin(self.words, lambda: "http://" in self.said())
 
     @property
     def address(self):
         return f"http://127.0.0.1:{self.port}"
 
-    def kill(self):
-        """Kills it, and gives what it said."""
-        self.process.kill()
-        told = self.process.stderr.read()
-        self.process.wait()
-        self.process.stderr.close()
-        return told
-
-    def memory(self):
-        """Its greatest memory so far, in MiB."""
-        with open(f"/proc/{self.process.pid}/status") as file:
-            return next(int(line.split()[1]) for line in file if line.startswith("VmHWM")) / 1024
+    def read_again(self):
+        self.process.send_signal(signal.SIGHUP)
 
 
 class Player:
@@ -98,7 +124,7 @@ class Player:
 
     def __init__(self, client, address):
         self.client, self.address, self.gen, self.socket = client, address, 0, None
-        self.notes = []
+        self.notes, self.game = [], None
 
     async def connect(self):
         self.socket = await self.client.ws_connect(self.address + "/socket", origin=self.address, max_msg_size=0)
@@ -108,7 +134,7 @@ class Player:
         await self.socket.send_str(json.dumps(message))
 
     async def read(self, *kinds):
-        """The next message of these kinds. Notes and sessions are passed over."""
+        """The next message of these kinds. Notes and what tells of the game's place are passed over."""
         while True:
             message = await asyncio.wait_for(self.socket.receive(), 60)
             if message.type != aiohttp.WSMsgType.TEXT:
@@ -122,12 +148,20 @@ class Player:
                 raise Otherwise(f"error in place of {kinds}: {told['message']}")
             if told["type"] == "note" and told["text"]:
                 self.notes.append(told["text"])
+            if told["type"] in ("begins", "session"):
+                self.game, self.key = told["game"], told["key"]
             if told["type"] == "session":
-                self.session, self.word = told["session"], told["word"]
+                self.word = told["word"]
 
     async def init(self, **wanted):
         await self.send({"type": "init", "gen": self.gen, "metrics": UNIT, **wanted})
         return await self.read("update")
+
+    async def begin(self, key=None, seed=1, title=None):
+        """Begins a game, of the first title and by a key of the gateway's unless told otherwise. Where it was asked for
+        before, that game is found."""
+        more = {"key": key or self.key, "game": self.game} if self.game else {"key": key} if key else {}
+        return await self.init(begin={"title": title or self.stories[0]["title"], "seed": seed, **more})
 
     async def give(self, event):
         await self.send(event)

@@ -49,6 +49,13 @@ def number_of(message, name, most=GREATEST):
     return value
 
 
+def text_in(message, name):
+    value = message.get(name)
+    if not isinstance(value, str):
+        raise Refused(f"{name} is to be a text")
+    return value
+
+
 def key_of(message):
     value = message.get("key")
     if not isinstance(value, str) or not KEY.fullmatch(value):
@@ -146,9 +153,15 @@ class Window:
 
 
 class Show:
-    """A show, read."""
+    """A show, read. What is none is a ValueError."""
 
     def __init__(self, lines):
+        try:
+            self.read(lines)
+        except (IndexError, TypeError) as cause:
+            raise ValueError from cause
+
+    def read(self, lines):
         self.windows, self.cleared, self.runs, self.rows = [], set(), {}, {}
         self.requests, self.prompt, self.ended = [], None, None
         for line in lines:

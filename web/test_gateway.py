@@ -23,10 +23,9 @@ import tempfile
 
 import aiohttp
 import players
-from players import COTTAGE, PROGRAM, TOP, UNIT, Otherwise, Player, free_port, read_moves
+from players import COTTAGE, PROGRAM, TOP, UNIT, Otherwise, Player, read_moves
 
 KEY = "zKeyOfNobody9"
-MENU = {"type": "menu", "stories": ["The Well House"]}
 
 
 def want(what, got, wanted):
@@ -41,12 +40,12 @@ async def connected(client, gateway):
 
 
 async def until_closed(player):
-    """What comes until the socket is closed."""
+    """What comes until the socket is closed, but for what tells of the lobby."""
     got = []
     while True:
         message = await asyncio.wait_for(player.socket.receive(), 60)
         if message.type != aiohttp.WSMsgType.TEXT:
-            return got
+            return [told for told in got if told["type"] != "menu"]
         got.append(json.loads(message.data))
 
 
@@ -54,25 +53,25 @@ async def until_closed(player):
 
 async def play_alone(client, gateway, number, moves):
     player = await connected(client, gateway)
-    updates, lines = [await player.init(begin={"story": 0, "key": f"{KEY}{number}", "seed": 1})], []
+    updates, lines = [await player.begin(f"{KEY}{number}")], []
     for move in moves:
         event = players.event_of(updates[-1], move)
         lines.append(players.line_of(event))
         updates.append(await player.give(event))
     await player.close()
-    return updates, lines, player.session
+    return updates, lines, player.game
 
 
 async def many(client, gateway, count, moves, program):
     played = await asyncio.gather(*(play_alone(client, gateway, number, moves) for number in range(count)))
-    want("the sessions of all players", sorted(session for _, _, session in played), list(range(count)))
+    want("how many games there are", len({game for _, _, game in played}), count)
     shows = players.shows_of_run(COTTAGE, played[0][1], program)
-    for updates, lines, session in played:
-        want(f"the moves of session {session}", lines, played[0][1])
-        want(f"the updates of session {session}", len(updates), len(shows))
+    for updates, lines, game in played:
+        want(f"the moves of {game}", lines, played[0][1])
+        want(f"the updates of {game}", len(updates), len(shows))
         for n, (update, show) in enumerate(zip(updates, shows)):
             want("the number", update["gen"], n + 1)
-            players.want_same(f"session {session}, move {n}", update, show)
+            players.want_same(f"{game}, move {n}", update, show)
     return len(shows) * count
 
 
@@ -110,14 +109,14 @@ def bad_messages(gen, window):
     yield "another response", json.dumps({"type": "specialresponse", "gen": gen, "response": "x", "value": "x"})
     yield "a measure that is none", json.dumps({"type": "arrange", "gen": gen, "metrics": {"width": "wide"}})
     yield "a measure without end", '{"type":"arrange","gen":%d,"metrics":{"width":1e999}}' % gen
-    yield "init again", json.dumps({"type": "init", "gen": 0, "metrics": UNIT, "resume": {"session": 1, "key": "k"}})
+    yield "init again", json.dumps({"type": "init", "gen": 0, "metrics": UNIT, "resume": {"game": "host/1", "key": "k"}})
     yield "CLOSE of another number", json.dumps({"type": "close", "gen": gen + 5})
 
 
 async def bad(client, gateway, program):
     player = await connected(client, gateway)
-    first = await player.init(begin={"story": 0, "key": KEY, "seed": 1})
-    session = {"session": player.session, "key": KEY}
+    first = await player.begin(KEY)
+    session = {"game": player.game, "key": KEY}
     update = await player.give({"type": "line", "gen": 1, "window": first["input"][0]["id"], "value": "look"})
     window, count = update["input"][0]["id"], 0
     for what, text in bad_messages(update["gen"], window):
@@ -134,15 +133,20 @@ async def bad(client, gateway, program):
     await player.send({"type": "line", "gen": update["gen"], "window": window, "value": "x" * 20000})
     want("a message of 20,000 bytes", await until_closed(player), [])
 
-    for what, wanted in (("another key", {"resume": {**session, "key": "other"}}),
-                         ("a session that isn't there", {"resume": {"session": 64, "key": "k"}}),
-                         ("a key with a space", {"resume": {"session": 0, "key": "a b"}}),
-                         ("a story that isn't there", {"begin": {"story": 7, "key": "k", "seed": 1}}),
-                         ("a seed that is none", {"begin": {"story": 0, "key": "k", "seed": 1.5}}),
-                         ("nothing wanted", {})):  # fmt: skip
+    none, title = "there is no such game", player.stories[0]["title"]
+    for what, wanted, told in (
+            ("another key", {"resume": {**session, "key": "other"}}, none),
+            ("a session that isn't there", {"resume": {"game": "host/64", "key": "k"}}, none),
+            ("a host that isn't there", {"resume": {**session, "game": "elsewhere/0"}}, none),
+            ("a name that is none", {"resume": {**session, "game": "host/0/0"}}, none),
+            ("a session as a number", {"resume": {**session, "game": 0}}, "game is to be a text"),
+            ("a key with a space", {"resume": {**session, "key": "a b"}}, "a key has 1 to 32 letters and digits"),
+            ("a title that isn't there", {"begin": {"title": "No such", "seed": 1}}, "no host has this title"),
+            ("a seed that is none", {"begin": {"title": title, "seed": 1.5}}, f"seed is to be a number from 0 to {2**64 - 1}"),
+            ("nothing wanted", {}, "init is to say what it begins, resumes or watches")):  # fmt: skip
         other = await connected(client, gateway)
         await other.send({"type": "init", "gen": 0, "metrics": UNIT, **wanted})
-        await other.read("error")
+        want(f"the answer to {what}", (await other.read("error"))["message"], told)
         await other.send({"type": "line", "gen": 1, "window": 1, "value": "look"})
         want(f"a line behind {what}", (await other.read("error"))["message"], "init comes first")
         await other.close()
@@ -219,7 +223,7 @@ async def deaf(client, gateway, session, update):
 async def restart(client, gateway, host):
     """A host that is killed is waited for, and the player is told; the move is kept once."""
     player = await connected(client, gateway)
-    update = await player.init(begin={"story": 0, "key": KEY + "r", "seed": 1})
+    update = await player.begin(KEY + "r")
     host.kill()
     event = {"type": "line", "gen": 1, "window": update["input"][0]["id"], "value": "take rosemary"}
     answer = asyncio.create_task(player.give(event))
@@ -272,12 +276,15 @@ class StandIn:
         return self.server.sockets[0].getsockname()[1]
 
     async def serve(self, reader, writer):
-        try:
+        with contextlib.suppress(ConnectionError):
             while line := await reader.readline():
+                self.heard(writer, line)
                 writer.write(self.answer(line.decode().rstrip("\n")).encode())
                 await writer.drain()
-        finally:
-            writer.close()
+        writer.close()
+
+    def heard(self, link, line):
+        """A link has given a line."""
 
     def answer(self, line):
         word, s, key, *rest = line.split(" ")
@@ -285,6 +292,8 @@ class StandIn:
         if word == "OPEN":
             if game and game["line"] != line:
                 return "NO 3\n"
+            if rest[0] != "0":
+                return "NO 4\n"
             shows = [self.show(int(rest[2]), int(rest[3]), "begun")]
             self.games[s] = {"line": line, "key": key, "lines": [line], "shows": shows, "size": rest[2:4]}
             return self.told(s, 0)
@@ -332,7 +341,7 @@ async def sizes(client):
     gateway = players.Gateway(await host.start())
     try:
         player = await connected(client, gateway)
-        first = await player.init(begin={"story": 0, "key": "k", "seed": 1})
+        first = await player.begin("k")
         want("the first size", size_of(first), (80, 1))
         small = {"width": 401, "height": 300, "gridcharwidth": 10, "gridcharheight": 20, "gridmarginx": 1, "gridmarginy": 20}
         now = await player.give({"type": "arrange", "gen": 1, "metrics": small})
@@ -347,13 +356,13 @@ async def sizes(client):
         moved = await player.give({"type": "line", "gen": 2, "window": 1, "value": "go"})
         want("a move behind a size", (moved["gen"], moved["input"][0]["gen"]), (3, 3))
         other = await connected(client, gateway)
-        want("a second display", (await other.init(resume={"session": 0, "key": "k"}))["gen"], 3)
+        want("a second display", (await other.init(resume={"game": player.game, "key": "k"}))["gen"], 3)
         want("its size", size_of(await other.read("update")), (80, 1))
-        want("the moves of the session", [line.split(" ")[0] for line in host.games["0"]["lines"]], ["OPEN", "SIZE", "LINE", "SIZE"])
+        want("the moves of the session", [line.split(" ")[0] for line in host.games[player.game[5:]]["lines"]], ["OPEN", "SIZE", "LINE", "SIZE"])
         await other.close()
         back = await connected(client, gateway)
         back.gen = 4
-        want("a display that comes back", (await back.init(resume={"session": 0, "key": "k"}))["gen"], 4)
+        want("a display that comes back", (await back.init(resume={"game": player.game, "key": "k"}))["gen"], 4)
     finally:
         gateway.kill()
         host.server.close()
@@ -365,11 +374,11 @@ async def spectators(client):
     gateway = players.Gateway(await host.start(), "--rate", "1000")
     try:
         player = await connected(client, gateway)
-        update = await player.init(begin={"story": 0, "key": "k", "seed": 1})
+        update = await player.begin("k")
         updates = [update]
         for n in range(12):
             updates.append(await player.give({"type": "line", "gen": n + 1, "window": 1, "value": f"move {n}"}))
-        watched = {"watch": {"session": player.session, "word": player.word}}
+        watched = {"watch": {"game": player.game, "word": player.word}}
         crowd = [await connected(client, gateway) for _ in range(20)]
         for one in crowd:
             want("the oldest show of a spectator", (await one.init(**watched))["gen"], 6)
@@ -383,28 +392,36 @@ async def spectators(client):
         for one in crowd:
             want("the newest show", (await one.read("update"))["gen"], 14)
         wrong = await connected(client, gateway)
-        await wrong.send({"type": "init", "gen": 0, "metrics": UNIT, "watch": {"session": 0, "word": "0" * 16}})
+        await wrong.send({"type": "init", "gen": 0, "metrics": UNIT, "watch": {"game": player.game, "word": "0" * 16}})
         want("another word", [message["type"] for message in await until_closed(wrong)], ["error"])
     finally:
         gateway.kill()
         host.server.close()
 
 
-async def of_before(client, gateway):
-    """A host that answers NO 1 to SIZE and WATCH: the screen stays, and a spectator is told."""
+async def known(client, gateway):
+    """What this host knows of SIZE and WATCH. Where it answers NO 1 the screen stays, and a spectator is told."""
     player = await connected(client, gateway)
-    update = await player.init(begin={"story": 0, "key": KEY + "s", "seed": 1})
+    updates = [await player.begin(KEY + "s")]
     small = {"width": 40, "height": 12, "charwidth": 1, "charheight": 1}
     now = await player.give({"type": "arrange", "gen": 1, "metrics": small})
     if now["gen"] == 2:
-        return "this host knows SIZE"
-    want("a size on a host of before", (size_of(now), now["windows"][1]["width"]), (size_of(update), 40))
-    await player.send({"type": "line", "gen": 1, "window": update["input"][0]["id"], "value": "look"})
-    want("a move behind it", (await player.read("update"))["gen"], 2)
+        updates.append(now)
+    else:
+        want("a size on a host of before", (size_of(now), now["windows"][1]["width"]), (size_of(updates[0]), 40))
+    for text in ("look", "inventory"):
+        line = {"type": "line", "gen": updates[-1]["gen"], "window": updates[0]["input"][0]["id"], "value": text}
+        updates.append(await player.give(line))
     spectator = await connected(client, gateway)
-    await spectator.send({"type": "init", "gen": 0, "metrics": small, "watch": {"session": player.session, "word": player.word}})
-    want("a spectator of it", await until_closed(spectator), [{"type": "error", "message": "this host can't be watched"}])
-    return "this host knows neither SIZE nor WATCH"
+    await spectator.send({"type": "init", "gen": 0, "metrics": small, "watch": {"game": player.game, "word": player.word}})
+    told = await spectator.read("update", "error")
+    if told["type"] == "error":
+        want("a spectator of it", told["message"], "this host can't be watched: it has no spectators")
+    else:
+        seen = [told] + [await spectator.read("update") for _ in updates[1:]]
+        for got, wanted in zip(seen, updates):
+            want("what a spectator sees", (got["gen"], got["content"]), (wanted["gen"], wanted["content"]))
+    return f"this host knows {'SIZE' if now['gen'] == 2 else 'no SIZE'} and {'WATCH' if told['type'] == 'update' else 'no WATCH'}"
 
 
 async def run(asked, room):
@@ -422,7 +439,7 @@ async def run(asked, room):
             await pages(client, guarded)
             await sizes(client)
             await spectators(client)
-            known = await of_before(client, guarded)
+            said_known = await known(client, guarded)
     finally:
         memory = gateway.memory()
         host.kill()
@@ -431,7 +448,7 @@ async def run(asked, room):
     if KEY in said or "Error" in said:
         raise Otherwise(f"the gateways say {said!r}")
     print(f"test_gateway: {shows} updates of {asked.players} players over four links, as by `run`; {memory:.0f} MiB at most; {count} "
-          f"bad things changed no game; {known}")  # fmt: skip
+          f"bad things changed no game; {said_known}")  # fmt: skip
 
 
 def main():

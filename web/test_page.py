@@ -191,14 +191,20 @@ def resized(page, size):
     look_at_places(page, size)
 
 
-def watch(address, page, pictures):
-    """A second browser looks on. A host of before can't be watched, and the page says so."""
+def links_of(page):
+    """The links of a game: who plays comes back by the first, and others look on by the second."""
     page.find("about-open").click()
-    session, word = page.find("about-session").text, page.find("about-word").text
+    links = [page.find(name).get_attribute("value") for name in ("about-play", "about-watch")]
     page.find("about-close").click()
+    return links
+
+
+def watch(address, page):
+    """A second browser looks on, by the link alone. A host of before can't be watched, and the page says so."""
+    _, link = links_of(page)
     second = Page(address, MIDDLE, dark=True)
     try:
-        second.submit("watch", session=session, word=word)
+        second.submit("link", text=link)
         second.wait("the spectator is answered", lambda: second.gen() > 0 or "can't be watched" in second.note())
     except BaseException:
         second.driver.quit()
@@ -217,13 +223,30 @@ def see(second, game):
     return "saw each move that was looked for"
 
 
-def by_keyboard(page):
-    """Begins the game by the keyboard alone."""
+def by_keyboard(page, title):
+    """Begins a game of this title by the keyboard alone."""
     for _ in range(12):
-        if page.driver.switch_to.active_element.get_attribute("id") == "begin-key":
-            return page.type("anna7" + Keys.RETURN)
+        if page.driver.switch_to.active_element.text == title:
+            return page.type(Keys.RETURN)
         page.type(Keys.TAB)
-    raise Otherwise("the field for a key isn't reached by the keyboard")
+    raise Otherwise(f"the button of {title} isn't reached by the keyboard")
+
+
+def see_menu(page):
+    page.wait("the menu has its titles", lambda: page.driver.execute_script(
+        "return !!document.querySelector('#titles button:enabled')"))  # fmt: skip
+
+
+def by_link(page, game):
+    """The game by its link alone, in a browser that keeps nothing of it. The address doesn't show the key."""
+    link, _ = links_of(page)
+    page.driver.execute_script("localStorage.clear()")
+    page.driver.get("about:blank")
+    page.driver.get(link)
+    page.wait("the page came back by the link", page.is_ready)
+    game.look("coming back by the link")
+    if "#" in page.driver.current_url:
+        raise Otherwise(f"the address is {page.driver.current_url}")
 
 
 def play(address, host, gateway, story, program, pictures):
@@ -235,13 +258,14 @@ def play(address, host, gateway, story, program, pictures):
 
 
 def play_in(page, address, host, gateway, story, program, pictures):
-    page.wait("the menu has its stories", lambda: page.driver.execute_script("return !!document.getElementById('begin-story').value"))
+    see_menu(page)
     page.picture(pictures, "menu")
     run = Run(str(story), str(program))
-    by_keyboard(page)
+    by_keyboard(page, "The Well House")
     page.wait("the story is begun", page.is_ready)
     game = Game(page, run)
     game.look("begin")
+    key = links_of(page)[0].rpartition("/")[2]
     second, seen, moves = None, "", read_moves(TOP / "stories" / "cottage.moves")
 
     def stop_host():
@@ -261,7 +285,7 @@ def play_in(page, address, host, gateway, story, program, pictures):
             game.look("a smaller size")
         if at == 14:
             page.picture(pictures, "phone")
-            second = watch(address, page, pictures)
+            second = watch(address, page)
         if at == 16:
             game.give(MARKUP)
             if page.driver.find_elements(By.CSS_SELECTOR, "#windows img, #windows b"):
@@ -286,6 +310,7 @@ def play_in(page, address, host, gateway, story, program, pictures):
             page.wait("the page came back", page.is_ready)
             game.whole = False
             game.look("the page's coming back")
+            by_link(page, game)
         if at == 46:
             resized(page, LARGE)
         before = page.gen()
@@ -311,7 +336,7 @@ def play_in(page, address, host, gateway, story, program, pictures):
     complaints = page.complaints()
     if complaints:
         raise Otherwise(f"the browser says: {complaints}")
-    return moves_taken, seen
+    return moves_taken, seen, key
 
 
 def play_workbench(address, program):
@@ -319,11 +344,10 @@ def play_workbench(address, program):
     in grids, lines that it begins, many windows."""
     page = Page(address, LARGE)
     try:
-        page.wait("the menu has its stories", lambda: page.driver.execute_script("return !!document.getElementById('begin-story').value"))
+        see_menu(page)
         width, height = page.driver.execute_script("const size = charSize(); return [size.width, size.height]")
         page.resize((int(80 * width) + 2, int(24 * height) + 2 + BARS))
-        page.driver.execute_script("document.getElementById('begin-story').value = '1'")
-        by_keyboard(page)
+        by_keyboard(page, "The Workbench")
         page.wait("the story is begun", page.is_ready)
         run = Run(str(WORKBENCH), str(program))
         game, moves = Game(page, run), read_moves(WORKBENCH.with_suffix(".moves"))
@@ -348,12 +372,12 @@ def known_by_stand_in():
     try:
         pages.append(Page(gateway.address, LARGE))
         page = pages[0]
-        page.wait("the menu has its stories", lambda: page.driver.execute_script("return !!document.getElementById('begin-story').value"))
-        by_keyboard(page)
+        see_menu(page)
+        by_keyboard(page, "A stand-in")
         page.wait("the story is begun", page.is_ready)
         page.type("one" + Keys.RETURN)
         page.wait("a move is answered", lambda: page.gen() == 2)
-        pages.append(watch(gateway.address, page, None))
+        pages.append(watch(gateway.address, page))
         second = pages[1]
         page.type("half")
         for gen, size in ((3, PHONE), (4, MIDDLE)):
@@ -389,14 +413,14 @@ def main():
         try:
             known = known_by_stand_in()
             others = play_workbench(gateway.address, asked.program.resolve())
-            moves, seen = play(gateway.address, host, gateway, COTTAGE, asked.program.resolve(), asked.pictures)
+            moves, seen, key = play(gateway.address, host, gateway, COTTAGE, asked.program.resolve(), asked.pictures)
         except (Otherwise, WebDriverException) as cause:
             print(f"test_page: {cause}")
             return 1
         finally:
             host.kill()
             said = gateway.kill()
-    if "anna7" in said:
+    if key in said:
         print("test_page: the gateway's log has a key")
         return 1
     print(f"test_page: {moves} moves to The Well House's end and {others} to The Workbench's, as by `run`; a spectator {seen}; {known}")

@@ -88,17 +88,17 @@ keeps stories folder rows shows journal may agree kept =
         kept = kept;
       }
       | inr (r, next, shut) ↦
-        let all = journal_push rows r journal next in
-        let spells = (closed_shut (rows ++ r ∷ []) folder.journal all shut).spells in record {
-        rows = rows ++ r ∷ [];
-        journal = all;
-        spells = spells;
-        only = λ others its. one_list folder.journal others (rows ++ r ∷ []) its spells;
-        opens = inl shut;
-        never = finds.1;
-        agree = agree_more stories rows r folder.snaps journal next agree;
-        kept = all_kept_on stories rows (r ∷ []) shows kept;
-      }
+          let all = journal_push rows r journal next in
+          let spells = (closed_shut (rows ++ r ∷ []) folder.journal all shut).spells in record {
+            rows = rows ++ r ∷ [];
+            journal = all;
+            spells = spells;
+            only = λ others its. one_list folder.journal others (rows ++ r ∷ []) its spells;
+            opens = inl shut;
+            never = finds.1;
+            agree = agree_more stories rows r folder.snaps journal next agree;
+            kept = all_kept_on stories rows (r ∷ []) shows kept;
+          }
     ]
 
 -- ---- one run more

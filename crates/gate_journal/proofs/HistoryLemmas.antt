@@ -1,6 +1,6 @@
 -- Rows and marks as one list.
-use Rattle.std.proofs.Common.{◌≡◌, ℕ, suc, List, [], ◌∷◌, ◌++◌}
-use Rattle.std.proofs.Common.{length, map, refl, ap, arith, true, ◌<◌}
+use Rattle.std.proofs.Common.{◌≡◌, ℕ, zero, suc, List, [], ◌∷◌, ◌++◌}
+use Rattle.std.proofs.Common.{length, replicate, ◌+◌, ◌∙◌, refl, ap, arith, true, ◌<◌}
 use Rattle.std.specs.Prelude.{nat_lt, ◌&&◌}
 use Rattle.std.proofs.lemmas.Bool.Decides.{nat_tests}
 use Rattle.std.specs.declared.snapshot.Snapshot.{Snapshot}
@@ -65,12 +65,21 @@ length-woven (marks.Row ∷ l) [] is = absurd (omega (arith, is))
 length-woven (marks.Row ∷ l) (x ∷ rows) is = ap suc (length-woven l rows (omega (arith, is)))
 length-woven (marks.Fault a f t ∷ l) rows is = ap suc (length-woven l rows is)
 
-pub count-all : (rows : List Row)
-    → count_rows (map (λ (r : Row). marks.Row) rows) ≡ length rows
-count-all [] = refl
-count-all (r ∷ rows) = ap suc (count-all rows)
+pub one_mark_more : (n : ℕ)
+    → replicate n marks.Row ++ marks.Row ∷ [] ≡ replicate (n + 1) marks.Row
+one_mark_more n =
+    let next : suc n ≡ n + 1 = omega arith in
+    behind n ∙ ap (λ (k : ℕ). replicate k marks.Row) next
+  where
+    behind : (n : ℕ) → replicate n marks.Row ++ marks.Row ∷ [] ≡ replicate (suc n) marks.Row
+    behind zero = refl
+    behind (suc n) = ap (λ (l : List Mark). marks.Row ∷ l) (behind n)
+
+pub count-all : (n : ℕ) → count_rows (replicate n marks.Row) ≡ n
+count-all zero = refl
+count-all (suc n) = ap suc (count-all n)
 
 pub woven-all : (rows : List Row)
-    → rows_woven (map (λ (r : Row). marks.Row) rows) rows ≡ rows_kept rows
+    → rows_woven (replicate (length rows) marks.Row) rows ≡ rows_kept rows
 woven-all [] = refl
 woven-all (r ∷ rows) = ap (λ (m : List Entry). Kept r ∷ m) (woven-all rows)

@@ -1,7 +1,7 @@
 //! Rows and faults in their order (own).
 
 ghost use Rattle.std.specs.Prelude.{◌≡◌, ◌++◌, ◌<◌, ◌≤◌, [], ◌∷◌, IfOk};
-ghost use Rattle.std.specs.Prelude.{OnOk, MatchOption, length};
+ghost use Rattle.std.specs.Prelude.{OnOk, MatchOption, length, replicate};
 ghost use Rattle.std.specs.Prelude.{slice_get, None, Some};
 ghost use Rattle.std.specs.Prelude.{IsTrue, ◌↔◌};
 ghost use Rattle.gate_journal.specs.Log.{rows_of, rows_kept};
@@ -46,6 +46,17 @@ fn row_at(rows: &[Row], index: u64) -> Option<&Row>
     rows.get(index as usize)
 }
 
+/// A mark for each of so many rows.
+fn row_marks(alloc: Global, count: usize) -> Result<Vec<Mark>, AllocError>
+    ensures { IfOk result (λ v. v.items ≡ replicate count Mark.Row) }
+{
+    let mut made = Vec::new(alloc);
+    for k in 0..count {
+        made.push(Mark::Row)?;
+    }
+    Ok(made)
+}
+
 impl History {
     ghost use Rattle.std.specs.Prelude.{true};
 
@@ -53,7 +64,7 @@ impl History {
     pub fn of(alloc: Global, rows: Vec<Row>) -> Result<History, AllocError>
         ensures { IfOk result (λ h. h.list ≡ rows_kept rows.items) }
     {
-        let marks = rows.iter().map(|_| Mark::Row).collect(alloc)?;
+        let marks = row_marks(alloc, rows.len())?;
         Ok(History { rows, marks })
     }
 

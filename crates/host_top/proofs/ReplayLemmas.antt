@@ -1,15 +1,25 @@
 -- A journal's disk that is lent to be looked at, and what is written of it.
-use Rattle.std.proofs.Common.{◌≡◌, ◌⊎◌, inl, inr, List, [], ◌∷◌, refl, sym, ◌∙◌, subst, Option}
-use Rattle.std.proofs.Common.{None, Some, IsTrue}
+use Rattle.std.proofs.Common.{◌≡◌, ◌⊎◌, inl, inr, ℕ, ◌+◌, ◌<◌, List, [], ◌∷◌, ◌++◌, length, get_or}
+use Rattle.std.proofs.Common.{drop, map, refl, sym, ap, ◌∙◌, subst, Option, None, Some, IsTrue}
+use Rattle.std.proofs.Common.{arith, codes}
+use Rattle.std.proofs.Math.ListN.{drop_of_length-le}
+use Rattle.std.proofs.lemmas.Grind.{flat_map-append}
+use Rattle.std.proofs.lemmas.List.{append-nil, drop_more}
+use Rattle.std.proofs.lemmas.List.Concat.{flat_map-cons}
+use Rattle.std.proofs.lemmas.List.Folds.{flat_map-map}
+use Rattle.std.specs.List.{flat_map}
 use Rattle.disk_model.specs.Disk.{SameDisk}
 use Rattle.disk_model.specs.declared.disk.Disk.{Ghosts as DiskWords}
-use Rattle.gate_journal.specs.Faults.{Explains, HasCause, UnlessFault}
+use Rattle.gate_journal.specs.Faults.{Explains, IsNoFault}
 use Rattle.gate_journal.specs.declared.fault.JournalFault.{JournalFault}
 use Rattle.gate_journal.specs.declared.fault.JournalFault.TheVariants as fault
-use Rattle.line_talk.specs.Streams.{SourceState, SinkState}
+use Rattle.line_talk.specs.Streams.{SourceState, SinkState, Wrote}
 use Rattle.line_talk.specs.declared.sink.Stop.{Stop}
 use Rattle.line_talk.specs.declared.sink.Stop.TheVariants as stop
 use Rattle.line_talk.proofs.StreamsLemmas.{gave_none}
+use Rattle.gate_journal.specs.declared.row.Row.{Row}
+use Rattle.story_replay.specs.Games.{games_of}
+use Rattle.story_replay.specs.Text.{game_text, transcript}
 use Rattle.story_run.specs.declared.story.Story.{Story}
 use Rattle.host_top.specs.Borrowed.{Lending, journal_in, loan_by}
 use Rattle.host_top.specs.Files.{IsLent, IsLentFrom, Lends, OutsideState, TakesDiskBack, Told}
@@ -21,12 +31,55 @@ use Rattle.host_top.specs.Status.{status_of_stop}
 use Rattle.host_top.specs.declared.loan.Loan.{Loan}
 use Rattle.host_top.specs.declared.status.Status.{Status}
 use Rattle.host_top.specs.declared.status.Status.TheVariants.{Done, BadFolder, DiskFault}
-use Rattle.line_talk.specs.Writing.{IsPartOf}
+use Rattle.line_talk.specs.Writing.{IsPartOf, WroteUpTo}
 use Rattle.host_top.proofs.BorrowLemmas.{lent_loan}
 use Rattle.host_top.proofs.LendingLemmas.{returned_one}
 use Rattle.host_top.proofs.LoansLemmas.{counts_one, counts_out}
 use Rattle.host_top.proofs.ServedLemmas.{where_told, WroteSome}
 use Rattle.host_top.proofs.WrittenLemmas.{never_begun}
+
+-- ---- texts, one after the other
+
+pub upto_all : {old new : SinkState} {text : List ℕ} → WroteUpTo old new text []
+    → Wrote old new text
+upto_all {old} {new} {text} u =
+    subst (λ (t : List ℕ). Wrote old new t) (sym (u.split ∙ append-nil u.part)) u.wrote
+
+pub texts_behind : {A : Type 0} (f : A → List ℕ) (xs : List A) (i : ℕ) (x : A) → i < length xs
+    → x ≡ get_or xs i x
+    → flat_map f (drop i xs) ≡ f x ++ flat_map f (drop (i + 1) xs)
+texts_behind {A} f xs i x within is =
+    ap (flat_map f) (drop_more xs i x within
+    ∙ ap (λ (y : A). y ∷ drop (i + 1) xs) (sym is))
+    ∙ flat_map-cons f x (drop (i + 1) xs)
+
+pub none_behind : {A : Type 0} (f : A → List ℕ) (xs : List A) (i : ℕ) → (i < length xs → ⊥)
+    → flat_map f (drop i xs) ≡ []
+none_behind f xs i past =
+    ap (flat_map f) (drop_of_length-le xs (omega (arith, past)))
+
+pub games_behind : {A : Type 0} (f : A → List ℕ) (rest some more : List A)
+    → rest ≡ some ++ more
+    → flat_map f rest ≡ flat_map (λ (t : List ℕ). t) (map f some) ++ flat_map f more
+games_behind f rest some more is =
+    ap (flat_map f) is ∙ flat_map-append f some more
+    ∙ ap (λ (l : List ℕ). l ++ flat_map f more) (sym (flat_map-map (λ (t : List ℕ). t) f some))
+
+-- ---- the parts of a transcript
+
+pub transcript_parts : (stories : List Story) (rows : List Row)
+    → transcript stories rows ≡ flat_map (game_text stories) (games_of rows) ++ codes "done\n"
+unfolding transcript
+transcript_parts stories rows = refl
+
+-- ---- a disk that failed, or one that reads as before
+
+pub seen_unless : (why : JournalFault) (P : Type 0) (output new : SinkState) (status : Status)
+    → SaysFault why output new status → (IsNoFault why → P) → (status ≡ DiskFault) ⊎ P
+seen_unless fault.NotJournal P output new status says f = inr (f tt)
+seen_unless (fault.Corrupt place) P output new status says f = inr (f tt)
+seen_unless (fault.DiskFault counts) P output new status says f = inl says.0
+seen_unless fault.NoMemory P output new status says f = inr (f tt)
 
 module _ {D : Type 0} (disks : DiskWords D) where
   -- ---- the disk is lent, and put back

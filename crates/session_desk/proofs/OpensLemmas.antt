@@ -5,6 +5,7 @@ use Rattle.std.proofs.Common.{Ok, Err, refl, sym, ap, subst, ◌∙◌, ne_eqb, 
 use Rattle.std.specs.Prelude.{IfOk}
 use Rattle.std.specs.List.{Contains, last_or}
 use Rattle.std.proofs.lemmas.Bool.Decides.{nat_tests}
+use Rattle.std.proofs.lemmas.Option.{same_Some}
 use Rattle.std.proofs.lemmas.List.{append-nil, length-append}
 use Rattle.std.proofs.lemmas.List.Elements.{Contains-append_cases}
 use Rattle.turn_cell.specs.History.{Continues, Each, IsForeign}
@@ -170,7 +171,7 @@ AreUpToLast places =
 up_to_last : (opens : Bool) (places : List ℕ) (p : ℕ) → AreBelow places p → AreUpToLast places
     → AreUpToLast (places ++ cond opens (p ∷ []) [])
 up_to_last true places p below up last is x has =
-    let at : p ≡ last = some_is p last (sym (last-append None places p) ∙ is) in
+    let at : p ≡ last = same_Some p last (sym (last-append None places p) ∙ is) in
     ⊎_elim (λ old. let lt = below x old in omega (arith, lt, at))
     (λ new. let same = contains_one p x new in omega (arith, same, at))
     (Contains-append_cases places (p ∷ []) x has)

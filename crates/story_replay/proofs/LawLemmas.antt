@@ -41,21 +41,20 @@ module _ (s : ℕ) (r : Row) (after : List Row) (own : (r.session == s) ≡ true
   runs_on : (before : List Row) → game_of (up_to s before r) ≡ []
       → take (length (up_to s before r)) (commands_from s (before ++ r ∷ after))
       ≡ up_to s before r
+
   runs_by : (b : Row) (before : List Row) (mine opens : Bool) → (b.session == s) ≡ mine
       → is_open b.command ≡ opens → game_of (up_to s (b ∷ before) r) ≡ []
       → take (length (up_to s (b ∷ before) r)) (commands_from s (b ∷ before ++ r ∷ after))
       ≡ up_to s (b ∷ before) r
-
   runs_on [] none = last_runs_on (is_open r.command) refl none
   runs_on (b ∷ before) none = runs_by b before (b.session == s) (is_open b.command) refl refl none
-
-  runs_by b before false opens mine open none = rw mine (runs_on before (rw mine at none))
-  runs_by b before true true mine open none =
+  runs_by b before false opens mine opened none = rw mine (runs_on before (rw mine at none))
+  runs_by b before true true mine opened none =
       later_some b.command (up_to s before r) (game_of (up_to s before r))
-      (rw (mine, open) at none)
-  runs_by b before true false mine open none =
-      rw (mine, open) (ap (λ (l : List Command). b.command ∷ l)
-      (runs_on before (sym (later_none (game_of (up_to s before r))) ∙ (rw (mine, open) at none))))
+      (rw (mine, opened) at none)
+  runs_by b before true false mine opened none =
+      rw (mine, opened) (ap (λ (l : List Command). b.command ∷ l)
+      (runs_on before (sym (later_none (game_of (up_to s before r))) ∙ (rw (mine, opened) at none))))
 
   -- ---- a game of the whole begins so
 
@@ -79,17 +78,16 @@ module _ (s : ℕ) (r : Row) (after : List Row) (own : (r.session == s) ≡ true
 
   begins : (before : List Row) → 0 < length (game_of (up_to s before r))
       → Begins (before ++ r ∷ after) (game_of (up_to s before r))
+
   begins_by : (b : Row) (before : List Row) (mine opens : Bool) (g : List Command)
       → (b.session == s) ≡ mine → is_open b.command ≡ opens
       → game_of (up_to s before r) ≡ g → 0 < length (game_of (up_to s (b ∷ before) r))
       → Begins (b ∷ before ++ r ∷ after) (game_of (up_to s (b ∷ before) r))
-
   begins [] some = last_begins (is_open r.command) refl some
   begins (b ∷ before) some =
       begins_by b before (b.session == s) (is_open b.command) (game_of (up_to s before r)) refl refl
       refl some
-
-  begins_by b before false opens g mine open is some =
+  begins_by b before false opens g mine opened is some =
       let more = begins before (rw mine at some) in
       record {
         at = more.at;
@@ -97,32 +95,32 @@ module _ (s : ℕ) (r : Row) (after : List Row) (own : (r.session == s) ≡ true
         stands = rw mine more.stands;
         begins = rw mine more.begins;
       }
-  begins_by b before true false g mine open is some =
-      let more = begins before (rw (mine, open, later_none (game_of (up_to s before r))) at some) in
+  begins_by b before true false g mine opened is some =
+      let more = begins before (rw (mine, opened, later_none (game_of (up_to s before r))) at some) in
       record {
         at = more.at;
         game = more.game;
-        stands = rw (mine, open) more.stands;
-        begins = rw (mine, open, later_none (game_of (up_to s before r))) more.begins;
+        stands = rw (mine, opened) more.stands;
+        begins = rw (mine, opened, later_none (game_of (up_to s before r))) more.begins;
       }
-  begins_by b before true true [] mine open is some = record {
+  begins_by b before true true [] mine opened is some = record {
     at = 0;
     game = game_from b (before ++ r ∷ after);
-    stands = rw (mine, open) refl;
+    stands = rw (mine, opened) refl;
     begins =
         let same : b.session ≡ s = grind (arith, nat_tests, mine) in
-        rw (mine, open, is) (ap (λ (l : List Command). b.command ∷ l)
+        rw (mine, opened, is) (ap (λ (l : List Command). b.command ∷ l)
         (ap (λ (n : ℕ). take (length (up_to s before r)) (commands_from n (before ++ r ∷ after)))
         same ∙ runs_on before is));
   }
-  begins_by b before true true (c ∷ cs) mine open is some =
+  begins_by b before true true (c ∷ cs) mine opened is some =
       let more = begins before (rw is (omega arith)) in
       let whole : game_of (up_to s (b ∷ before) r) ≡ game_of (up_to s before r) =
-      rw (mine, open, is) refl in
+      rw (mine, opened, is) refl in
       record {
         at = suc more.at;
         game = more.game;
-        stands = rw (mine, open) more.stands;
+        stands = rw (mine, opened) more.stands;
         begins = rw whole more.begins;
       }
 

@@ -2,8 +2,8 @@
 #![tactic(auto)]
 
 mod shows;
-mod watch;
+mod spectator;
 mod word;
 
-pub use watch::watch;
+pub use spectator::watch;
 pub use word::word_of;

@@ -24,7 +24,8 @@ pub serve_links-status-requires-clause-roots : goal.serve_links-status-requires-
 serve_links-status-requires-clause-roots g c = search (rules, are_roots)
 
 pub serve_links-status-requires-clause-held : goal.serve_links-status-requires-clause-held
-serve_links-status-requires-clause-held g c = lone_held _ c.in-Ok.ensures.ok.2.alone
+serve_links-status-requires-clause-held g c =
+    λ κ within. lone_held c.in-Ok.opened.1 c.in-Ok.ensures.ok.2.alone
 
 pub returns-clause-value : goal.returns-clause-value
 returns-clause-value g c = λ input. rw c.in-Ok.ensures.silent (links_served g.D.Disk _

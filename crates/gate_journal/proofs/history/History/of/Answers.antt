@@ -1,5 +1,4 @@
-use Rattle.std.proofs.Common.{◌≡◌, ◌∙◌, ap, List, map, rules}
-use Rattle.gate_journal.specs.declared.row.Row.{Row}
+use Rattle.std.proofs.Common.{◌≡◌, ◌∙◌, ap, List, replicate, arith}
 use Rattle.gate_journal.specs.declared.mark.Mark.{Mark}
 use Rattle.gate_journal.specs.declared.mark.Mark.TheVariants as marks
 use Rattle.gate_journal.specs.History.{rows_woven, count_rows}
@@ -8,12 +7,11 @@ use Rattle.gate_journal.proofs.history.History.of.Goals as goal
 
 pub invariant_of-result : goal.invariant_of-result
 invariant_of-result c =
-    let all : c.in_ok-marks.marks.items ≡ map (λ (r : Row). marks.Row) c.args.rows.items =
-    search rules in
-    ap count_rows all ∙ count-all c.args.rows.items
+    ap count_rows c.in_ok-marks.ensures ∙ count-all c.len.result ∙ (omega (arith, c.len.ensures))
 
 pub returns : goal.returns
 returns c =
-    let all : c.in_ok-marks.marks.items ≡ map (λ (r : Row). marks.Row) c.args.rows.items =
-    search rules in
-    ap (λ (l : List Mark). rows_woven l c.args.rows.items) all ∙ woven-all c.args.rows.items
+    ap (λ (l : List Mark). rows_woven l c.args.rows.items) c.in_ok-marks.ensures
+    ∙ ap (λ (n : _). rows_woven (replicate n marks.Row) c.args.rows.items)
+    (omega (arith, c.len.ensures))
+    ∙ woven-all c.args.rows.items

@@ -64,12 +64,12 @@ invariant_of-self-in-Ok-write_row g c =
     let size : c.len.result ≡ length past = search rules in
     let now =
     sound_row c.self.view_is c.self.invariant.0 c.requires.stands c.in-Ok.ensures.triple
-          c.settle.ensures.ran.same.telling c.fill-row.ensures.row bytes c.in-Ok.ensures.gate
-          c.in-Ok-write_row.ensures.triple c.write_row.ensures.ran.same.telling
-          c.note_row.ensures (c.write_row.ensures.ran.same.size ∙ c.settle.ensures.ran.same.size)
-          (omega (arith, c.in-Ok.ensures.ran.counts, c.in-Ok-write_row.ensures.ran.counts))
-          (ap (λ (k : ℕ). c.self.inside.end + k) size)
-          (omega (arith, c.in-Ok-write_row.ensures.fits, c.write_row.ensures.ran.same.size, size))
+    c.settle.ensures.ran.same.telling c.fill-row.ensures.row bytes c.in-Ok.ensures.gate
+    c.in-Ok-write_row.ensures.triple c.write_row.ensures.ran.same.telling
+    c.note_row.ensures (c.write_row.ensures.ran.same.size ∙ c.settle.ensures.ran.same.size)
+    (omega (arith, c.in-Ok.ensures.ran.counts, c.in-Ok-write_row.ensures.ran.counts))
+    (ap (λ (k : ℕ). c.self.inside.end + k) size)
+    (omega (arith, c.in-Ok-write_row.ensures.fits, c.write_row.ensures.ran.same.size, size))
     in (
       now,
       since_more c.self.view_is c.self.invariant.1 c.requires.stands _ _ c.note_row.ensures
@@ -97,29 +97,29 @@ returns-in-Err-Before-clause-crash g c =
 
 pub invariant_of-self-in-Err-Before : goal.invariant_of-self-in-Err-Before
 invariant_of-self-in-Err-Before g c =
-  let now =
-  sound_before c.self.view_is c.self.invariant.0 c.requires.stands c.in-Ok.ensures.triple
-      c.settle.ensures.ran.same.telling _ c.in-Ok.ensures.gate
-      (c.in-Err-Before.ensures.before (search rules))
-      c.note_fault-fault-in-Err-Before.ensures.entry
-      (c.write_row.ensures.ran.same.size ∙ c.settle.ensures.ran.same.size)
-      c.faults-from.ensures.value
-      c.faults-to-in-Err-Before.ensures.value c.in-Ok.ensures.ran.counts
-      c.in-Err-Before.ensures.ran.counts
-  in (
-  now,
-  since_more c.self.view_is c.self.invariant.1 c.requires.stands _ _
-      c.note_fault-fault-in-Err-Before.ensures.entry
-      (row_is c.self.view_is c.self.invariant.0 c.requires.stands c.fill-row.ensures.row)
-      c.note-in-Err-Before.ensures
-      (unsure_none _ c.in-Ok.ensures.gate)
-      (same_then c.settle.ensures.ran.same c.write_row.ensures.ran.same)
-      (returns-in-Err-Before-clause-crash g c)
-      (asked_row c.self.view_is c.self.invariant.1 c.requires.stands _ _ _ _ c.self.invariant.0.ends
-      c.fill-row.ensures.row (c.deref.ensures.value ∙ c.fill-row.ensures.bytes)
-      c.settle.ensures.ran.asked c.write_row.ensures.ran.asked)
-      (g.met.D.Disk.only_now c.write_row.new.disk) now,
-)
+    let now =
+    sound_before c.self.view_is c.self.invariant.0 c.requires.stands c.in-Ok.ensures.triple
+    c.settle.ensures.ran.same.telling _ c.in-Ok.ensures.gate
+    (c.in-Err-Before.ensures.before (search rules))
+    c.note_fault-fault-in-Err-Before.ensures.entry
+    (c.write_row.ensures.ran.same.size ∙ c.settle.ensures.ran.same.size)
+    c.faults-from.ensures.value
+    c.faults-to-in-Err-Before.ensures.value c.in-Ok.ensures.ran.counts
+    c.in-Err-Before.ensures.ran.counts
+    in (
+      now,
+      since_more c.self.view_is c.self.invariant.1 c.requires.stands _ _
+          c.note_fault-fault-in-Err-Before.ensures.entry
+          (row_is c.self.view_is c.self.invariant.0 c.requires.stands c.fill-row.ensures.row)
+          c.note-in-Err-Before.ensures
+          (unsure_none _ c.in-Ok.ensures.gate)
+          (same_then c.settle.ensures.ran.same c.write_row.ensures.ran.same)
+          (returns-in-Err-Before-clause-crash g c)
+          (asked_row c.self.view_is c.self.invariant.1 c.requires.stands _ _ _ _ c.self.invariant.0.ends
+          c.fill-row.ensures.row (c.deref.ensures.value ∙ c.fill-row.ensures.bytes)
+          c.settle.ensures.ran.asked c.write_row.ensures.ran.asked)
+          (g.met.D.Disk.only_now c.write_row.new.disk) now,
+    )
 
 -- and at its gate
 pub returns-clause-rows : goal.returns-clause-rows
@@ -133,33 +133,33 @@ returns-clause-crash g c =
 
 pub invariant_of-self-in-Err-AtGate : goal.invariant_of-self-in-Err-AtGate
 invariant_of-self-in-Err-AtGate g c =
-  let now =
-  sound_at_gate c.self.view_is c.self.invariant.0 c.requires.stands c.in-Ok.ensures.triple
-      c.settle.ensures.ran.same.telling c.fill-row.ensures.row
-      (c.deref.ensures.value ∙ c.fill-row.ensures.bytes) c.note_uncertain.ensures
-      (c.in-Err-AtGate.ensures.at_gate (search rules))
-      c.note_fault-fault-in-Err-AtGate.ensures.entry
-      (c.write_row.ensures.ran.same.size ∙ c.settle.ensures.ran.same.size)
-      c.faults-from.ensures.value
-      c.faults-to-in-Err-AtGate.ensures.value c.in-Ok.ensures.ran.counts
-      c.in-Err-AtGate.ensures.ran.counts
-  in (
-  now,
-  since_more c.self.view_is c.self.invariant.1 c.requires.stands _ _
-      c.note_fault-fault-in-Err-AtGate.ensures.entry
-      (row_is c.self.view_is c.self.invariant.0 c.requires.stands c.fill-row.ensures.row)
-      c.note-in-Err-AtGate.ensures
-      (unsure_now c.self.view_is c.self.invariant.1 c.requires.stands c.fill-row.result.0 _ _
-      c.note_fault-fault-in-Err-AtGate.ensures.entry c.note_uncertain.ensures)
-      (same_then c.settle.ensures.ran.same c.write_row.ensures.ran.same)
-      (crash_row c.self.view_is c.self.invariant.0 c.requires.stands c.in-Ok.ensures.triple
-      c.settle.ensures.ran.same.telling c.fill-row.ensures.row
-      (c.deref.ensures.value ∙ c.fill-row.ensures.bytes) c.write_row.ensures.triple)
-      (asked_row c.self.view_is c.self.invariant.1 c.requires.stands _ _ _ _ c.self.invariant.0.ends
-      c.fill-row.ensures.row (c.deref.ensures.value ∙ c.fill-row.ensures.bytes)
-      c.settle.ensures.ran.asked c.write_row.ensures.ran.asked)
-      (g.met.D.Disk.only_now c.write_row.new.disk) now,
-)
+    let now =
+    sound_at_gate c.self.view_is c.self.invariant.0 c.requires.stands c.in-Ok.ensures.triple
+    c.settle.ensures.ran.same.telling c.fill-row.ensures.row
+    (c.deref.ensures.value ∙ c.fill-row.ensures.bytes) c.note_uncertain.ensures
+    (c.in-Err-AtGate.ensures.at_gate (search rules))
+    c.note_fault-fault-in-Err-AtGate.ensures.entry
+    (c.write_row.ensures.ran.same.size ∙ c.settle.ensures.ran.same.size)
+    c.faults-from.ensures.value
+    c.faults-to-in-Err-AtGate.ensures.value c.in-Ok.ensures.ran.counts
+    c.in-Err-AtGate.ensures.ran.counts
+    in (
+      now,
+      since_more c.self.view_is c.self.invariant.1 c.requires.stands _ _
+          c.note_fault-fault-in-Err-AtGate.ensures.entry
+          (row_is c.self.view_is c.self.invariant.0 c.requires.stands c.fill-row.ensures.row)
+          c.note-in-Err-AtGate.ensures
+          (unsure_now c.self.view_is c.self.invariant.1 c.requires.stands c.fill-row.result.0 _ _
+          c.note_fault-fault-in-Err-AtGate.ensures.entry c.note_uncertain.ensures)
+          (same_then c.settle.ensures.ran.same c.write_row.ensures.ran.same)
+          (crash_row c.self.view_is c.self.invariant.0 c.requires.stands c.in-Ok.ensures.triple
+          c.settle.ensures.ran.same.telling c.fill-row.ensures.row
+          (c.deref.ensures.value ∙ c.fill-row.ensures.bytes) c.write_row.ensures.triple)
+          (asked_row c.self.view_is c.self.invariant.1 c.requires.stands _ _ _ _ c.self.invariant.0.ends
+          c.fill-row.ensures.row (c.deref.ensures.value ∙ c.fill-row.ensures.bytes)
+          c.settle.ensures.ran.asked c.write_row.ensures.ran.asked)
+          (g.met.D.Disk.only_now c.write_row.new.disk) now,
+    )
 
 -- which device call failed
 pub returns-in_default-clause-stage : goal.returns-in_default-clause-stage

@@ -33,5 +33,5 @@ returns g c =
           c.args.store
           all c.in_ok-desk.ensures.value c.requires.pass c.requires.rows c.last_open-place.ensures
           c.open-saves.ensures.value c.of-given.ensures c.of-first.ensures
-    c.is_made-made.ensures.images).1;
+          c.is_made-made.ensures.images).1;
     }
