@@ -17,6 +17,8 @@ use Rattle.story_run.specs.declared.story.Story.{Story}
 use Rattle.story_replay.specs.Text.{game_body, game_text, shows_below, shown, transcript}
 use Rattle.story_replay.specs.declared.game.Game.{Game}
 use Rattle.line_words.specs.Reply.{print_reply, print_show}
+use Rattle.line_words.specs.declared.reply.No.TheVariants.{Changed}
+use Rattle.line_words.specs.declared.reply.Reply.TheVariants.{No}
 use Rattle.story_replay.proofs.GameLemmas.{games_unnumbered}
 use Rattle.std.specs.List.{flat_map}
 
@@ -79,7 +81,8 @@ one_show stories game n used world body old text new text_is new_is body_is used
 
 -- what stands in the place of all shows
 pub other_body : (stories : List Story) (game : Game)
-    → is_other_story stories game.commands ≡ true → codes "NO 13\n" ≡ game_body stories game
+    → is_other_story stories game.commands ≡ true
+    → print_reply (No Changed) ≡ game_body stories game
 unfolding game_body
 other_body stories game other = rw other refl
 

@@ -6,4 +6,5 @@ pub returns-then-is_other_story : goal.returns-then-is_other_story
 returns-then-is_other_story c =
     let other =
     sym (rw c.as_slice.ensures at c.is_other_story.ensures) ∙ c.if-is_other_story.true in
-    rw (← other_body c.args.stories.now c.args.game.now other) c.extend_from_slice.ensures.items
+    rw (c.deref.ensures.value ∙ c.in_ok-line.ensures
+    ∙ other_body c.args.stories.now c.args.game.now other) at c.extend_from_slice.ensures.items
