@@ -1,7 +1,8 @@
 -- The text of a game, one show after the other.
 use Rattle.std.proofs.Common.{◌≡◌, ℕ, zero, suc, ◌+◌, ◌<◌, List, [], ◌∷◌, ◌++◌, length, get_or}
 use Rattle.std.proofs.Common.{take, map, refl, sym, ap, ◌∙◌, append_assoc, arith, Option, Some}
-use Rattle.std.proofs.Common.{Bool, true, Result, Ok, Err, IfOk, MatchResult, codes}
+use Rattle.std.specs.Prelude.{is_ok}
+use Rattle.std.proofs.Common.{cond, OnOk, Bool, true, Result, Ok, Err, IfOk, MatchResult, codes}
 use Rattle.std.proofs.lemmas.List.{take_more}
 use Rattle.std.specs.List.{AllZip, Contains}
 use Rattle.gate_journal.specs.Scan.{unnumbered}
@@ -78,6 +79,12 @@ one_show stories game n used world body old text new text_is new_is body_is used
     (body_is ∙ ap (λ (u : Bool). show_while u world) used_is
     ∙ ap (show_while (is_in_use (take (n + 1) game.commands))) world_is)
     ∙ shows_more stories game n old text text_is
+
+-- a text that grew where that was answered by Ok
+pub extended : {T E : Type 0} (r : Result T E) (new more old : List ℕ)
+    → new ≡ cond (is_ok r) more old → OnOk r (new ≡ more)
+extended (Ok v) new more old is = is
+extended (Err e) new more old is = tt
 
 -- what stands in the place of all shows
 pub other_body : (stories : List Story) (game : Game)
