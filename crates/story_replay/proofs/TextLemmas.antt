@@ -1,7 +1,8 @@
 -- The text of a game, one show after the other.
 use Rattle.std.proofs.Common.{◌≡◌, ℕ, zero, suc, ◌+◌, ◌<◌, List, [], ◌∷◌, ◌++◌, length, get_or}
 use Rattle.std.proofs.Common.{take, map, refl, sym, ap, ◌∙◌, append_assoc, arith, Option, Some}
-use Rattle.std.proofs.Common.{Bool, true, Result, Ok, Err, IfOk, MatchResult, codes}
+use Rattle.std.specs.Prelude.{is_ok}
+use Rattle.std.proofs.Common.{cond, OnOk, Bool, true, Result, Ok, Err, IfOk, MatchResult, codes}
 use Rattle.std.proofs.lemmas.List.{take_more}
 use Rattle.std.specs.List.{AllZip, Contains}
 use Rattle.gate_journal.specs.Scan.{unnumbered}
@@ -17,6 +18,8 @@ use Rattle.story_run.specs.declared.story.Story.{Story}
 use Rattle.story_replay.specs.Text.{game_body, game_text, shows_below, shown, transcript}
 use Rattle.story_replay.specs.declared.game.Game.{Game}
 use Rattle.line_words.specs.Reply.{print_reply, print_show}
+use Rattle.line_words.specs.declared.reply.No.TheVariants.{Changed}
+use Rattle.line_words.specs.declared.reply.Reply.TheVariants.{No}
 use Rattle.story_replay.proofs.GameLemmas.{games_unnumbered}
 use Rattle.std.specs.List.{flat_map}
 
@@ -77,9 +80,16 @@ one_show stories game n used world body old text new text_is new_is body_is used
     ∙ ap (show_while (is_in_use (take (n + 1) game.commands))) world_is)
     ∙ shows_more stories game n old text text_is
 
+-- a text that grew where that was answered by Ok
+pub extended : {T E : Type 0} (r : Result T E) (new more old : List ℕ)
+    → new ≡ cond (is_ok r) more old → OnOk r (new ≡ more)
+extended (Ok v) new more old is = is
+extended (Err e) new more old is = tt
+
 -- what stands in the place of all shows
 pub other_body : (stories : List Story) (game : Game)
-    → is_other_story stories game.commands ≡ true → codes "NO 13\n" ≡ game_body stories game
+    → is_other_story stories game.commands ≡ true
+    → print_reply (No Changed) ≡ game_body stories game
 unfolding game_body
 other_body stories game other = rw other refl
 

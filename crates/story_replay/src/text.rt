@@ -8,6 +8,7 @@ ghost use Rattle.story_replay.specs.Text.{game_body, game_line, game_text, shows
 
 use crate::game::Game;
 use gate_journal::Command;
+use line_words::{No, Reply, write_reply};
 use session_core::{is_in_use, is_other_story, turn_on, world_of};
 use std::alloc::{AllocError, Global};
 use std::marker::Brand;
@@ -142,7 +143,8 @@ fn push_body(
     ensures { OnOk result (text.new.items ≡ text.old.items ++ game_body stories.now game.now) }
 {
     if is_other_story(stories, game.commands.as_slice()) {
-        return text.extend_from_slice(b"NO 13\n");
+        let line = write_reply(alloc, &Reply::No(No::Changed))?;
+        return text.extend_from_slice(&line);
     }
     push_shows_uncounted::<Brand>(alloc, stories, game, Blank::new(1), text)
 }
