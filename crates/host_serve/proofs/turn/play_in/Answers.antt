@@ -1,9 +1,19 @@
-use Rattle.std.proofs.Common.{ap, sym, subst, ◌∙◌}
+use Rattle.std.proofs.Common.{ap, sym, subst, ◌∙◌, Some, inl, inr, ⊎_elim, ◌++◌, List, [], ◌∷◌, rules}
+use Rattle.session_core.specs.declared.entry.Entry.{Entry}
 use Rattle.session_desk.specs.Shared.{DeskTag}
 use Rattle.session_desk.specs.Sound.{IsSoundDesk}
 use Rattle.host_serve.proofs.ListLemmas.{same_some}
 use Rattle.host_serve.proofs.TurnLemmas.{turns_in}
 use Rattle.host_serve.proofs.turn.play_in.Goals as goal
+
+pub leave-requires-clause-value : goal.leave-requires-clause-value
+leave-requires-clause-value g c = (
+  (search rules),
+  ⊎_elim (λ same. inl (search rules))
+      (λ one.
+      inr (one.0, (search rules), (search rules)))
+      c.answer-reply.ensures.adds,
+)
 
 pub returns-clause-value : goal.returns-clause-value
 returns-clause-value g c =
