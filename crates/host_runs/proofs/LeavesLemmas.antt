@@ -8,7 +8,6 @@ use Rattle.disk_model.specs.Disk.{EachImage}
 use Rattle.disk_model.specs.declared.disk.Disk.{Ghosts as DiskWords}
 use Rattle.gate_journal.specs.Log.{EndsInFaultOf, MayOpen, MaySpell, rows_of}
 use Rattle.gate_journal.specs.Rows.{IsJournal, SpellsRows}
-use Rattle.gate_journal.specs.declared.command.Command.{Command}
 use Rattle.gate_journal.specs.declared.entry.Entry.{Entry as JournalEntry}
 use Rattle.gate_journal.specs.declared.entry.Entry.TheVariants.{Kept, Faulted}
 use Rattle.gate_journal.specs.declared.row.Row.{Row}
