@@ -1,6 +1,8 @@
 -- A journal's disk that is lent to be looked at, and what is written of it.
 use Rattle.std.proofs.Common.{◌≡◌, ◌⊎◌, inl, inr, ℕ, ◌+◌, ◌<◌, List, [], ◌∷◌, ◌++◌, length, get_or}
 use Rattle.std.proofs.Common.{drop, map, refl, sym, ap, ◌∙◌, subst, Option, None, Some, IsTrue}
+use Rattle.std.proofs.Common.{arith, codes}
+use Rattle.std.proofs.Math.ListN.{drop_of_length-le}
 use Rattle.std.proofs.lemmas.Grind.{flat_map-append}
 use Rattle.std.proofs.lemmas.List.{append-nil, drop_more}
 use Rattle.std.proofs.lemmas.List.Concat.{flat_map-cons}
@@ -15,6 +17,9 @@ use Rattle.line_talk.specs.Streams.{SourceState, SinkState, Wrote}
 use Rattle.line_talk.specs.declared.sink.Stop.{Stop}
 use Rattle.line_talk.specs.declared.sink.Stop.TheVariants as stop
 use Rattle.line_talk.proofs.StreamsLemmas.{gave_none}
+use Rattle.gate_journal.specs.declared.row.Row.{Row}
+use Rattle.story_replay.specs.Games.{games_of}
+use Rattle.story_replay.specs.Text.{game_text, transcript}
 use Rattle.story_run.specs.declared.story.Story.{Story}
 use Rattle.host_top.specs.Borrowed.{Lending, journal_in, loan_by}
 use Rattle.host_top.specs.Files.{IsLent, IsLentFrom, Lends, OutsideState, TakesDiskBack, Told}
@@ -48,12 +53,24 @@ texts_behind {A} f xs i x within is =
     ∙ ap (λ (y : A). y ∷ drop (i + 1) xs) (sym is))
     ∙ flat_map-cons f x (drop (i + 1) xs)
 
+pub none_behind : {A : Type 0} (f : A → List ℕ) (xs : List A) (i : ℕ) → (i < length xs → ⊥)
+    → flat_map f (drop i xs) ≡ []
+none_behind f xs i past =
+    ap (flat_map f) (drop_of_length-le xs (omega (arith, past)))
+
 pub games_behind : {A : Type 0} (f : A → List ℕ) (rest some more : List A)
     → rest ≡ some ++ more
     → flat_map f rest ≡ flat_map (λ (t : List ℕ). t) (map f some) ++ flat_map f more
 games_behind f rest some more is =
     ap (flat_map f) is ∙ flat_map-append f some more
     ∙ ap (λ (l : List ℕ). l ++ flat_map f more) (sym (flat_map-map (λ (t : List ℕ). t) f some))
+
+-- ---- the parts of a transcript
+
+pub transcript_parts : (stories : List Story) (rows : List Row)
+    → transcript stories rows ≡ flat_map (game_text stories) (games_of rows) ++ codes "done\n"
+unfolding transcript
+transcript_parts stories rows = refl
 
 -- ---- a disk that failed, or one that reads as before
 

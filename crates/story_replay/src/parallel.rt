@@ -27,7 +27,7 @@ pub fn texts<R: Threads + Sync>(
         .with_min_len(1)
         .map(
             |game: &Game| -> Result<Bytes, AllocError>
-                ensures { IfOk result (λ text. text ≡ game_text stories.now game.now) }
+                ensures { IfOk result (λ text. text ≡ game_text stories.entry.now game.now) }
             { game_text(alloc, stories, game) },
         )
         .collect::<Result<Vec<Bytes>, AllocError>>(rt, alloc)?
