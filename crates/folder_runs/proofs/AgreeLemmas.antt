@@ -1,5 +1,5 @@
 -- Snapshot files that agree with a journal's rows agree with these and one more.
-use Rattle.std.proofs.Common.{◌≡◌, ℕ, ◌==◌, Bool, true, false, if◌then◌else◌, List, [], ◌∷◌, ◌++◌}
+use Rattle.std.proofs.Common.{ℕ, ◌==◌, Bool, true, false, if◌then◌else◌, List, [], ◌∷◌, ◌++◌}
 use Rattle.std.proofs.Common.{sym, subst}
 use Rattle.gate_journal.specs.Rows.{IsJournal, IsNext, commands_of, is_open}
 use Rattle.gate_journal.specs.declared.command.Command.{Command}
@@ -9,8 +9,8 @@ use Rattle.session_saves.specs.Agreement.{Agrees, opens_of}
 use Rattle.session_saves.proofs.AgreementLemmas.{more_commands, new_opens}
 use Rattle.snap_store.specs.File.{Stored}
 use Rattle.store_events.specs.Events.{store_down_over}
-use Rattle.store_events.specs.Rows.{session_in_rows, told_of}
-use Rattle.store_events.specs.Session.{Begins, EachMayCome, FileHappening, SessionState, Takes}
+use Rattle.store_events.specs.Rows.{session_in_rows}
+use Rattle.store_events.specs.Session.{Begins, EachMayCome, SessionState, Takes}
 use Rattle.store_events.specs.Session.{lived}
 use Rattle.store_events.proofs.RowLemmas.{rows_are_told}
 use Rattle.story_run.specs.declared.story.Story.{Story}

@@ -7,7 +7,7 @@ use Rattle.std.proofs.lemmas.Bool.Decides.{nat_tests}
 use Rattle.std.specs.List.{Contains}
 use Rattle.turn_cell.specs.History.{Each}
 use Rattle.turn_cell.proofs.HistoryLemmas.{each_append, each_map}
-use Rattle.gate_journal.specs.Log.{MayFind, MayOpen, MaySpell}
+use Rattle.gate_journal.specs.Log.{MayFind, MayOpen}
 use Rattle.gate_journal.specs.Gate.{IsShut}
 use Rattle.gate_journal.specs.Rows.{IsJournal, IsNext, SpellsRows, commands_of, journal_bytes}
 use Rattle.gate_journal.specs.Rows.{row_body}
@@ -17,7 +17,7 @@ use Rattle.gate_journal.proofs.LogLemmas.{closed_shut}
 use Rattle.gate_journal.proofs.RowLemmas.{journal_push, one_list, opens, spells_not_open}
 use Rattle.gate_journal.proofs.StopLemmas.{finds_rows, found_in}
 use Rattle.story_run.specs.declared.story.Story.{Story}
-use Rattle.folder_runs.specs.Folder.{AgreeWith, FolderImage, IsSoundFolder}
+use Rattle.folder_runs.specs.Folder.{AgreeWith, FolderImage}
 use Rattle.folder_runs.specs.Runs.{Follow, IsKept, Keeps, NextRunBegins, NextRunGoesOn, Run}
 use Rattle.folder_runs.specs.Runs.{RunLeaves, RunRefused, RunsCompose, Shown, left_by, shows_of}
 use Rattle.folder_runs.proofs.AgreeLemmas.{agree_more}

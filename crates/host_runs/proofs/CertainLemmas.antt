@@ -1,7 +1,7 @@
 -- Where no reply tells a fault of the journal's disk, no gate is uncertain.
-use Rattle.std.proofs.Common.{◌≡◌, ◌⊎◌, ◌∙◌, inl, inr, refl, ℕ, ◌+◌, ◌-◌, ◌<◌, ◌≤◌, ◌==◌, Bool}
+use Rattle.std.proofs.Common.{◌≡◌, ◌∙◌, inl, inr, refl, ℕ, ◌+◌, ◌-◌, ◌<◌, ◌≤◌, ◌==◌, Bool}
 use Rattle.std.proofs.Common.{true, false, cond, List, [], ◌∷◌, ◌++◌, Option, Some, None, IfSome, ap}
-use Rattle.std.proofs.Common.{IsTrue, arith, append_assoc, drop, length, map, set, sym, subst, take}
+use Rattle.std.proofs.Common.{arith, append_assoc, drop, length, map, set, sym, subst, take}
 use Rattle.std.proofs.lemmas.Bool.{cases_lt}
 use Rattle.std.proofs.lemmas.Bool.Decides.{nat_tests}
 use Rattle.std.proofs.lemmas.List.{get_or-set_other, get_or-set_same, get_or_past, set_past}
@@ -9,7 +9,7 @@ use Rattle.std.proofs.lemmas.List.{take-append-drop}
 use native.Mathlib.Decide.{ℕ_discrete}
 use Rattle.turn_cell.specs.History.{Each}
 use Rattle.disk_model.specs.declared.disk.Disk.{Ghosts as DiskWords}
-use Rattle.gate_journal.specs.Log.{EndsInFaultOf, IsClosedWell, IsOfSession, MaySpell, rows_kept}
+use Rattle.gate_journal.specs.Log.{EndsInFaultOf, IsClosedWell, IsOfSession, MaySpell}
 use Rattle.gate_journal.specs.Log.{rows_of}
 use Rattle.gate_journal.specs.Rows.{commands_of}
 use Rattle.gate_journal.specs.declared.command.Command.{Command}

@@ -8,13 +8,13 @@ use Rattle.disk_model.specs.Disk.{EachImage}
 use Rattle.disk_model.specs.declared.disk.Disk.{Ghosts as DiskWords}
 use Rattle.gate_journal.specs.Log.{EndsInFaultOf, MayOpen, MaySpell, rows_of}
 use Rattle.gate_journal.specs.Rows.{IsJournal, SpellsRows}
-use Rattle.gate_journal.specs.declared.command.Command.{Command}
 use Rattle.gate_journal.specs.declared.entry.Entry.{Entry as JournalEntry}
 use Rattle.gate_journal.specs.declared.entry.Entry.TheVariants.{Kept, Faulted}
 use Rattle.gate_journal.specs.declared.row.Row.{Row}
 use Rattle.host_serve.specs.Opening.{AreAgreed, histories_in_rows}
 use Rattle.host_serve.specs.Serves.{AnsweredLine}
 use Rattle.host_serve.proofs.AloneLemmas.{many_histories}
+use Rattle.host_top.specs.DoorServed.{OfDoor}
 use Rattle.host_top.specs.JournalBack.{JournalBack}
 use Rattle.host_top.specs.Piped.{StoresBack}
 use Rattle.session_core.specs.History.{game_of}
@@ -119,7 +119,7 @@ module _ {D : Type 0} (disks : DiskWords D) where
       (λ s low. c.accepted s low
       ∙ ap (λ (h : List (List Entry)). commands_in (entries_of h s)) alone.accepted))
 
-  pub links_run : LinksLeave disks
+  pub links_run : (Serves : OfDoor D) → LinksLeave disks Serves
   links_run Serves stories budget workers given givens back backs input now output new status l
       first left found leaves =
       leaves_so stories l.rows l.more l.journal l.uncertain given givens back backs first left []

@@ -1,7 +1,7 @@
 -- The shows that turns give are kept.
-use Rattle.std.proofs.Common.{◌≡◌, ◌≢◌, ◌⊎◌, inl, inr, ℕ, ◌<◌, ◌≤◌, List, [], ◌∷◌, ◌++◌, length}
-use Rattle.std.proofs.Common.{None, Option, Some, ap, refl, sym, set, subst, ◌∙◌, arith}
-use Rattle.std.proofs.Common.{append_assoc, append-nil, length-set, get_or, nat_le, Bool, cond, true, false}
+use Rattle.std.proofs.Common.{◌≡◌, inl, inr, ℕ, ◌<◌, ◌≤◌, List, [], ◌∷◌, ◌++◌, length}
+use Rattle.std.proofs.Common.{None, Option, Some, ap, refl, sym, subst, ◌∙◌, arith}
+use Rattle.std.proofs.Common.{append_assoc, append-nil, length-set, nat_le, Bool, cond, true, false}
 use Rattle.std.proofs.lemmas.Bool.{cases_lt}
 use Rattle.std.proofs.lemmas.Bool.Decides.{nat_tests}
 use Rattle.std.proofs.lemmas.List.{get_or_past, get_or-set_other, get_or-set_same}
@@ -36,7 +36,7 @@ use Rattle.session_core.specs.Hosts.{entries_of, session_in, session_on}
 use Rattle.session_core.specs.Sessions.{with_budget}
 use Rattle.session_core.specs.Turning.{Turned, commands_in, decided_by, decision_on, turn_met}
 use Rattle.story_watch.specs.Watch.{reply_unless, seen_reply, watch_checks, watch_reply}
-use Rattle.folder_runs.specs.Runs.{IsKept, Shown}
+use Rattle.folder_runs.specs.Runs.{IsKept}
 use Rattle.host_runs.specs.Shows.{ShowsAreKept, show_in_reply, shows_met}
 
 -- ---- one entry more

@@ -65,9 +65,9 @@ module _ {D : Type 0} (disks : DiskWords D) where
       })
 
   -- `serve` served links over them; of its shows nothing is said here
-  abbrev pub LinksLeave : Type 0
-  LinksLeave =
-      (Serves : OfDoor D) (stories : List Story) (budget workers : ℕ) (given : D)
+  abbrev pub LinksLeave : OfDoor D → Type 0
+  LinksLeave Serves =
+      (stories : List Story) (budget workers : ℕ) (given : D)
       (givens : List D) (back : D) (backs : List D) (input now : SourceState)
       (output new : SinkState) (status : Status)
       (l : LinksServed disks Serves stories budget workers given givens back backs input now output

@@ -1,10 +1,12 @@
 //! A run of `pipe` or `serve` (own).
 
+ghost use Rattle.host_top.specs.DoorServed.{HostServes};
 ghost use Rattle.host_runs.specs.Certain.{PipeIsCertain};
 ghost use Rattle.host_runs.specs.Shows.{ShowsAreKept};
 ghost use Rattle.host_runs.specs.Leaves.{LinksLeave, PipeLeaves, RefusalLeaves};
 
 use disk_model::Disk;
+use host_top::Outside;
 
 /// What `pipe` does over the disks of a folder is a run on its files: the shows in its replies are
 /// the run's, and each image of its disks is what a stop may leave.
@@ -13,8 +15,9 @@ pub fn pipe_leaves<D: Disk>()
 {}
 
 /// So is what `serve` does, without its shows.
-pub fn links_leave<D: Disk>()
-    ensures { LinksLeave D.Disk }
+pub fn links_leave<O: Outside>()
+    ensures { LinksLeave O.Disk.Disk
+        (HostServes O.Door.Door O.Door.Conn.source O.Door.Conn.sink O.Door.Conn.lent O.Disk.Disk) }
 {}
 
 /// A run that doesn't open the journal is one that leaves the folder so that an opening may meet it.
