@@ -8,8 +8,6 @@ are those that the system counted for the piece's processes, user and system. Ma
 piece is also told as a multiple of one proof of `story_text` in the same run."""
 
 import argparse
-import importlib.machinery
-import importlib.util
 import json
 import os
 import pathlib
@@ -21,20 +19,13 @@ import tempfile
 import threading
 import time
 
+from kit import load_rt
+
 TOP = pathlib.Path(__file__).resolve().parent.parent
 KINDS = ("proof", "tests", "edits")
 UNIT = ("story_text", "proof")
 LONGEST_PIECE = 10 * 60
 LONGEST_GATE = 200 * 60
-
-
-def load_rt():
-    """The program rt as a module."""
-    program = os.path.realpath(shutil.which("rt") or sys.exit("rt isn't here"))
-    loader = importlib.machinery.SourceFileLoader("rt", program)
-    made = importlib.util.module_from_spec(importlib.util.spec_from_loader("rt", loader))
-    loader.exec_module(made)
-    return made
 
 
 # One piece, in a process of its own.

@@ -10,27 +10,16 @@ as PATH,PATH. What was checked is kept in crates/CRATE/out/one, so that a second
 and takes nothing from an `rt check`. It is no verdict: it says nothing of the functions that PATH doesn't lead to, and
 proves those of sources below that PATH leads to."""
 
-import importlib.machinery
-import importlib.util
 import os
 import pathlib
 import resource
-import shutil
 import subprocess
 import sys
 import time
 
+from kit import load_rt
+
 TOP = pathlib.Path(__file__).resolve().parent.parent
-
-
-def load_rtlib():
-    """The program rt's own library, as a module."""
-    program = pathlib.Path(os.path.realpath(shutil.which("rt") or sys.exit("rt isn't here"))).with_name("rtlib.py")
-    loader = importlib.machinery.SourceFileLoader("rtlib", str(program))
-    made = importlib.util.module_from_spec(importlib.util.spec_from_loader("rtlib", loader))
-    sys.dont_write_bytecode = True
-    loader.exec_module(made)
-    return made
 
 
 def with_built(crate, words):
@@ -48,7 +37,7 @@ def with_built(crate, words):
 
 
 def main(name, paths, flags):
-    rtlib = load_rtlib()
+    rtlib = load_rt().rtlib
     folder = TOP / "crates" / name
     if not (folder / "src").is_dir():
         sys.exit(f"there is no crate {name}")

@@ -4,7 +4,7 @@ by numbers drawn from a seed, and looks how it takes them.
 
     drills/fuzz.py [CASES] [--seed N] [--first CASE]        2,000 cases unless told otherwise
 
-Each run has to end within its time, with a status that docs/FORMATS.md names for it, one line on standard error but
+Each run has to end within 20 processor seconds, with a status that docs/FORMATS.md names for it, one line on standard error but
 with 0, at most 256 MiB, and replies that are shows or refusals, one for each line. What is played is played three
 times, and the shows have to be the same: in one go by `run`, and in a session over a stop, where a snapshot serves from
 the 16th input on. A story file is refused by `check` as by `run`. A damaged journal is refused at the place that
@@ -20,6 +20,7 @@ import random
 import re
 import resource
 import shutil
+import signal
 import struct
 import subprocess
 import sys
@@ -31,7 +32,7 @@ from memory import story
 
 TOP = pathlib.Path(__file__).resolve().parent.parent
 PROGRAM = pathlib.Path(os.environ.get("STORYHOST", TOP / "crates/storyhost/out/storyhost"))
-SECONDS, MOST_MEMORY = 60, 256
+SECONDS, MOST_MEMORY = 20, 256
 BUDGET, FEW_TICKS = 50_000_000, 200_000
 FRONT = "464F524D0000012449465253524964780000001000000001457865630000000000000024474C554C00000100"
 WORDS = [0, 1, 2, 0x7F, 0x80, 0xFF, 0x100, 0x7FFF, 0xFFFF, 0x10000, 0xFFFFFF, 0x1000000, 0x7FFFFFFF, 0x80000000, 0xFFFFFFFF]
@@ -42,6 +43,16 @@ BAD_STORY = re.compile(r"bad 0 (image [1-5]|blorb [1-4])\n")
 
 class Otherwise(Exception):
     pass
+
+
+def limit():
+    resource.setrlimit(resource.RLIMIT_CPU, (SECONDS, SECONDS + 1))
+
+
+def spent():
+    """The processor seconds of all runs so far."""
+    used = resource.getrusage(resource.RUSAGE_CHILDREN)
+    return used.ru_utime + used.ru_stime
 
 
 def calls_of_rows():
@@ -133,12 +144,15 @@ class Fuzz:
 
     def ran(self, words, given=b"", statuses=(0,)):
         """The status and the output of a run."""
-        began = time.monotonic()
+        before = spent()
         try:
-            ran = subprocess.run([PROGRAM, *words], cwd=self.place, input=given, capture_output=True, timeout=SECONDS)
+            ran = subprocess.run([PROGRAM, *words], cwd=self.place, input=given, capture_output=True, timeout=60 * SECONDS,
+                                 preexec_fn=limit)
         except subprocess.TimeoutExpired:
-            raise Otherwise(f"{words[0]} doesn't end within {SECONDS} seconds") from None
-        self.slowest = max(self.slowest, (time.monotonic() - began, words[0]))
+            raise Otherwise(f"{words[0]} waits for ever") from None
+        if ran.returncode == -signal.SIGXCPU:
+            raise Otherwise(f"{words[0]} doesn't end within {SECONDS} processor seconds")
+        self.slowest = max(self.slowest, (spent() - before, words[0]))
         self.said[f"{words[0]} {ran.returncode}"] += 1
         if ran.returncode not in statuses:
             raise Otherwise(f"{words[0]} ends with {ran.returncode}: {ran.stderr[:200]!r}")
@@ -324,7 +338,7 @@ def main():
                 wrong += 1
                 print(f"fuzz: case {number} of seed {asked.seed}: {cause}", flush=True)
     print("fuzz: " + ", ".join(f"{what}: {count}" for what, count in sorted(fuzz.said.items())))
-    print(f"fuzz: {asked.cases} cases in {time.monotonic() - began:.0f} seconds, the slowest run {fuzz.slowest[0]:.2f} seconds"
+    print(f"fuzz: {asked.cases} cases in {time.monotonic() - began:.0f} seconds, the slowest run {fuzz.slowest[0]:.2f} processor seconds"
           f" ({fuzz.slowest[1]}), at most {most} MiB, {wrong} otherwise")
     return 1 if wrong else 0
 

@@ -2,5 +2,7 @@
 #![tactic(auto)]
 
 mod dying;
+#[cfg(test)]
+mod tests;
 
 pub use dying::Dying;

@@ -1,7 +1,6 @@
 //! What runs one after the other keep (own).
 
 ghost use Rattle.folder_runs.specs.Runs.{NextRunBegins, NextRunGoesOn, RunsCompose};
-ghost use Rattle.folder_runs.specs.Shows.{ShowsAreKept};
 
 /// From a sound folder, after any number of runs and stops: the journal spells one list of rows and
 /// is refused for none of its bytes, and each show that was given is the story's, run alone on commands with which its session begins.
@@ -18,9 +17,4 @@ pub fn next_run_begins()
 /// With the commands of each show that the run before it gave the sessions of the next one begin.
 pub fn next_run_goes_on()
     ensures { NextRunGoesOn }
-{}
-
-/// Shows that the turns of lines give are kept in rows that have all sessions' commands behind them.
-pub fn shows_are_kept()
-    ensures { ShowsAreKept }
 {}

@@ -3,4 +3,4 @@
 
 mod laws;
 
-pub use laws::{next_run_begins, next_run_goes_on, runs_compose, shows_are_kept};
+pub use laws::{next_run_begins, next_run_goes_on, runs_compose};

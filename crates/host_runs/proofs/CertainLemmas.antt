@@ -22,7 +22,8 @@ use Rattle.host_serve.proofs.AloneLemmas.{history_there, many_histories}
 use Rattle.host_top.specs.Piped.{HasEntries, Lead, turn_held}
 use Rattle.line_words.specs.declared.reply.Reply.{Reply}
 use Rattle.session_core.specs.Hosts.{entries_of, session_on}
-use Rattle.session_core.specs.Turning.{commands_in, decision_in, turn_in, turn_met}
+use Rattle.host_serve.specs.Said.{said_in, turn_said_in}
+use Rattle.session_core.specs.Turning.{commands_in, turn_met}
 use Rattle.session_core.specs.declared.entry.Entry.{Entry}
 use Rattle.session_core.specs.declared.entry.Entry.TheVariants.{Accepted, Faulted}
 use Rattle.session_core.specs.declared.entry.Outcome.{Outcome}
@@ -95,10 +96,10 @@ module _ (stories : List Story) (budget : ℕ) where
       (histories : List (List Entry)) (t : AnsweredLine) → AllFaultless histories
       → TellsNoFault (turn_held stories budget histories t).reply
       → AreFaultless (turn_held stories budget histories t).history
-  unfolding turn_in
+  unfolding turn_said_in
   held_faultless histories t all tells =
       let h = entries_of histories (session_on t.line) in
-      let d = decision_in stories budget (commands_in h) t.world t.line in
+      let d = said_in stories budget (commands_in h) t.world t.line in
       met_faultless h 0 d.reply d.accepted t.outcome (all (session_on t.line)) tells
 
   lead_faultless :

@@ -26,8 +26,8 @@ use Rattle.gate_journal.specs.Rows.{commands_of}
 use Rattle.story_run.specs.declared.story.Story.{Story}
 use Rattle.folder_runs.specs.Folder.{AgreeWith, FolderImage}
 use Rattle.folder_runs.specs.Runs.{IsKept, RunLeaves, Shown}
-use Rattle.folder_runs.specs.Shows.{shows_met}
-use Rattle.folder_runs.proofs.ShowLemmas.{shows_kept}
+use Rattle.host_runs.specs.Shows.{shows_met}
+use Rattle.host_runs.proofs.ShowLemmas.{shows_kept}
 use Rattle.host_runs.specs.Leaves.{IsFound, LinksLeave, MayBeLeft, PipeLeaves, RefusalLeaves}
 use Rattle.host_runs.specs.Leaves.{begun_in}
 

@@ -16,7 +16,7 @@ use Rattle.line_talk.specs.Streams.{SourceState, SinkState}
 use Rattle.story_run.specs.declared.story.Story.{Story}
 use Rattle.folder_runs.specs.Folder.{FolderImage}
 use Rattle.folder_runs.specs.Runs.{RunLeaves, RunRefused}
-use Rattle.folder_runs.specs.Shows.{shows_met}
+use Rattle.host_runs.specs.Shows.{shows_met}
 
 -- the sessions and commands whose append had begun and failed
 abbrev pub begun_in : List JournalEntry → List (ℕ × Command)

@@ -1,2 +1,3 @@
+pub mod Shows
 pub mod Leaves
 pub mod Certain

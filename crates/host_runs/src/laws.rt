@@ -1,6 +1,7 @@
 //! A run of `pipe` or `serve` (own).
 
 ghost use Rattle.host_runs.specs.Certain.{PipeIsCertain};
+ghost use Rattle.host_runs.specs.Shows.{ShowsAreKept};
 ghost use Rattle.host_runs.specs.Leaves.{LinksLeave, PipeLeaves, RefusalLeaves};
 
 use disk_model::Disk;
@@ -19,6 +20,11 @@ pub fn links_leave<D: Disk>()
 /// A run that doesn't open the journal is one that leaves the folder so that an opening may meet it.
 pub fn refusal_leaves<D: Disk>()
     ensures { RefusalLeaves D.Disk }
+{}
+
+/// Shows that the turns of lines give are kept in rows that have all sessions' commands behind them.
+pub fn shows_are_kept()
+    ensures { ShowsAreKept }
 {}
 
 /// Where no reply of `pipe` is `NO 11`, a stop leaves the rows with the accepted commands alone.

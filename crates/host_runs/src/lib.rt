@@ -3,4 +3,4 @@
 
 mod laws;
 
-pub use laws::{links_leave, pipe_is_certain, pipe_leaves, refusal_leaves};
+pub use laws::{links_leave, pipe_is_certain, pipe_leaves, refusal_leaves, shows_are_kept};

@@ -15,6 +15,7 @@ use Rattle.gate_journal.specs.declared.row.Row.{Row}
 use Rattle.story_run.specs.declared.story.Story.{Story}
 use Rattle.host_top.specs.Begun.{WritesBegun}
 use Rattle.host_top.specs.Borrowed.{journal_in}
+use Rattle.host_top.specs.Calls.{AreThere}
 use Rattle.host_top.specs.Complete.{HasFolder, IsInOrder, NoneRose, SpellsSome}
 use Rattle.host_top.specs.DoorServed.{OfDoor}
 use Rattle.host_top.specs.Files.{OutsideState, Told, Untold, Missing, There}
@@ -229,17 +230,16 @@ no_read : {A B : Type 0} → A ⊎ B → (A → ⊥) → (B → ⊥) → ⊥
 no_read (inl a) f g = f a
 no_read (inr b) f g = g b
 
-pub completes : {D : Type 0} (disks : DiskWords D) {OnDoor : OfDoor D} (asked : Asked)
+-- but for a load or a read that failed
+ends_well : {D : Type 0} (disks : DiskWords D) {OnDoor : OfDoor D} (asked : Asked)
     (status : Status) (code : ℕ) (outside beyond : OutsideState D) (input now : SourceState)
     (output new : SinkState)
     → FollowsCommand disks OnDoor asked status outside beyond input now output new
-    → status_of code ≡ Some status
-    → (status ≡ ReadFault
-    → Rose outside.faults beyond.faults ⊎ Rose input.faults now.faults)
+    → status_of code ≡ Some status → (status ≡ ReadFault → ⊥)
     → (status ≡ WriteFault → Rose output.faults new.faults)
     → IsInOrder disks asked outside input output → NoneRose outside beyond input now output new
     → (code ≡ 0) ⊎ (code ≡ 7)
-completes disks {OnDoor} asked status code outside beyond input now output new follows is reads
+ends_well disks {OnDoor} asked status code outside beyond input now output new follows is reads
     writes order none =
     let t =
     tells disks asked status outside beyond input now output new follows order.files order.bytes
@@ -248,7 +248,7 @@ completes disks {OnDoor} asked status code outside beyond input now output new f
     (tasked_none disks asked.action (stories_of (map (take 67108865) order.files)) asked.budget
     outside.disk asked.folder order.bytes t.0 status order.tells order.folder order.within
     order.are_stories t.2)
-    (λ e. no_read (reads e) none.loads none.reads)
+    reads
     (λ e. none.writes (writes e))
     (λ e. none.disks
     (failed_six disks asked status code outside beyond input now output new follows is
@@ -257,13 +257,45 @@ completes disks {OnDoor} asked status code outside beyond input now output new f
     (failed_nine disks asked status code outside beyond input now output new follows is
     (nine status code is e)))
 
+-- where no fault of a load is counted
+pub completes : {D : Type 0} (disks : DiskWords D) {OnDoor : OfDoor D} (asked : Asked)
+    (status : Status) (code : ℕ) (outside beyond : OutsideState D) (input now : SourceState)
+    (output new : SinkState)
+    → FollowsCommand disks OnDoor asked status outside beyond input now output new
+    → status_of code ≡ Some status
+    → (status ≡ ReadFault
+    → Rose outside.faults beyond.faults ⊎ Rose input.faults now.faults)
+    → (status ≡ WriteFault → Rose output.faults new.faults)
+    → IsInOrder disks asked outside input output → (Rose outside.faults beyond.faults → ⊥)
+    → NoneRose outside beyond input now output new → (code ≡ 0) ⊎ (code ≡ 7)
+completes disks asked status code outside beyond input now output new follows is reads writes order
+    loads none =
+    ends_well disks asked status code outside beyond input now output new follows is
+    (λ e. no_read (reads e) loads none.reads) writes order none
+
+-- where no load is to fail
+pub completes_unlisted : {D : Type 0} (disks : DiskWords D) {OnDoor : OfDoor D} (asked : Asked)
+    (status : Status) (code : ℕ) (outside beyond : OutsideState D) (input now : SourceState)
+    (output new : SinkState) (P : Type 0)
+    → FollowsCommand disks OnDoor asked status outside beyond input now output new
+    → status_of code ≡ Some status
+    → (P → AreThere outside.file asked.names → status ≡ ReadFault
+    → Rose input.faults now.faults)
+    → (status ≡ WriteFault → Rose output.faults new.faults)
+    → IsInOrder disks asked outside input output → P
+    → NoneRose outside beyond input now output new → (code ≡ 0) ⊎ (code ≡ 7)
+completes_unlisted disks asked status code outside beyond input now output new P follows is reads
+    writes order unlisted none =
+    ends_well disks asked status code outside beyond input now output new follows is
+    (λ e. none.reads (reads unlisted (order.files, order.are_there) e)) writes order none
+
 -- where memory was wanted before the words were known
 pub complete_no_memory : {D : Type 0} (disks : DiskWords D) (asked : Option Asked) (code : ℕ)
     (outside beyond : OutsideState D) (input now : SourceState) (output new : SinkState)
-    → status_of code ≡ Some NoMemory
-    → IfSome asked (λ one. IsInOrder disks one outside input output
+    (P : Type 0) → status_of code ≡ Some NoMemory
+    → IfSome asked (λ one. IsInOrder disks one outside input output → P
     → NoneRose outside beyond input now output new → (code ≡ 0) ⊎ (code ≡ 7))
-complete_no_memory disks asked code outside beyond input now output new is =
-    whatever_is_asked asked (λ (one : Asked). IsInOrder disks one outside input output
+complete_no_memory disks asked code outside beyond input now output new P is =
+    whatever_is_asked asked (λ (one : Asked). IsInOrder disks one outside input output → P
     → NoneRose outside beyond input now output new → (code ≡ 0) ⊎ (code ≡ 7))
-    (λ one order none. inr (no_memory_is_7 code is))
+    (λ one order p none. inr (no_memory_is_7 code is))

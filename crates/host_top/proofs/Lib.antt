@@ -7,6 +7,7 @@ pub mod ReplayLemmas
 pub mod ToldLemmas
 pub mod CauseLemmas
 pub mod CompleteLemmas
+pub mod CallsLemmas
 pub mod StopLemmas
 pub mod OutsideLemmas
 pub mod BorrowLemmas

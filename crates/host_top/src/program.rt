@@ -9,6 +9,7 @@ ghost use Rattle.command_words.specs.Words.{command_asked, asked_by};
 ghost use Rattle.host_top.specs.Speech.{tasked};
 ghost use Rattle.host_top.specs.Stories.{stories_of};
 ghost use Rattle.host_top.specs.Follows.{DoesTask, FollowsCommand, TellsCaller};
+ghost use Rattle.host_top.specs.Calls.{AreThere, NoneIsListed};
 ghost use Rattle.host_top.specs.Complete.{IsInOrder, NoneRose};
 
 use crate::check::check;
@@ -99,6 +100,10 @@ fn follow<R: Threads + Wait + Sync, O: Outside, S: Source, K: Sink>(
         (O.outside outside.old) (O.outside outside.new) (S.source input.old) (S.source input.new)
         (K.sink output.old) (K.sink output.new) }
     ensures bad_words { ¬ (result ≡ Status.BadWords) }
+    ensures unprovoked { NoneIsListed (O.failing_loads outside.old)
+        → AreThere (O.outside outside.old).file (command_asked command.entry).names
+        → result ≡ Status.ReadFault
+        → Rose (S.source input.old).faults (S.source input.new).faults }
     ensures read_fault { result ≡ Status.ReadFault
         → Rose (O.outside outside.old).faults (O.outside outside.new).faults
         ⊎ Rose (S.source input.old).faults (S.source input.new).faults }
@@ -162,6 +167,15 @@ pub fn top<R: Threads + Wait + Sync, O: Outside, S: Source, K: Sink>(
     ensures complete { IfSome (asked_by (map string_bytes words.now)) (λ asked.
         IsInOrder O.Disk.Disk asked (O.outside outside.old) (S.source input.old)
         (K.sink output.old)
+        → ¬ (Rose (O.outside outside.old).faults (O.outside outside.new).faults)
+        → NoneRose (O.outside outside.old) (O.outside outside.new) (S.source input.old)
+        (S.source input.new) (K.sink output.old) (K.sink output.new)
+        → (result ≡ 0) ⊎ (result ≡ 7)) }
+    // and so it does where no load is to fail: it makes none of its own that does
+    ensures unprovoked { IfSome (asked_by (map string_bytes words.now)) (λ asked.
+        IsInOrder O.Disk.Disk asked (O.outside outside.old) (S.source input.old)
+        (K.sink output.old)
+        → NoneIsListed (O.failing_loads outside.old)
         → NoneRose (O.outside outside.old) (O.outside outside.new) (S.source input.old)
         (S.source input.new) (K.sink output.old) (K.sink output.new)
         → (result ≡ 0) ⊎ (result ≡ 7)) }

@@ -60,6 +60,7 @@ fn push(
 
 /// The shows of the game from one number to another, as they are written. Each turn up to the last
 /// is played once.
+#[tactic(auto, using(crate::proofs::ShowLemmas::first_show, crate::proofs::ShowLemmas::next_show, crate::proofs::ShowLemmas::next_world))]
 pub fn shows(
     alloc: Global,
     stories: &[Story],
@@ -70,15 +71,16 @@ pub fn shows(
 ) -> Result<Bytes, AllocError>
     requires order { from ≤ to }
     requires there { to < length game.now }
+    requires within { length game.now ≤ 8192 }
     ensures { IfOk result (λ text. text
         ≡ shows_from stories.now game.now s from (to + 1 - from)) }
 {
     let mut text = Vec::new(alloc);
     let mut world = world_of(alloc, stories, &game[..from as usize + 1])?;
     push(&mut text, alloc, s, from, &world)?;
-    for at in from as usize + 1..to as usize + 1 {
-        world = turned_in(alloc, world, &game[at])?;
-        push(&mut text, alloc, s, at as u32, &world)?;
+    for n in from + 1..to + 1 {
+        world = turned_in(alloc, world, &game[n as usize])?;
+        push(&mut text, alloc, s, n, &world)?;
     }
     Ok(Bytes::of(text))
 }

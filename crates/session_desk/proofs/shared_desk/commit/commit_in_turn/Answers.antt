@@ -1,8 +1,9 @@
-use Rattle.std.proofs.Common.{◌∙◌}
-use Rattle.turn_cell.specs.Passes.{seen}
+use Rattle.std.proofs.Common.{◌∙◌, ap, sym, Some, rules}
+use Rattle.turn_cell.specs.Passes.{seen, view}
 use Rattle.session_desk.specs.Shared.{met_by}
+use Rattle.session_desk.proofs.AlikeLemmas.{accepts}
 use Rattle.session_desk.proofs.OpensLemmas.{opens_by}
-use Rattle.session_desk.proofs.SharedLemmas.{appended, history_in-behind, kept-since, others}
+use Rattle.session_desk.proofs.SharedLemmas.{appended, history_in-behind, kept-since, leaves, others}
 use Rattle.session_desk.proofs.shared_desk.commit.commit_in_turn.Goals as goal
 
 pub commit-done-requires-clause-rows : goal.commit-done-requires-clause-rows
@@ -11,6 +12,17 @@ commit-done-requires-clause-rows g c =
     (seen c.args.pass.now) c.args.desk.now.commands c.row_count-count.ensures.journal
     (others c.args.pass.now c.args.desk.now.session c.enter-journal.result.entries
     c.requires.pass c.enter-journal.ensures.value) c.requires.rows
+
+pub leave-requires-clause-value : goal.leave-requires-clause-value
+leave-requires-clause-value g c =
+    let its = accepts c.args.desk.now c.args.request.now c.requires.fresh in
+    leaves (view c.enter-journal.new.pass) c.args.desk.now.session c.enter-journal.result
+    c.commit-done.new.journal (Some its.command) (met_by c.commit-done.result)
+    c.enter-journal.ensures.seen (search rules) (search rules)
+    c.commit-done.ensures.kept.1
+    (appended g.D.Disk.faults c.args.request.now c.args.desk.now c.commit-done.new.self
+    c.enter-journal.result c.commit-done.new.journal its.command c.commit-done.result
+    its.asked c.commit-done.ensures.ok (c.commit-done.ensures.cause its.command its.asked))
 
 pub returns-clause-journal : goal.returns-clause-journal
 returns-clause-journal g c = λ command asked. record {

@@ -1,7 +1,7 @@
 -- The shows that turns give are kept.
 use Rattle.std.proofs.Common.{◌≡◌, ◌≢◌, ◌⊎◌, inl, inr, ℕ, ◌<◌, ◌≤◌, List, [], ◌∷◌, ◌++◌, length}
 use Rattle.std.proofs.Common.{None, Option, Some, ap, refl, sym, set, subst, ◌∙◌, arith}
-use Rattle.std.proofs.Common.{append_assoc, append-nil, length-set, get_or, nat_le, true}
+use Rattle.std.proofs.Common.{append_assoc, append-nil, length-set, get_or, nat_le, Bool, cond, true, false}
 use Rattle.std.proofs.lemmas.Bool.{cases_lt}
 use Rattle.std.proofs.lemmas.Bool.Decides.{nat_tests}
 use Rattle.std.proofs.lemmas.List.{get_or_past, get_or-set_other, get_or-set_same}
@@ -15,10 +15,10 @@ use Rattle.line_words.specs.Request.{request_of}
 use Rattle.line_words.specs.declared.reply.No.{No as Refusal}
 use Rattle.line_words.specs.declared.reply.No.TheVariants as no
 use Rattle.line_words.specs.declared.reply.Reply.{Reply}
-use Rattle.line_words.specs.declared.reply.Reply.TheVariants.{No, Show}
+use Rattle.line_words.specs.declared.reply.Reply.TheVariants.{No, Seen, Show}
 use Rattle.line_words.specs.declared.request.Request.{Request}
 use Rattle.line_words.specs.declared.request.Request.TheVariants.{Open, Line, Char, File, Last}
-use Rattle.line_words.specs.declared.request.Request.TheVariants.{Close}
+use Rattle.line_words.specs.declared.request.Request.TheVariants.{Close, Watch}
 use Rattle.story_run.specs.declared.story.Story.{Story}
 use Rattle.session_core.specs.declared.decision.Decision.{Decision}
 use Rattle.session_core.specs.declared.entry.Entry.{Entry}
@@ -27,16 +27,17 @@ use Rattle.session_core.specs.declared.entry.Outcome.{Outcome}
 use Rattle.session_core.specs.declared.entry.Outcome.TheVariants.{Answered, DiskFailed, Forgotten}
 use Rattle.session_core.specs.declared.entry.Outcome.TheVariants.{OutOfMemory}
 use Rattle.session_core.specs.Answer.{answer, decided, history_extended, refusal_of, refusal_in}
-use Rattle.session_core.specs.Answer.{game_show}
-use Rattle.session_core.specs.Checks.{session_of}
+use Rattle.session_core.specs.Answer.{first_refusal, game_show}
+use Rattle.session_core.specs.Checks.{is_watch, session_of}
 use Rattle.session_core.specs.History.{game_of}
-use Rattle.session_core.specs.Hosts.{entries_of, histories_after, histories_met, session_in}
-use Rattle.session_core.specs.Hosts.{session_on, turn_on_line}
+use Rattle.host_serve.specs.Alone.{histories_after, histories_met, turn_on_line}
+use Rattle.host_serve.specs.Said.{said_on, said_to, turn_said_on}
+use Rattle.session_core.specs.Hosts.{entries_of, session_in, session_on}
 use Rattle.session_core.specs.Sessions.{with_budget}
 use Rattle.session_core.specs.Turning.{Turned, commands_in, decided_by, decision_on, turn_met}
-use Rattle.session_core.specs.Turning.{turn_of}
+use Rattle.story_watch.specs.Watch.{reply_unless, seen_reply, watch_checks, watch_reply}
 use Rattle.folder_runs.specs.Runs.{IsKept, Shown}
-use Rattle.folder_runs.specs.Shows.{ShowsAreKept, show_in_reply, shows_met}
+use Rattle.host_runs.specs.Shows.{ShowsAreKept, show_in_reply, shows_met}
 
 -- ---- one entry more
 
@@ -88,6 +89,40 @@ decision_solo : (stories : List Story) (budget : ℕ) (cs : List Command) (line 
 unfolding decision_on
 decision_solo stories budget cs line = read_solo stories budget cs line (request_of line)
 
+abbrev ShowsNot : Reply → Type 0
+ShowsNot reply = (s n : ℕ) (show : List ℕ) → reply ≡ Show s n show → ⊥
+
+-- a spectator is shown no reply of a turn
+unless_not : (refusal : Option Refusal) (seen : Reply) → ShowsNot seen
+    → ShowsNot (reply_unless refusal seen)
+unless_not (Some why) seen never s n show is = cc
+unless_not None seen never s n show is = never s n show is
+
+watch_not : (stories : List Story) (cs : List Command) (s : ℕ) (word : List ℕ) (from : ℕ)
+    → ShowsNot (watch_reply stories cs s word from)
+watch_not stories cs s word from =
+    unless_not (first_refusal (watch_checks stories (game_of cs) s word from))
+    (seen_reply stories (game_of cs) s from) (λ t n show is. absurd cc)
+
+to_solo : (stories : List Story) (cs : List Command) (d : Decision) (read : Option Request)
+    → IsSolo stories cs d → IsSolo stories cs (said_to stories cs d read)
+to_solo stories cs d None solo = solo
+to_solo stories cs d (Some (Open s key story seed cols rows own)) solo = solo
+to_solo stories cs d (Some (Line s key n win text term)) solo = solo
+to_solo stories cs d (Some (Char s key n win code)) solo = solo
+to_solo stories cs d (Some (File s key n name)) solo = solo
+to_solo stories cs d (Some (Last s key)) solo = solo
+to_solo stories cs d (Some (Close s key n)) solo = solo
+to_solo stories cs d (Some (Watch s word from)) solo =
+    λ t n show is. absurd (watch_not stories cs s word from t n show is)
+
+said_solo : (stories : List Story) (budget : ℕ) (cs : List Command) (line : List ℕ)
+    → IsSolo stories cs (said_on stories budget cs line)
+unfolding said_on
+said_solo stories budget cs line =
+    to_solo stories cs (decision_on stories budget cs line) (request_of line)
+    (decision_solo stories budget cs line)
+
 abbrev Alone : List Story → Turned → Type 0
 Alone stories t =
     (s n : ℕ) (show : List ℕ) → t.reply ≡ Show s n show
@@ -113,12 +148,12 @@ met_alone stories h by reply (Some command) Forgotten solo s n show is = absurd 
 shows_alone :
     (stories : List Story) (budget : ℕ) (h : List Entry) (by : ℕ) (line : List ℕ)
     (outcome : Outcome)
-    → Alone stories (turn_of stories budget h by line outcome)
-unfolding turn_of
+    → Alone stories (turn_said_on stories budget h by line outcome)
+unfolding turn_said_on
 shows_alone stories budget h by line outcome =
-    met_alone stories h by (decision_on stories budget (commands_in h) line).reply
-    (decision_on stories budget (commands_in h) line).accepted outcome
-    (decision_solo stories budget (commands_in h) line)
+    met_alone stories h by (said_on stories budget (commands_in h) line).reply
+    (said_on stories budget (commands_in h) line).accepted outcome
+    (said_solo stories budget (commands_in h) line)
 
 -- ---- a turn leaves what was accepted
 
@@ -143,11 +178,11 @@ met_longer h by reply (Some c) Forgotten = (c ∷ [], commands-accepted h by c)
 
 turn_longer : (stories : List Story) (budget : ℕ) (h : List Entry) (by : ℕ) (line : List ℕ)
     (outcome : Outcome)
-    → Longer (commands_in (turn_of stories budget h by line outcome).history) (commands_in h)
-unfolding turn_of
+    → Longer (commands_in (turn_said_on stories budget h by line outcome).history) (commands_in h)
+unfolding turn_said_on
 turn_longer stories budget h by line outcome =
-    met_longer h by (decision_on stories budget (commands_in h) line).reply
-    (decision_on stories budget (commands_in h) line).accepted outcome
+    met_longer h by (said_on stories budget (commands_in h) line).reply
+    (said_on stories budget (commands_in h) line).accepted outcome
 
 longer_then : (a b c : List Command) → Longer b a → Longer c b → Longer c a
 longer_then a b c m n =
@@ -158,10 +193,18 @@ longer_then a b c m n =
 far : (n : ℕ) → 64 ≤ n → nat_le 64 n ≡ true
 far n le = grind (arith, nat_tests, le)
 
+refused_not : (stories : List Story) (request : Request) (is_other : Bool)
+    → ShowsNot (decided stories []
+    (λ accepted. game_show stories (game_of (history_extended [] accepted))) request
+    (cond is_other (Some no.BadLine) (Some no.NoSession))).reply
+refused_not stories request true s n show is = cc
+refused_not stories request false s n show is = cc
+
 absent : (stories : List Story) (request : Request) → 64 ≤ session_of request
-    → answer stories [] request ≡ record { reply = No no.NoSession; accepted = None }
+    → ShowsNot (answer stories [] request).reply
 unfolding answer refusal_of refusal_in
-absent stories request le = rw (far (session_of request) le) refl
+absent stories request le =
+    rw (far (session_of request) le) (refused_not stories request (is_watch request))
 
 budgeted_session : (budget : ℕ) (request : Request)
     → session_of (with_budget budget request) ≡ session_of request
@@ -171,9 +214,7 @@ budgeted_session budget (Char s key n win code) = refl
 budgeted_session budget (File s key n name) = refl
 budgeted_session budget (Last s key) = refl
 budgeted_session budget (Close s key n) = refl
-
-abbrev ShowsNot : Reply → Type 0
-ShowsNot reply = (s n : ℕ) (show : List ℕ) → reply ≡ Show s n show → ⊥
+budgeted_session budget (Watch s word from) = refl
 
 met_not : (by : ℕ) (reply : Reply) (accepted : Option Command) (outcome : Outcome)
     → ShowsNot reply → ShowsNot (turn_met [] by reply accepted outcome).reply
@@ -185,24 +226,36 @@ met_not by reply (Some c) Answered never s n show is = never s n show is
 met_not by reply (Some c) (DiskFailed from to) never s n show is = cc
 met_not by reply (Some c) Forgotten never s n show is = cc
 
+-- what is said to a line whose session is none
+said_not : (stories : List Story) (d : Decision) (read : Option Request)
+    → ShowsNot d.reply → ShowsNot (said_to stories [] d read).reply
+said_not stories d None never = never
+said_not stories d (Some (Open s key story seed cols rows own)) never = never
+said_not stories d (Some (Line s key n win text term)) never = never
+said_not stories d (Some (Char s key n win code)) never = never
+said_not stories d (Some (File s key n name)) never = never
+said_not stories d (Some (Last s key)) never = never
+said_not stories d (Some (Close s key n)) never = never
+said_not stories d (Some (Watch s word from)) never = watch_not stories [] s word from
+
 nowhere : (stories : List Story) (budget : ℕ) (by : ℕ) (line : List ℕ) (outcome : Outcome)
     → session_on line ≡ 64
-    → ShowsNot (turn_of stories budget [] by line outcome).reply
-unfolding turn_of decision_on
+    → ShowsNot (turn_said_on stories budget [] by line outcome).reply
+unfolding turn_said_on said_on decision_on
 nowhere stories budget by line outcome e =
-    met_not by (decided_by (λ request. answer stories [] (with_budget budget request)) line
-    (request_of line)).reply
-    (decided_by (λ request. answer stories [] (with_budget budget request)) line
-    (request_of line)).accepted outcome (of (request_of line) e)
+    let d : Decision =
+    decided_by (λ request. answer stories [] (with_budget budget request)) line (request_of line) in
+    met_not by (said_to stories [] d (request_of line)).reply
+    (said_to stories [] d (request_of line)).accepted outcome
+    (said_not stories d (request_of line) (of (request_of line) e))
   where
     of : (spelled : Option Request) → session_in spelled ≡ 64
         → ShowsNot (decided_by (λ request. answer stories [] (with_budget budget request)) line
         spelled).reply
     of None e s n show is = cc
     of (Some request) e s n show is =
-        let none = absent stories (with_budget budget request)
-        (let same = budgeted_session budget request in omega arith) in
-        let no_show = sym (ap (λ (d : Decision). d.reply) none) ∙ is in cc
+        absent stories (with_budget budget request)
+        (let same = budgeted_session budget request in omega arith) s n show is
 
 -- ---- and nor do other lines' turns
 
@@ -266,6 +319,7 @@ module _ (stories : List Story) (budget : ℕ) (by : ℕ) where
       → Each (IsKept stories rows)
       (show_in_reply (session_on line) (commands_in (turned histories line outcome).history) reply)
   one_kept histories final line outcome rows (No why) many have on is = tt
+  one_kept histories final line outcome rows (Seen t from to text) many have on is = tt
   one_kept histories final line outcome rows (Show t n show) many have on is =
       elim (cases_lt (session_on line) 64) [
         | inl low ↦
@@ -287,7 +341,7 @@ module _ (stories : List Story) (budget : ℕ) (by : ℕ) where
             let empty : entries_of histories (session_on line) ≡ [] =
             get_or_past histories (session_on line) [] (omega arith) in
             absurd (nowhere stories budget by line outcome none t n show
-            (subst (λ (h : List Entry). (turn_of stories budget h by line outcome).reply
+            (subst (λ (h : List Entry). (turn_said_on stories budget h by line outcome).reply
             ≡ Show t n show) empty is))
       ]
     where

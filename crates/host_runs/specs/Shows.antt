@@ -5,9 +5,9 @@ use Rattle.gate_journal.specs.Rows.{commands_of}
 use Rattle.gate_journal.specs.declared.command.Command.{Command}
 use Rattle.gate_journal.specs.declared.row.Row.{Row}
 use Rattle.line_words.specs.declared.reply.Reply.{Reply}
-use Rattle.line_words.specs.declared.reply.Reply.TheVariants.{No, Show}
-use Rattle.session_core.specs.Hosts.{entries_of, histories_after, histories_met, session_on}
-use Rattle.session_core.specs.Hosts.{turn_on_line}
+use Rattle.line_words.specs.declared.reply.Reply.TheVariants.{No, Seen, Show}
+use Rattle.host_serve.specs.Alone.{histories_after, histories_met, turn_on_line}
+use Rattle.session_core.specs.Hosts.{entries_of, session_on}
 use Rattle.session_core.specs.Turning.{commands_in}
 use Rattle.session_core.specs.declared.entry.Entry.{Entry}
 use Rattle.session_core.specs.declared.entry.Outcome.{Outcome}
@@ -19,6 +19,7 @@ abbrev pub show_in_reply : ℕ → List Command → Reply → List Shown
 show_in_reply s commands (Show t n show) =
     record { session = s; commands = commands; show = show } ∷ []
 show_in_reply s commands (No why) = []
+show_in_reply s commands (Seen t from to text) = []
 
 -- the shows in the replies to lines, one after the other, by what their turns met
 abbrev pub shows_met : List Story → ℕ → List (List Entry) → ℕ → List (List ℕ) → List Outcome

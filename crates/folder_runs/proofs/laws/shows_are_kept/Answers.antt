@@ -1,5 +1,0 @@
-use Rattle.folder_runs.proofs.ShowLemmas.{shows_kept}
-use Rattle.folder_runs.proofs.laws.shows_are_kept.Goals as goal
-
-pub returns : goal.returns
-returns c = shows_kept
