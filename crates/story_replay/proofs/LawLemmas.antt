@@ -1,22 +1,17 @@
 -- The game of a session at some row is how a game of the whole journal begins.
-use Rattle.std.proofs.Common.{◌≡◌, ℕ, zero, suc, ◌+◌, ◌-◌, ◌<◌, ◌==◌, ◌&&◌, Bool, true, false}
-use Rattle.std.proofs.Common.{List, [], ◌∷◌, ◌++◌, length, take, slice_get, Option, Some, refl}
-use Rattle.std.proofs.Common.{sym, ap, ◌∙◌, arith, subst}
+use Rattle.std.proofs.Common.{◌≡◌, ℕ, suc, ◌+◌, ◌<◌, ◌==◌, Bool, true, false}
+use Rattle.std.proofs.Common.{List, [], ◌∷◌, ◌++◌, length, take, slice_get, Some, refl}
+use Rattle.std.proofs.Common.{sym, ap, ◌∙◌, arith}
 use Rattle.std.proofs.lemmas.Bool.Decides.{nat_tests}
 use Rattle.gate_journal.specs.Rows.{commands_of, is_open}
 use Rattle.gate_journal.specs.declared.command.Command.{Command}
 use Rattle.gate_journal.specs.declared.row.Row.{Row}
-use Rattle.line_words.specs.declared.reply.Reply.{Reply}
 use Rattle.line_words.specs.declared.reply.Reply.TheVariants.{Show}
-use Rattle.line_words.specs.declared.request.Request.{Request}
-use Rattle.session_core.specs.Answer.{answer, game_show}
-use Rattle.session_core.specs.Checks.{session_of}
+use Rattle.session_core.specs.Answer.{game_show}
 use Rattle.session_core.specs.History.{command_count, game_of, later}
 use Rattle.story_replay.proofs.ShownLemmas.{answered}
-use Rattle.story_run.specs.declared.story.Story.{Story}
 use Rattle.story_replay.specs.Games.{commands_from, game_from, games_in}
-use Rattle.story_replay.specs.Laws.{HoldsEachShow, StandsIn}
-use Rattle.story_replay.specs.Text.{shown}
+use Rattle.story_replay.specs.Laws.{HoldsEachShow}
 use Rattle.story_replay.specs.declared.game.Game.{Game}
 
 -- the session's commands up to a row

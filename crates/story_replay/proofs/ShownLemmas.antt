@@ -1,6 +1,6 @@
 -- What a request is answered whose command is accepted: the show of the game that it makes.
 use Rattle.std.proofs.Common.{◌≡◌, ℕ, ◌+◌, ◌<◌, Bool, true, false, ◌&&◌, nat_le, List, [], ◌∷◌}
-use Rattle.std.proofs.Common.{◌++◌, length, Option, Some, None, refl, ap, sym, ◌∙◌, arith, ◌==◌}
+use Rattle.std.proofs.Common.{◌++◌, length, Option, Some, None, refl, ap, sym, arith, ◌==◌}
 use Rattle.std.proofs.Common.{◌||◌, not}
 use Rattle.std.proofs.lemmas.Bool.Decides.{nat_tests}
 use Rattle.gate_journal.specs.Rows.{is_open}
@@ -15,7 +15,7 @@ use Rattle.session_core.specs.Answer.{accepted_by, answer, checks, game_show, hi
 use Rattle.session_core.specs.Answer.{refusal_in, refusal_of, shown_number}
 use Rattle.session_core.specs.Checks.{command_of, is_absent, is_fresh, opening_command, session_of}
 use Rattle.session_core.specs.History.{command_count, game_of, has_key, story_at, world_of}
-use Rattle.session_core.proofs.RepeatLemmas.{Joins, accepted_none, all_fail, chosen, game_of-append}
+use Rattle.session_core.proofs.RepeatLemmas.{accepted_none, all_fail, chosen, game_of-append}
 use Rattle.session_core.proofs.RepeatLemmas.{game_of-append-open, joined, known_joins, some_is}
 
 -- a game with its last command, whose number this is
