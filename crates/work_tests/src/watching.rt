@@ -16,7 +16,7 @@ use story_run::Story;
 use turn_cell::{Pass, Told};
 
 /// How many moves are played again for a spectator.
-const MOVES: u32 = 6000;
+const MOVES: u32 = 2000;
 
 /// How many moves come meanwhile.
 const MORE: u32 = 5;
@@ -28,13 +28,13 @@ const OPENED: &[u8] = b"SHOW 0 0\nW 1 3 0 0 80 24\nT 1 0 =>\nI 1 line 20 =\n.\n"
 const GO: &[u8] = b"W 1 3 0 0 80 24\nT 1 8 =go%0A\nT 1 0 =go%0A>\nI 1 line 20 =\n";
 
 /// The eight shows up to that of the last of these moves, by the session's word, six times.
-const WATCHES: &[u8] = b"WATCH 0 ba7816bf8f01cfea 5993\nWATCH 0 ba7816bf8f01cfea 5993\n\
-    WATCH 0 ba7816bf8f01cfea 5993\nWATCH 0 ba7816bf8f01cfea 5993\n\
-    WATCH 0 ba7816bf8f01cfea 5993\nWATCH 0 ba7816bf8f01cfea 5993\n";
+const WATCHES: &[u8] = b"WATCH 0 ba7816bf8f01cfea 1993\nWATCH 0 ba7816bf8f01cfea 1993\n\
+    WATCH 0 ba7816bf8f01cfea 1993\nWATCH 0 ba7816bf8f01cfea 1993\n\
+    WATCH 0 ba7816bf8f01cfea 1993\nWATCH 0 ba7816bf8f01cfea 1993\n";
 
 /// A line that is none, and the next moves.
-const LINES: &[u8] = b"none\nLINE 0 abc 6001 1 =go\nLINE 0 abc 6002 1 =go\n\
-    LINE 0 abc 6003 1 =go\nLINE 0 abc 6004 1 =go\nLINE 0 abc 6005 1 =go\n";
+const LINES: &[u8] = b"none\nLINE 0 abc 2001 1 =go\nLINE 0 abc 2002 1 =go\n\
+    LINE 0 abc 2003 1 =go\nLINE 0 abc 2004 1 =go\nLINE 0 abc 2005 1 =go\n";
 
 /// Holds the first reply of link 1 until a session has had a turn, and counts what link 0 was
 /// answered before link 1 has all its replies.
@@ -85,8 +85,8 @@ fn push_shows(out: &mut Vec<u8>, alloc: Global, from: u32, to: u32) -> Result<()
 fn seen(alloc: Global) -> Result<Vec<u8>, AllocError> {
     let mut text = Vec::new(alloc);
     for _ in 0..6 {
-        text.extend_from_slice(b"SEEN 0 5993 6000\n")?;
-        push_shows(&mut text, alloc, 5993, 6001)?;
+        text.extend_from_slice(b"SEEN 0 1993 2000\n")?;
+        push_shows(&mut text, alloc, 1993, 2001)?;
     }
     Ok(text)
 }
@@ -94,7 +94,7 @@ fn seen(alloc: Global) -> Result<Vec<u8>, AllocError> {
 /// What link 1 is answered.
 fn answered(alloc: Global) -> Result<Vec<u8>, AllocError> {
     let mut text = b"NO 1\n".to_vec(alloc)?;
-    push_shows(&mut text, alloc, 6001, 6006)?;
+    push_shows(&mut text, alloc, 2001, 2006)?;
     Ok(text)
 }
 
