@@ -110,9 +110,6 @@ fn watch_in<'i, D: Disk + Drop, R: Wait, P: Moments>(
     };
     let copies = copies_of(alloc, desk.commands());
     pause.in_turn(mark.session, pass);
-    if let Ok(held) = &copies {
-        let _ = watch(alloc, host.stories, held, s, word, from);
-    }
     cell.leave(pass, desk);
     let Ok(commands) = copies else {
         return out_of_memory(mark);
