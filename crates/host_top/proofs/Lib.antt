@@ -5,6 +5,7 @@ pub mod ServedLemmas
 pub mod WrittenLemmas
 pub mod ToldLemmas
 pub mod CauseLemmas
+pub mod CompleteLemmas
 pub mod StopLemmas
 pub mod OutsideLemmas
 pub mod BorrowLemmas

@@ -14,6 +14,7 @@ pub mod Stories
 pub mod StoryFile
 pub mod Status
 pub mod Follows
+pub mod Complete
 pub mod Spoken
 pub mod Plain
 pub mod Files

@@ -9,6 +9,7 @@ ghost use Rattle.command_words.specs.Words.{command_asked, asked_by};
 ghost use Rattle.host_top.specs.Speech.{tasked};
 ghost use Rattle.host_top.specs.Stories.{stories_of};
 ghost use Rattle.host_top.specs.Follows.{DoesTask, FollowsCommand, TellsCaller};
+ghost use Rattle.host_top.specs.Complete.{IsInOrder, NoneRose};
 
 use crate::check::check;
 use crate::drill::drill;
@@ -153,6 +154,14 @@ pub fn top<R: Threads + Wait + Sync, O: Outside, S: Source, K: Sink>(
     ensures door_fault { result ≡ 9
         → Rose (O.outside outside.old).door_faults (O.outside outside.new).door_faults }
     ensures kept { (O.outside outside.new).file ≡ (O.outside outside.old).file }
+
+    // where all is in order and no fault is counted, it ends with 0, or with 7 for want of memory
+    ensures complete { IfSome (asked_by (map string_bytes words.now)) (λ asked.
+        IsInOrder O.Disk.Disk asked (O.outside outside.old) (S.source input.old)
+        (K.sink output.old)
+        → NoneRose (O.outside outside.old) (O.outside outside.new) (S.source input.old)
+        (S.source input.new) (K.sink output.old) (K.sink output.new)
+        → (result ≡ 0) ⊎ (result ≡ 7)) }
 {
     let command = match command_of(alloc, words) {
         Ok(Some(command)) => command,
