@@ -1,7 +1,7 @@
 -- Where all is in order and no fault is counted, a command ends with 0 or 7.
 use Rattle.std.proofs.Common.{◌≡◌, ℕ, ◌^◌, ◌<◌, ◌≤◌, ◌⊎◌, inl, inr, List, [], map, take, length}
 use Rattle.std.proofs.Common.{refl, subst, arith, IsTrue, Some, Result, Ok, Err, IsOk}
-use Rattle.std.proofs.Common.{Option, None, IfSome}
+use Rattle.std.proofs.Common.{Option, None, IfSome, Bool, true, false, get_or}
 use Rattle.command_words.specs.Words.{Asked}
 use Rattle.command_words.specs.declared.words.Action.{Action}
 use Rattle.command_words.specs.declared.words.Action.TheVariants.{Run, Check, Pipe, Init, Help}
@@ -15,9 +15,10 @@ use Rattle.gate_journal.specs.declared.row.Row.{Row}
 use Rattle.story_run.specs.declared.story.Story.{Story}
 use Rattle.host_top.specs.Begun.{WritesBegun}
 use Rattle.host_top.specs.Borrowed.{journal_in}
+use Rattle.host_top.specs.Calls.{NoneIsListed}
 use Rattle.host_top.specs.Complete.{HasFolder, IsInOrder, NoneRose, SpellsSome}
 use Rattle.host_top.specs.DoorServed.{OfDoor}
-use Rattle.host_top.specs.Files.{OutsideState, Told, Untold, Missing, There}
+use Rattle.host_top.specs.Files.{OutsideState, Told, Untold, Missing, There, is_told_missing}
 use Rattle.host_top.specs.Follows.{FollowsCommand, WritesFor}
 use Rattle.host_top.specs.Headline.{Speech, WritesOf}
 use Rattle.host_top.specs.LinksServed.{WritesLinks}
@@ -31,6 +32,7 @@ use Rattle.host_top.specs.declared.status.Status.TheVariants.{Done, BadWords, Re
 use Rattle.host_top.specs.declared.status.Status.TheVariants.{WriteFault, DiskFault, NoMemory}
 use Rattle.host_top.specs.declared.status.Status.TheVariants.{BadFolder, DoorFault, LineLimit}
 use Rattle.host_top.specs.declared.stories.Refusal.{Refusal}
+use Rattle.host_top.proofs.CallsLemmas.{is_there, unlisted}
 use Rattle.host_top.proofs.CauseLemmas.{failed_six, failed_nine}
 use Rattle.host_top.proofs.ToldLemmas.{tells, whatever_is_asked}
 use Rattle.line_talk.specs.Causes.{Rose}
@@ -210,17 +212,16 @@ no_read : {A B : Type 0} → A ⊎ B → (A → ⊥) → (B → ⊥) → ⊥
 no_read (inl a) f g = f a
 no_read (inr b) f g = g b
 
-pub completes : {D : Type 0} (disks : DiskWords D) {OnDoor : OfDoor D} (asked : Asked)
+-- but for a load that failed
+loaded_ends : {D : Type 0} (disks : DiskWords D) {OnDoor : OfDoor D} (asked : Asked)
     (status : Status) (code : ℕ) (outside beyond : OutsideState D) (input now : SourceState)
     (output new : SinkState)
     → FollowsCommand disks OnDoor asked status outside beyond input now output new
-    → status_of code ≡ Some status
-    → (status ≡ ReadFault
-    → Rose outside.faults beyond.faults ⊎ Rose input.faults now.faults)
+    → status_of code ≡ Some status → (status ≡ ReadFault → ⊥)
     → (status ≡ WriteFault → Rose output.faults new.faults)
     → IsInOrder disks asked outside input output → NoneRose outside beyond input now output new
     → (code ≡ 0) ⊎ (code ≡ 7)
-completes disks {OnDoor} asked status code outside beyond input now output new follows is reads
+loaded_ends disks {OnDoor} asked status code outside beyond input now output new follows is reads
     writes order none =
     let t =
     tells disks asked status outside beyond input now output new follows order.files order.bytes
@@ -229,7 +230,7 @@ completes disks {OnDoor} asked status code outside beyond input now output new f
     (tasked_none disks asked.action (stories_of (map (take 67108865) order.files)) asked.budget
     outside.disk asked.folder order.bytes t.0 status order.tells order.folder order.within
     order.are_stories t.1.1)
-    (λ e. no_read (reads e) none.loads none.reads)
+    reads
     (λ e. none.writes (writes e))
     (λ e. none.disks
     (failed_six disks asked status code outside beyond input now output new follows is
@@ -238,13 +239,64 @@ completes disks {OnDoor} asked status code outside beyond input now output new f
     (failed_nine disks asked status code outside beyond input now output new follows is
     (nine status code is e)))
 
+-- where no fault of a load is counted
+pub completes : {D : Type 0} (disks : DiskWords D) {OnDoor : OfDoor D} (asked : Asked)
+    (status : Status) (code : ℕ) (outside beyond : OutsideState D) (input now : SourceState)
+    (output new : SinkState)
+    → FollowsCommand disks OnDoor asked status outside beyond input now output new
+    → status_of code ≡ Some status
+    → (status ≡ ReadFault
+    → Rose outside.faults beyond.faults ⊎ Rose input.faults now.faults)
+    → (status ≡ WriteFault → Rose output.faults new.faults)
+    → IsInOrder disks asked outside input output → (Rose outside.faults beyond.faults → ⊥)
+    → NoneRose outside beyond input now output new → (code ≡ 0) ⊎ (code ≡ 7)
+completes disks asked status code outside beyond input now output new follows is reads writes order
+    loads none =
+    loaded_ends disks asked status code outside beyond input now output new follows is
+    (λ e. no_read (reads e) loads none.reads) writes order none
+
+unlike : (b : Bool) → b ≡ true → b ≡ false → ⊥
+unlike b is not = grind (arith, is, not)
+
+-- a file that is there is loaded where no load is to fail
+no_load_fails : {D : Type 0} (disks : DiskWords D) {OnDoor : OfDoor D} (asked : Asked)
+    (status : Status) (outside beyond : OutsideState D) (input now : SourceState)
+    (output new : SinkState) (files : List (List ℕ))
+    → FollowsCommand disks OnDoor asked status outside beyond input now output new
+    → NoneIsListed outside.failing_loads → map outside.file asked.names ≡ map There files
+    → (Rose input.faults now.faults → ⊥) → status ≡ ReadFault → ⊥
+no_load_fails disks asked status outside beyond input now output new files (inl none) listed there
+    reads e =
+    let n : ℕ = length none.behind.front in
+    unlike (is_told_missing (outside.file (get_or asked.names n [])))
+    (unlisted outside.failing_loads n beyond.failing_loads _ listed (none.behind.failed e))
+    (is_there outside.file asked.names files n there (none.behind.next e))
+no_load_fails disks asked status outside beyond input now output new files (inr some) listed there
+    reads e =
+    reads (some.cause e)
+
+-- where none was to fail
+pub completes_unlisted : {D : Type 0} (disks : DiskWords D) {OnDoor : OfDoor D} (asked : Asked)
+    (status : Status) (code : ℕ) (outside beyond : OutsideState D) (input now : SourceState)
+    (output new : SinkState)
+    → FollowsCommand disks OnDoor asked status outside beyond input now output new
+    → status_of code ≡ Some status → (status ≡ WriteFault → Rose output.faults new.faults)
+    → IsInOrder disks asked outside input output → NoneIsListed outside.failing_loads
+    → NoneRose outside beyond input now output new → (code ≡ 0) ⊎ (code ≡ 7)
+completes_unlisted disks asked status code outside beyond input now output new follows is writes
+    order listed none =
+    loaded_ends disks asked status code outside beyond input now output new follows is
+    (no_load_fails disks asked status outside beyond input now output new order.files follows
+    listed order.are_there none.reads)
+    writes order none
+
 -- where memory was wanted before the words were known
 pub complete_no_memory : {D : Type 0} (disks : DiskWords D) (asked : Option Asked) (code : ℕ)
     (outside beyond : OutsideState D) (input now : SourceState) (output new : SinkState)
-    → status_of code ≡ Some NoMemory
-    → IfSome asked (λ one. IsInOrder disks one outside input output
+    (P : Type 0) → status_of code ≡ Some NoMemory
+    → IfSome asked (λ one. IsInOrder disks one outside input output → P
     → NoneRose outside beyond input now output new → (code ≡ 0) ⊎ (code ≡ 7))
-complete_no_memory disks asked code outside beyond input now output new is =
-    whatever_is_asked asked (λ (one : Asked). IsInOrder disks one outside input output
+complete_no_memory disks asked code outside beyond input now output new P is =
+    whatever_is_asked asked (λ (one : Asked). IsInOrder disks one outside input output → P
     → NoneRose outside beyond input now output new → (code ≡ 0) ⊎ (code ≡ 7))
-    (λ one order none. inr (no_memory_is_7 code is))
+    (λ one order p none. inr (no_memory_is_7 code is))

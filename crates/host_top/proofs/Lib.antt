@@ -6,6 +6,7 @@ pub mod WrittenLemmas
 pub mod ToldLemmas
 pub mod CauseLemmas
 pub mod CompleteLemmas
+pub mod CallsLemmas
 pub mod StopLemmas
 pub mod OutsideLemmas
 pub mod BorrowLemmas

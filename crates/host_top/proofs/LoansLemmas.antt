@@ -220,7 +220,12 @@ module _ {D : Type 0} (disks : DiskWords D) where
 -- ---- disks, files and doors that stay
 
 pub keeps_none : {D : Type 0} (outside : OutsideState D) → KeepsDisks outside outside
-keeps_none outside = record { disk = λ name. refl; loan = λ name. refl; disk_faults = refl }
+keeps_none outside = record {
+  disk = λ name. refl;
+  loan = λ name. refl;
+  disk_faults = refl;
+  failing = refl;
+}
 
 pub keeps_then : {D : Type 0} {a b c : OutsideState D} → KeepsDisks a b → KeepsDisks b c
     → KeepsDisks a c
@@ -228,10 +233,12 @@ keeps_then p q = record {
   disk = λ name. q.disk name ∙ p.disk name;
   loan = λ name. q.loan name ∙ p.loan name;
   disk_faults = q.disk_faults ∙ p.disk_faults;
+  failing = q.failing ∙ p.failing;
 }
 
 pub doors_none : {D : Type 0} (outside : OutsideState D) → KeepsDoors outside outside
-doors_none outside = record { door_faults = refl; shut = refl; door_calls = refl }
+doors_none outside =
+    record { door_faults = refl; shut = refl; door_calls = refl; failing = refl }
 
 pub doors_then : {D : Type 0} {a b c : OutsideState D} → KeepsDoors a b → KeepsDoors b c
     → KeepsDoors a c
@@ -239,8 +246,13 @@ doors_then p q = record {
   door_faults = q.door_faults ∙ p.door_faults;
   shut = q.shut ∙ p.shut;
   door_calls = q.door_calls ∙ p.door_calls;
+  failing = q.failing ∙ p.failing;
 }
 
 pub files_then : {D : Type 0} {a b c : OutsideState D} → KeepsFiles a b → KeepsFiles b c
     → KeepsFiles a c
-files_then p q = record { file = q.file ∙ p.file; faults = q.faults ∙ p.faults }
+files_then p q = record {
+  file = q.file ∙ p.file;
+  faults = q.faults ∙ p.faults;
+  failing = q.failing ∙ p.failing;
+}

@@ -323,7 +323,13 @@ done_no_memory disks OnDoor asked code outside input output is =
     (λ status. FollowsCommand disks OnDoor one status outside outside input input output output))
     (sym is)
     (inl (record {
-      behind = record { front = []; are_files = tt; are_stories = refl; next = λ e. cc };
+      behind = record {
+        front = [];
+        are_files = tt;
+        are_stories = refl;
+        next = λ e. cc;
+        failed = λ e. cc;
+      };
       cause = inr refl;
       gave = gave_none input;
       wrote = wrote_none output;

@@ -9,6 +9,7 @@ use Rattle.disk_model.specs.Disk.{NoneNew, Only}
 use Rattle.host_serve.specs.declared.worked.Worked.{Worked}
 use Rattle.host_serve.specs.declared.worked.Worked.TheVariants.{Shut, DoorFault}
 use Rattle.line_talk.specs.Causes.{Rose}
+use Rattle.line_talk.specs.Failing.{Failing}
 use Rattle.host_top.specs.declared.door_call.DoorCall.{DoorCall}
 use Rattle.host_top.specs.declared.door_call.DoorCalls.{DoorCalls}
 use Rattle.host_top.specs.declared.loan.Loan.{Loan}
@@ -35,7 +36,8 @@ has_failed (Err NoMemory) = false
 
 -- the files and the disks by their names where they are told, the last loan of the disk of a name,
 -- the faults of loads, those of disks and of the calls that lend them, those of doors and of the
--- calls that give them, how many doors were shut, and the calls for a door
+-- calls that give them, how many doors were shut, and the calls for a door; and which loads, calls
+-- for a disk and calls for a door are to fail, where that is told
 pub record OutsideState (D : Type 0) : Type 0 where
   pub file : List ℕ → Told (List ℕ)
   pub disk : List ℕ → Told D
@@ -45,6 +47,9 @@ pub record OutsideState (D : Type 0) : Type 0 where
   pub door_faults : ℕ
   pub shut : ℕ
   pub door_calls : DoorCalls
+  pub failing_loads : Option Failing
+  pub failing_loans : Option Failing
+  pub failing_doors : Option Failing
 
 -- what is told by one who knows all names
 abbrev pub told_of_all : {A : Type 0} → Option A → Told A
@@ -57,22 +62,26 @@ IsLoadOf Untold bytes = Unit {0}
 IsLoadOf Missing bytes = ⊥
 IsLoadOf (There told) bytes = bytes ≡ take 67108865 told
 
--- the files, and the faults of loads, stay
+-- the files, the faults of loads and the loads that are to fail stay
 pub record KeepsFiles {D : Type 0} (old new : OutsideState D) : Type 0 where
   pub file : new.file ≡ old.file
   pub faults : new.faults ≡ old.faults
+  pub failing : new.failing_loads ≡ old.failing_loads
 
--- the disks, and the faults of disks, stay
+-- the disks, the faults of disks and the calls for one that are to fail stay
 pub record KeepsDisks {D : Type 0} (old new : OutsideState D) : Type 0 where
   pub disk : (name : List ℕ) → new.disk name ≡ old.disk name
   pub loan : (name : List ℕ) → new.loan name ≡ old.loan name
   pub disk_faults : new.disk_faults ≡ old.disk_faults
+  pub failing : new.failing_loans ≡ old.failing_loans
 
--- the faults of doors, the number of those that were shut and the calls for one stay
+-- the faults of doors, the number of those that were shut, the calls for one and those that are to
+-- fail stay
 pub record KeepsDoors {D : Type 0} (old new : OutsideState D) : Type 0 where
   pub door_faults : new.door_faults ≡ old.door_faults
   pub shut : new.shut ≡ old.shut
   pub door_calls : new.door_calls ≡ old.door_calls
+  pub failing : new.failing_doors ≡ old.failing_doors
 
 -- a count after one more, which stands still at its type's end
 abbrev pub after_one : ℕ → ℕ
@@ -162,3 +171,4 @@ pub record TakesDiskBack {D : Type 0} (faults : D → ℕ) (name : List ℕ) (di
       ≡ update bytes_eq old.loan name (returned (faults disk) (old.loan name)) other
   pub count : IsSomeAnd (old.loan name)
       (λ loan. RisesWith loan.from (faults disk) old.disk_faults new.disk_faults)
+  pub failing : new.failing_loans ≡ old.failing_loans

@@ -1,7 +1,9 @@
 -- What a command leaves of the files, the disks, the input and the output (own).
-use Rattle.std.specs.Prelude.{◌≡◌, ℕ, ◌⊎◌, List, [], ◌++◌, map, take, Some, Result, Ok, Err}
+use Rattle.std.specs.Prelude.{◌≡◌, ℕ, ◌⊎◌, List, [], ◌++◌, length, map, take, Some, Result, Ok}
+use Rattle.std.specs.Prelude.{Err}
 use Rattle.host_top.specs.Begun.{InitsOn, WritesBegun}
 use Rattle.host_top.specs.Borrowed.{journal_in}
+use Rattle.host_top.specs.Calls.{MakesCalls}
 use Rattle.host_top.specs.Folder.{UsesFolder}
 use Rattle.line_talk.specs.Causes.{Rose}
 use Rattle.host_top.specs.DoorServed.{OfDoor}
@@ -50,7 +52,7 @@ DoesTask disks OnDoor (Ok (Begins folder)) outside beyond input now output new s
 -- a load failed behind stories alone, or memory was wanted; and nothing was read or written
 pub record NotLoaded {D : Type 0} (names : List (List ℕ)) (outside beyond : OutsideState D)
     (input now : SourceState) (output new : SinkState) (status : Status) : Type 0 where
-  pub behind : LoadStopsBehind outside.file names (status ≡ ReadFault)
+  pub behind : LoadStopsBehind outside beyond names (status ≡ ReadFault)
   pub cause : (status ≡ ReadFault) × Rose outside.faults beyond.faults ⊎ (status ≡ NoMemory)
   pub gave : Gave input now []
   pub wrote : Wrote output new []
@@ -67,6 +69,8 @@ pub record Loaded {D : Type 0} (disks : DiskWords D) (OnDoor : OfDoor D) (asked 
   pub between : OutsideState D
   pub loaded : KeepsDisks outside between
   pub doors : KeepsDoors outside between
+  -- so many loads were made
+  pub loads : MakesCalls outside.failing_loads (length files) between.failing_loads
   pub does :
       DoesTask disks OnDoor (tasked asked.action (stories_of files) asked.budget asked.folder)
       between beyond input now output new status

@@ -15,6 +15,7 @@ pub mod StoryFile
 pub mod Status
 pub mod Follows
 pub mod Complete
+pub mod Calls
 pub mod Spoken
 pub mod Plain
 pub mod Files

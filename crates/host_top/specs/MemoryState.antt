@@ -7,7 +7,19 @@ use Rattle.host_top.specs.Files.{OutsideState, told_of_all}
 use Rattle.host_top.specs.MemoryOutside.{disk_in, loan_in}
 use Rattle.host_top.specs.declared.memory_outside.MemoryOutside.{MemoryOutside}
 
--- of the files, the disks and the doors
+-- its loads that are to fail
+abbrev pub loads_due : MemoryOutside → Option Failing
+loads_due o = Some (record { next = o.loads; listed = o.failing_loads.items })
+
+-- its calls for a disk that are to fail
+abbrev pub loans_due : MemoryOutside → Option Failing
+loans_due o = Some (record { next = o.calls; listed = o.failing_loans.items })
+
+-- its calls for a door that are to fail
+abbrev pub doors_due : MemoryOutside → Option Failing
+doors_due o = Some (record { next = o.door_calls.count; listed = o.failing_doors.items })
+
+-- the files, the disks and the doors
 abbrev pub memory_state : MemoryOutside → OutsideState MemDisk
 memory_state o = record {
   file = λ name. told_of_all (option_map (λ bytes. bytes.items) (get_by_text o.files name));
@@ -18,16 +30,7 @@ memory_state o = record {
   door_faults = o.door_faults;
   shut = o.shut;
   door_calls = o.door_calls;
+  failing_loads = loads_due o;
+  failing_loans = loans_due o;
+  failing_doors = doors_due o;
 }
-
--- of its loads that are to fail
-abbrev pub loads_due : MemoryOutside → Option Failing
-loads_due o = Some (record { next = o.loads; listed = o.failing_loads.items })
-
--- of its calls for a disk that are to fail
-abbrev pub loans_due : MemoryOutside → Option Failing
-loans_due o = Some (record { next = o.calls; listed = o.failing_loans.items })
-
--- of its calls for a door that are to fail
-abbrev pub doors_due : MemoryOutside → Option Failing
-doors_due o = Some (record { next = o.door_calls.count; listed = o.failing_doors.items })

@@ -2,7 +2,8 @@
 use Rattle.std.specs.Prelude.{◌≡◌, ℕ, ◌<◌, suc, List, [], ◌∷◌, length, ◌⊎◌}
 use Rattle.std.specs.Prelude.{Result, Ok, Err, IsErr, IsOk}
 use Rattle.story_run.specs.declared.story.Story.{Story}
-use Rattle.host_top.specs.Files.{IsLoadOf, Told}
+use Rattle.host_top.specs.Calls.{FailsBehind}
+use Rattle.host_top.specs.Files.{IsLoadOf, OutsideState, Told, is_told_missing}
 use Rattle.host_top.specs.StoryFile.{story_in_file}
 use Rattle.host_top.specs.declared.stories.Refusal.{Refusal}
 use Rattle.host_top.specs.declared.stories.Unplayed.{Unplayed}
@@ -44,10 +45,13 @@ abbrev pub IsLoadSettled : List (List ℕ) → List (List ℕ) → Type 0
 IsLoadSettled names loaded = (length loaded ≡ length names) ⊎ IsErr (stories_of loaded)
 
 -- no more is loaded: files of the first names were, and each is a story
-pub record LoadStopsBehind (file : List ℕ → Told (List ℕ)) (names : List (List ℕ)) (P : Type 0)
-    : Type 0 where
+pub record LoadStopsBehind {D : Type 0} (outside beyond : OutsideState D) (names : List (List ℕ))
+    (P : Type 0) : Type 0 where
   pub front : List (List ℕ)
-  pub are_files : AreFiles file names front
+  pub are_files : AreFiles outside.file names front
   pub are_stories : IsOk (stories_of front)
-  -- the file of the next name failed, where P
+  -- the file of the next name failed, where P: it is missing, or its load was to fail
   pub next : P → length front < length names
+  pub failed :
+      P → FailsBehind outside.failing_loads (length front) beyond.failing_loads
+      (is_told_missing (outside.file (get_or names (length front) [])))

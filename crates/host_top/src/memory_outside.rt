@@ -176,13 +176,10 @@ impl MemoryOutside {
           door_faults = 0;
           shut = 0;
           door_calls = record { count = 0; last = None };
+          failing_loads = Some (record { next = 0; listed = failing_loads.items });
+          failing_loans = Some (record { next = 0; listed = failing_loans.items });
+          failing_doors = Some (record { next = 0; listed = failing_doors.items });
         } }
-        ensures loads { ⟦<MemoryOutside as Outside>⟧.failing_loads result
-            ≡ Some (record { next = 0; listed = failing_loads.items }) }
-        ensures loans { ⟦<MemoryOutside as Outside>⟧.failing_loans result
-            ≡ Some (record { next = 0; listed = failing_loans.items }) }
-        ensures doors { ⟦<MemoryOutside as Outside>⟧.failing_doors result
-            ≡ Some (record { next = 0; listed = failing_doors.items }) }
     {
         MemoryOutside {
             files,
@@ -203,19 +200,13 @@ impl MemoryOutside {
 
 impl Outside for MemoryOutside {
     ghost use Rattle.host_top.specs.Files.{Closes, KeepsDisks, KeepsFiles};
-    ghost use Rattle.host_top.specs.MemoryState.{memory_state, loads_due, loans_due, doors_due};
+    ghost use Rattle.host_top.specs.MemoryState.{memory_state};
 
     type Disk = MemDisk;
 
     type Door = MemoryDoor;
 
     ghost outside = { memory_state };
-
-    ghost failing_loads = { loads_due };
-
-    ghost failing_loans = { loans_due };
-
-    ghost failing_doors = { doors_due };
 
     fn load(&mut self, alloc: Global, name: &str) -> Result<Vec<u8>, Fetch> {
         let call = self.loads;
@@ -274,9 +265,8 @@ impl Outside for MemoryOutside {
 
     fn closed(&mut self, how: Worked<MemoryDoor>)
         ensures value { Closes how (memory_state self.old) (memory_state self.new) }
-        ensures others { (loads_due self.new ≡ loads_due self.old)
-            × (loans_due self.new ≡ loans_due self.old)
-            × (doors_due self.new ≡ doors_due self.old) }
+        ensures failing { (memory_state self.new).failing_doors
+            ≡ (memory_state self.old).failing_doors }
         ensures files { KeepsFiles (memory_state self.old) (memory_state self.new) }
         ensures disks { KeepsDisks (memory_state self.old) (memory_state self.new) }
     {

@@ -1,5 +1,5 @@
 //! Where stories, disks and doors come from.
-ghost use Rattle.std.specs.Prelude.{◌≡◌, ◌≤◌, ℕ, List, IsTrue, IfOk, OnErr, IsErrOf, Option};
+ghost use Rattle.std.specs.Prelude.{◌≡◌, ◌≤◌, ℕ, List, IsTrue, IfOk, OnErr, IsErrOf};
 ghost use Rattle.std.specs.Prelude.{is_err, false};
 
 use disk_model::{Disk, Failed};
@@ -18,7 +18,7 @@ pub trait Outside {
     ghost use Rattle.line_talk.specs.Causes.{Rose};
     ghost use Rattle.host_top.specs.Files.{OutsideState, IsLoadOf, KeepsFiles, KeepsDisks};
     ghost use Rattle.host_top.specs.Files.{KeepsDoors, Closes, after_call};
-    ghost use Rattle.line_talk.specs.Failing.{Failing, FailsAsListed};
+    ghost use Rattle.line_talk.specs.Failing.{FailsAsListed};
     ghost use Rattle.host_top.specs.Files.{IsLentFrom, IsLent, Lends, TakesDiskBack};
     ghost use Rattle.host_top.specs.Files.{is_told_missing, is_out, has_failed};
 
@@ -31,15 +31,6 @@ pub trait Outside {
     /// What is known of it. The fault counts never fall.
     ghost outside: { Self → OutsideState Self.Disk };
 
-    /// Its loads that are to fail, where it tells them.
-    ghost failing_loads: { Self → Option Failing };
-
-    /// Its calls for a disk that are to fail, where it tells them.
-    ghost failing_loans: { Self → Option Failing };
-
-    /// Its calls for a door that are to fail, where it tells them.
-    ghost failing_doors: { Self → Option Failing };
-
     /// The bytes of the file of that name, at most the first 67,108,865.
     fn load(&mut self, alloc: Global, name: &str) -> Result<Vec<u8>, Fetch>
         ensures value { IfOk result
@@ -49,10 +40,9 @@ pub trait Outside {
         ensures cause { IsErrOf result Fetch.Failed
             → Rose (outside self.old).faults (outside self.new).faults }
         // A load whose file is told to be missing fails, too.
-        ensures listed { FailsAsListed (failing_loads self.old) (failing_loads self.new)
+        ensures listed { FailsAsListed (outside self.old).failing_loads
+            (outside self.new).failing_loads
             (is_told_missing ((outside self.old).file name.now)) (has_failed result) }
-        ensures others { (failing_loans self.new ≡ failing_loans self.old)
-            × (failing_doors self.new ≡ failing_doors self.old) }
         ensures disks { KeepsDisks (outside self.old) (outside self.new) }
         ensures doors { KeepsDoors (outside self.old) (outside self.new) };
 
@@ -71,10 +61,9 @@ pub trait Outside {
         ensures cause { IsErrOf result Fetch.Failed
             → Rose (outside self.old).disk_faults (outside self.new).disk_faults }
         // A call for a disk that is lent already fails, too.
-        ensures listed { FailsAsListed (failing_loans self.old) (failing_loans self.new)
+        ensures listed { FailsAsListed (outside self.old).failing_loans
+            (outside self.new).failing_loans
             (is_out ((outside self.old).loan name.now)) (has_failed result) }
-        ensures others { (failing_loads self.new ≡ failing_loads self.old)
-            × (failing_doors self.new ≡ failing_doors self.old) }
         ensures files { KeepsFiles (outside self.old) (outside self.new) }
         ensures doors { KeepsDoors (outside self.old) (outside self.new) };
 
@@ -83,9 +72,6 @@ pub trait Outside {
         requires { IsLent ((outside self.old).loan name.now) (Self.Disk.label disk) }
         ensures back { TakesDiskBack Self.Disk.faults name.now disk
             (outside self.old) (outside self.new) }
-        ensures others { (failing_loads self.new ≡ failing_loads self.old)
-            × (failing_loans self.new ≡ failing_loans self.old)
-            × (failing_doors self.new ≡ failing_doors self.old) }
         ensures files { KeepsFiles (outside self.old) (outside self.new) }
         ensures doors { KeepsDoors (outside self.old) (outside self.new) };
 
@@ -94,10 +80,8 @@ pub trait Outside {
         ensures later { (outside self.old).door_faults ≤ (outside self.new).door_faults }
         ensures cause { OnErr result
             (Rose (outside self.old).door_faults (outside self.new).door_faults) }
-        ensures listed { FailsAsListed (failing_doors self.old) (failing_doors self.new) false
-            (is_err result) }
-        ensures others { (failing_loads self.new ≡ failing_loads self.old)
-            × (failing_loans self.new ≡ failing_loans self.old) }
+        ensures listed { FailsAsListed (outside self.old).failing_doors
+            (outside self.new).failing_doors false (is_err result) }
         ensures shut { (outside self.new).shut ≡ (outside self.old).shut }
         ensures asked { (outside self.new).door_calls
             ≡ after_call (record { port = port; links = links }) (outside self.old).door_calls }
@@ -107,9 +91,7 @@ pub trait Outside {
     /// Is told how the work at a door ended.
     fn closed(&mut self, how: Worked<Self::Door>)
         ensures value { Closes how (outside self.old) (outside self.new) }
-        ensures others { (failing_loads self.new ≡ failing_loads self.old)
-            × (failing_loans self.new ≡ failing_loans self.old)
-            × (failing_doors self.new ≡ failing_doors self.old) }
+        ensures failing { (outside self.new).failing_doors ≡ (outside self.old).failing_doors }
         ensures files { KeepsFiles (outside self.old) (outside self.new) }
         ensures disks { KeepsDisks (outside self.old) (outside self.new) };
 }

@@ -9,6 +9,7 @@ ghost use Rattle.command_words.specs.Words.{command_asked, asked_by};
 ghost use Rattle.host_top.specs.Speech.{tasked};
 ghost use Rattle.host_top.specs.Stories.{stories_of};
 ghost use Rattle.host_top.specs.Follows.{DoesTask, FollowsCommand, TellsCaller};
+ghost use Rattle.host_top.specs.Calls.{NoneIsListed};
 ghost use Rattle.host_top.specs.Complete.{IsInOrder, NoneRose};
 
 use crate::check::check;
@@ -159,6 +160,15 @@ pub fn top<R: Threads + Wait + Sync, O: Outside, S: Source, K: Sink>(
     ensures complete { IfSome (asked_by (map string_bytes words.now)) (λ asked.
         IsInOrder O.Disk.Disk asked (O.outside outside.old) (S.source input.old)
         (K.sink output.old)
+        → ¬ (Rose (O.outside outside.old).faults (O.outside outside.new).faults)
+        → NoneRose (O.outside outside.old) (O.outside outside.new) (S.source input.old)
+        (S.source input.new) (K.sink output.old) (K.sink output.new)
+        → (result ≡ 0) ⊎ (result ≡ 7)) }
+    // and so it does where no load is to fail: none of its own making fails
+    ensures unprovoked { IfSome (asked_by (map string_bytes words.now)) (λ asked.
+        IsInOrder O.Disk.Disk asked (O.outside outside.old) (S.source input.old)
+        (K.sink output.old)
+        → NoneIsListed (O.outside outside.old).failing_loads
         → NoneRose (O.outside outside.old) (O.outside outside.new) (S.source input.old)
         (S.source input.new) (K.sink output.old) (K.sink output.new)
         → (result ≡ 0) ⊎ (result ≡ 7)) }

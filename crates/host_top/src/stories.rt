@@ -1,6 +1,7 @@
 //! The stories that a command names.
-ghost use Rattle.std.specs.Prelude.{◌≡◌, ◌≤◌, map, Ok, IfOk, IfErr, IsErrOf};
+ghost use Rattle.std.specs.Prelude.{◌≡◌, ◌≤◌, map, length, Ok, IfOk, IfErr, IsErrOf};
 ghost use Rattle.line_talk.specs.Causes.{Rose};
+ghost use Rattle.host_top.specs.Calls.{MakesCalls};
 ghost use Rattle.host_top.specs.Files.{KeepsDisks, KeepsDoors};
 ghost use Rattle.host_top.specs.Stories.{AreFiles, IsLoadSettled, RefusesStories, LoadStopsBehind};
 ghost use Rattle.host_top.specs.Stories.{stories_of};
@@ -34,8 +35,10 @@ pub fn load_files<O: Outside>(
         (map (λ n. n.now) names.now) (map (λ f. f.items) files.items)) }
     ensures settled { IfOk result (λ files. IsLoadSettled
         (map (λ n. n.now) names.now) (map (λ f. f.items) files.items)) }
-    ensures behind { IfErr result (λ why. LoadStopsBehind (O.outside outside.old).file
-        (map (λ n. n.now) names.now) (why ≡ Fetch.Failed)) }
+    ensures calls { IfOk result (λ files. MakesCalls (O.outside outside.old).failing_loads
+        (length files.items) (O.outside outside.new).failing_loads) }
+    ensures behind { IfErr result (λ why. LoadStopsBehind (O.outside outside.old)
+        (O.outside outside.new) (map (λ n. n.now) names.now) (why ≡ Fetch.Failed)) }
     ensures cause { IsErrOf result Fetch.Failed
         → Rose (O.outside outside.old).faults (O.outside outside.new).faults }
     ensures kept { (O.outside outside.new).file ≡ (O.outside outside.old).file }

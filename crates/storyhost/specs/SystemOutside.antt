@@ -1,12 +1,11 @@
 -- What is known of the system's outside (own).
-use Rattle.std.specs.Prelude.{Option, None}
+use Rattle.std.specs.Prelude.{None}
 use Rattle.std.specs.BTreeMap.{get_by_text}
-use Rattle.line_talk.specs.Failing.{Failing}
 use Rattle.host_top.specs.Files.{OutsideState, Untold}
 use Rattle.storyhost.specs.declared.edge.disk.FileDisk.{FileDisk}
 use Rattle.storyhost.specs.declared.edge.files.SystemFiles.{SystemFiles}
 
--- no name is told; the loans, the counts, and the calls for a door
+-- no name is told, nor which calls are to fail; the loans, the counts, and the calls for a door
 abbrev pub system_state : {R : Type 0} → SystemFiles R → OutsideState (FileDisk R)
 system_state o = record {
   file = λ name. Untold;
@@ -17,8 +16,7 @@ system_state o = record {
   door_faults = o.door_faults;
   shut = o.shut;
   door_calls = o.door_calls;
+  failing_loads = None;
+  failing_loans = None;
+  failing_doors = None;
 }
-
--- which of its calls are to fail isn't told
-abbrev pub none_due : {R : Type 0} → SystemFiles R → Option Failing
-none_due o = None

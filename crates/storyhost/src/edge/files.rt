@@ -123,19 +123,13 @@ where
     R: Clock + Env + Eprint + Sync,
 {
     ghost use Rattle.host_top.specs.Files.{Closes, KeepsDisks, KeepsFiles};
-    ghost use Rattle.storyhost.specs.SystemOutside.{system_state, none_due};
+    ghost use Rattle.storyhost.specs.SystemOutside.{system_state};
 
     type Disk = FileDisk<'r, R>;
 
     type Door = TcpDoor<'r, R>;
 
     ghost outside = { system_state };
-
-    ghost failing_loads = { none_due };
-
-    ghost failing_loans = { none_due };
-
-    ghost failing_doors = { none_due };
 
     fn load(&mut self, alloc: Global, name: &str) -> Result<Vec<u8>, Fetch> {
         let mut bytes = Vec::new(alloc);
@@ -222,9 +216,8 @@ where
 
     fn closed(&mut self, how: Worked<TcpDoor<'r, R>>)
         ensures value { Closes how.entry (system_state self.old) (system_state self.new) }
-        ensures others { (none_due self.new ≡ none_due self.old)
-            × (none_due self.new ≡ none_due self.old)
-            × (none_due self.new ≡ none_due self.old) }
+        ensures failing { (system_state self.new).failing_doors
+            ≡ (system_state self.old).failing_doors }
         ensures files { KeepsFiles (system_state self.old) (system_state self.new) }
         ensures disks { KeepsDisks (system_state self.old) (system_state self.new) }
     {

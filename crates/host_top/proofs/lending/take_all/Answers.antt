@@ -25,7 +25,7 @@ loop-name-init g c = record {
       none_lent _ (g.O.Outside.outside c.args.outside.now) (map string_bytes c.args.names.now)
       c.new-disks.result.items c.new-disks.ensures.items;
   count = refl;
-  files = record { file = refl; faults = refl };
+  files = record { file = refl; faults = refl; failing = refl };
   doors = doors_none _;
 }
 

@@ -2,7 +2,8 @@ use Rattle.std.proofs.Common.{◌∙◌, ap, map, string_bytes, sym}
 use Rattle.std.specs.Option.{option_map}
 use Rattle.command_words.specs.Words.{command_asked, asked_by}
 use Rattle.host_top.proofs.CauseLemmas.{failed_six, failed_nine, coded_two, coded_four, coded_five}
-use Rattle.host_top.proofs.CompleteLemmas.{completes, complete_no_memory}
+use Rattle.host_top.proofs.CompleteLemmas.{completes, completes_unlisted}
+use Rattle.host_top.proofs.CompleteLemmas.{complete_no_memory}
 use Rattle.host_top.proofs.ToldLemmas.{tells, told_no_memory, done_no_memory}
 use Rattle.host_top.proofs.program.top.Goals as goal
 
@@ -58,7 +59,15 @@ returns-in-Err-clause-complete g c =
     complete_no_memory _ (asked_by (map string_bytes c.args.words.now)) c.code-in-Err.result
     (g.O.Outside.outside c.args.outside.now) (g.O.Outside.outside c.args.outside.now)
     (g.S.Source.source c.args.input.now) (g.S.Source.source c.args.input.now)
-    (g.K.Sink.sink c.args.output.now) (g.K.Sink.sink c.args.output.now)
+    (g.K.Sink.sink c.args.output.now) (g.K.Sink.sink c.args.output.now) _
+    c.code-in-Err.ensures
+
+pub returns-in-Err-clause-unprovoked : goal.returns-in-Err-clause-unprovoked
+returns-in-Err-clause-unprovoked g c =
+    complete_no_memory _ (asked_by (map string_bytes c.args.words.now)) c.code-in-Err.result
+    (g.O.Outside.outside c.args.outside.now) (g.O.Outside.outside c.args.outside.now)
+    (g.S.Source.source c.args.input.now) (g.S.Source.source c.args.input.now)
+    (g.K.Sink.sink c.args.output.now) (g.K.Sink.sink c.args.output.now) _
     c.code-in-Err.ensures
 
 pub returns-clause-complete : goal.returns-clause-complete
@@ -67,3 +76,10 @@ returns-clause-complete g c =
     rw is
     (completes _ _ _ _ _ _ _ _ _ _ c.follow-status.ensures.done c.code-2.ensures
     c.follow-status.ensures.read_fault c.follow-status.ensures.write_fault)
+
+pub returns-clause-unprovoked : goal.returns-clause-unprovoked
+returns-clause-unprovoked g c =
+    let is = sym c.in-Ok-Some.ensures ∙ ap (option_map command_asked) c.in-Ok-Some.field-0-is in
+    rw is
+    (completes_unlisted _ _ _ _ _ _ _ _ _ _ c.follow-status.ensures.done c.code-2.ensures
+    c.follow-status.ensures.write_fault)

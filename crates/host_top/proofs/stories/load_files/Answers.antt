@@ -1,6 +1,7 @@
-use Rattle.std.proofs.Common.{◌∙◌, ap, sym, arith, inr, is_ok, map, List, ℕ}
+use Rattle.std.proofs.Common.{◌∙◌, ap, sym, arith, rules, inr, is_ok, length, map, List, ℕ}
 use Rattle.std.proofs.lemmas.List.{length-map}
 use Rattle.host_top.specs.StoryFile.{story_in_file}
+use Rattle.host_top.proofs.CallsLemmas.{load_failed, none_made, one_made}
 use Rattle.host_top.proofs.LoansLemmas.{doors_then, keeps_then}
 use Rattle.host_top.proofs.StoriesLemmas.{any_error, loaded_more, loaded_last, loaded_story}
 use Rattle.host_top.proofs.stories.load_files.Goals as goal
@@ -29,6 +30,9 @@ loop-name-preserved g c = record {
       ∙ ap (λ (b : List ℕ). is_ok (story_in_file b)) c.deref.ensures.value));
   count = omega (arith, c.in-Ok.ensures.len);
   kept = c.in_ok-bytes.ensures.kept ∙ c.loop-name.invariant.kept;
+  calls =
+      one_made _ _ _ c.loop-name.name-index _ _ c.loop-name.invariant.calls
+      c.load.ensures.listed;
   later = omega (arith, c.in_ok-bytes.ensures.later);
   disks = keeps_then c.loop-name.invariant.disks c.in_ok-bytes.ensures.disks;
   doors = doors_then c.loop-name.invariant.doors c.in_ok-bytes.ensures.doors;
@@ -48,4 +52,10 @@ returns-in_err-bytes-clause-behind g c = any_error c.from_residual.result _ (λ 
             c.loop-name.files.items (λ f. f.items),
         length-map c.args.names.now (λ n. n.now),
       );
+  failed =
+      λ failed. load_failed _ _ _ _ _ _ _ _ c.loop-name.name-index
+      (length (map (λ f. f.items) c.loop-name.files.items)) _ c.loop-name.invariant.calls
+      (length-map c.loop-name.files.items (λ f. f.items) ∙ c.loop-name.invariant.count)
+      c.loop-name-test.true c.loop-name.invariant.kept c.load.ensures.listed
+      (search (rules));
 })

@@ -1,4 +1,5 @@
 use Rattle.std.proofs.Common.{◌≡◌, ◌≤◌, map, length, IsOk}
+use Rattle.host_top.specs.Calls.{MakesCalls}
 use Rattle.host_top.specs.Files.{KeepsDisks, KeepsDoors}
 use Rattle.host_top.specs.Stories.{AreFiles, stories_of}
 use Rattle.host_top.proofs.stories.load_files.Given as goal
@@ -12,5 +13,7 @@ invariant-loop-name g l = record {
   kept : (g.O.Outside.outside l.outside).file ≡ (g.O.Outside.outside l.initial.outside).file;
   disks : KeepsDisks (g.O.Outside.outside l.initial.outside) (g.O.Outside.outside l.outside);
   doors : KeepsDoors (g.O.Outside.outside l.initial.outside) (g.O.Outside.outside l.outside);
+  calls : MakesCalls (g.O.Outside.outside l.initial.outside).failing_loads l.name-index
+      (g.O.Outside.outside l.outside).failing_loads;
   later : (g.O.Outside.outside l.initial.outside).faults ≤ (g.O.Outside.outside l.outside).faults;
 }

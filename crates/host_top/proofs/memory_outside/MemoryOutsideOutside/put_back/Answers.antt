@@ -1,4 +1,4 @@
-use Rattle.std.proofs.Common.{rules, arith, Some, ◌≡◌, sym, ap, ◌∙◌, subst, ℕ, List, Option}
+use Rattle.std.proofs.Common.{rules, arith, refl, Some, ◌≡◌, sym, ap, ◌∙◌, subst, ℕ, List, Option}
 use Rattle.std.proofs.Common.{IsSomeAnd}
 use Rattle.std.proofs.lemmas.Map.Text.{btree_map_updates_text}
 use Rattle.std.specs.BTreeMap.{get_by_text}
@@ -50,6 +50,7 @@ returns-clause-back c = let p = (goal.at.returns-clause-back c).After-take_back 
           subst (λ (l : Option Loan). IsSomeAnd l
           (λ loan. RisesWith loan.from c.args.disk.faults c.args.self.now.disk_faults
           c.take_back.new.faults)) (sym (here p)) c.take_back.ensures.count;
+      failing = refl;
     }
 
 pub invariant_of-self : goal.invariant_of-self

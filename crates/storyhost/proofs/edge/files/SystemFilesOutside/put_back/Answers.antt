@@ -1,4 +1,4 @@
-use Rattle.std.proofs.Common.{rules, arith, ◌<◌, Some, ◌≡◌, sym, ap, ◌∙◌, subst, ℕ, List, Option}
+use Rattle.std.proofs.Common.{rules, arith, refl, ◌<◌, Some, ◌≡◌, sym, ap, ◌∙◌, subst, ℕ, List, Option}
 use Rattle.std.proofs.Common.{IsSomeAnd}
 use Rattle.std.proofs.lemmas.Map.Text.{btree_map_updates_text}
 use Rattle.std.specs.BTreeMap.{get_by_text}
@@ -32,6 +32,7 @@ returns-clause-back g c =
           c.end.new.faults)) (sym here)
           (subst (λ (n : ℕ). RisesWith c.in-Some.loan.now.from n c.args.self.now.disk_faults
           c.end.new.faults) c.faults-faults.ensures.value c.end.ensures.faults);
+      failing = refl;
     }
 
 pub invariant_of-self : goal.invariant_of-self
