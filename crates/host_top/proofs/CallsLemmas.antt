@@ -1,5 +1,5 @@
 -- Calls of an outside, one after the other, and the one that failed.
-use Rattle.std.proofs.Common.{◌≡◌, ◌∙◌, ℕ, zero, suc, ◌+◌, ◌<◌, Bool, true, false, ◌||◌, List, []}
+use Rattle.std.proofs.Common.{◌≡◌, ◌∙◌, ℕ, zero, suc, ◌+◌, ◌<◌, ◌==◌, Bool, true, false, ◌||◌, List, []}
 use Rattle.std.proofs.Common.{◌∷◌, map, length, get_or, add-one, refl, sym, ap, subst, arith}
 use Rattle.std.proofs.Common.{Option, None, Some}
 use Rattle.std.proofs.lemmas.List.{get_or-map}
@@ -81,4 +81,6 @@ is_there file (name ∷ names) (one ∷ files) zero told room =
         (ys : List (Told (List ℕ))) → x ∷ xs ≡ y ∷ ys → x ≡ y
     first x xs y ys e = cc
 is_there file (name ∷ names) (one ∷ files) (suc n) told room =
-    is_there file names files n cc (omega (arith, room))
+    let rest : map file names ≡ map There files = cc in
+    let within : n < length names = omega (arith, room) in
+    is_there file names files n rest within
