@@ -3,6 +3,7 @@ use Rattle.std.proofs.Common.{◌≡◌, ◌⊎◌, ℕ, Option, Some, None, Lis
 use Rattle.std.proofs.Common.{ap, sym, ◌∙◌, inl, inr, arith}
 use Rattle.std.specs.Prelude.{slice_get}
 use Rattle.std.proofs.lemmas.List.{same_from_push}
+use Rattle.disk_model.specs.Disk.{Rose}
 use Rattle.gate_journal.specs.declared.command.Command.{Command}
 use Rattle.line_words.specs.declared.reply.No.TheVariants as no
 use Rattle.line_words.specs.declared.reply.Reply.{Reply}
@@ -25,7 +26,7 @@ abbrev Replies : Reply → List Entry → ℕ → Reply → List Entry → Type 
 Replies decision before by reply after = (reply ≡ decision)
     ⊎ (reply ≡ replies.No no.NoMemory)
     ⊎ ((from : ℕ) × (to : ℕ) × (reply ≡ replies.No (no.DiskFault from to))
-    × (after ≡ before ++ Faulted by from to ∷ []))
+    × (after ≡ before ++ Faulted by from to ∷ []) × Rose from to)
 
 met_replies : (h : List Entry) (by : ℕ) (reply : Reply) (accepted : Option Command)
     (outcome : Outcome) → MayMeet accepted outcome
@@ -37,7 +38,7 @@ met_replies h by reply None OutOfMemory met = inr (inl refl)
 met_replies h by reply None Forgotten met = absurd met
 met_replies h by reply (Some command) Answered met = inl refl
 met_replies h by reply (Some command) (DiskFailed from to) met =
-    inr (inr (from, to, refl, refl))
+    inr (inr (from, to, refl, refl, met))
 met_replies h by reply (Some command) OutOfMemory met = inr (inl refl)
 met_replies h by reply (Some command) Forgotten met = inr (inl refl)
 
@@ -78,5 +79,6 @@ module _ (stories : List Story) (budget : ℕ) (holders : List Holder) (new : Li
         f.0,
         f.1,
         reply ∙ f.2,
-        stands_there (Faulted (holder_at holders t.mark.session).number f.0 f.1) adds f.3,
+        stands_there (Faulted (holder_at holders t.mark.session).number f.0 f.1) adds f.3.0,
+        f.3.1,
       ))

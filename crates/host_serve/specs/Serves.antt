@@ -2,6 +2,7 @@
 use Rattle.std.specs.Prelude.{◌≡◌, ◌⊎◌, ℕ, ◌<◌, ◌≤◌, List, [], ◌∷◌, ◌++◌, length}
 use Rattle.std.specs.Prelude.{take, set, slice_get, Option, Some}
 use Rattle.turn_cell.specs.History.{IsAmong}
+use Rattle.disk_model.specs.Disk.{Rose}
 use Rattle.line_words.specs.declared.reply.No.TheVariants.{DiskFault, NoMemory}
 use Rattle.line_words.specs.declared.reply.Reply.{Reply}
 use Rattle.line_words.specs.declared.reply.Reply.TheVariants.{No}
@@ -77,14 +78,14 @@ module _ (stories : List Story) (budget : ℕ) where
       × (slice_get (seen_at new t.mark.session) t.mark.length ≡ Some e)
       × (entry_by e ≡ (holder_at holders t.mark.session).number)
 
-  -- the reply is the session's on the marked prefix, or `NO 12`; or the disk failed, and its fault
-  -- stands there as this pass's entry
+  -- the reply is the session's on the marked prefix, or `NO 12`; or the disk failed, its count rose,
+  -- and its fault stands there as this pass's entry
   abbrev pub IsExact : List Holder → List (List Entry) → AnsweredLine → Type 0
   IsExact holders new t = (t.reply ≡ (decided_on_line (marked new t) t).reply)
       ⊎ (t.reply ≡ No NoMemory)
       ⊎ ((from : ℕ) × (to : ℕ) × (t.reply ≡ No (DiskFault from to))
       × (slice_get (seen_at new t.mark.session) t.mark.length
-      ≡ Some (Faulted (holder_at holders t.mark.session).number from to)))
+      ≡ Some (Faulted (holder_at holders t.mark.session).number from to)) × Rose from to)
 
   -- exactly one turn adds the entry at this place of the session's history
   pub record AddedOnce (holders : List Holder) (new : List (List Entry)) (turns : List AnsweredLine)

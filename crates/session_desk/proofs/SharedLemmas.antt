@@ -37,7 +37,7 @@ use Rattle.session_desk.specs.Desk.{committed, DeskState, cold_desk}
 use Rattle.session_desk.specs.Marks.{count_commands, marks_by, commands_woven}
 use Rattle.session_desk.specs.Shared.{desk_tag, DeskTag, history_met, IsMarked, IsPassOf}
 use Rattle.session_desk.specs.Shared.{LeavesHistory, met_by, SharedState, TakesEntry, unnumbered}
-use Rattle.session_desk.specs.Shared.{unplaced}
+use Rattle.session_desk.specs.Shared.{HasRisen, unplaced}
 use Rattle.session_desk.specs.Turn.{entries_added, history_in}
 use Rattle.session_desk.proofs.OpensLemmas.{foreign_none, later_numbered, next_numbered}
 use Rattle.snap_store.specs.Store.{Snapshots}
@@ -345,6 +345,13 @@ pub why_unplaced : (done : Result ℕ Refused) (P : Refused → Type 0)
     → IfErr done P → IfErr (unplaced done) P
 why_unplaced (Ok place) P p = tt
 why_unplaced (Err why) P p = p
+
+pub has_risen : {D : Type 0} (faults : D → ℕ) (session : ℕ) (command : Command) (old new : Log D)
+    (done : Result ℕ Refused)
+    → IfErr done (λ why. RefusalLeaves faults session command old new why) → IfErr done HasRisen
+has_risen faults session command old new (Ok place) leaves = tt
+has_risen faults session command old new (Err (DiskFault fault)) leaves = leaves.0.rose
+has_risen faults session command old new (Err NoMemory) leaves = tt
 
 pub met_unplaced : (done : Result ℕ Refused) → met_by done ≡ met_by (unplaced done)
 met_unplaced (Ok place) = refl

@@ -1,5 +1,6 @@
 -- A sound desk answers as a session that is played from the start (own).
-use Rattle.std.specs.Prelude.{◌≡◌, ◌≤◌, ℕ, max, Bool, IsTrue, List, length, [], ◌++◌, Option, Some}
+use Rattle.std.specs.Prelude.{◌≡◌, ◌≤◌, ℕ, max, Bool, IsTrue, List, length, [], ◌++◌}
+use Rattle.std.specs.Prelude.{Option, Some, None}
 use Rattle.disk_model.specs.Disk.{EachImage, LeavesOnly, SameDisk}
 use Rattle.turn_cell.specs.Passes.{seen}
 use Rattle.gate_journal.specs.Log.{rows_of}
@@ -148,6 +149,10 @@ pub record TurnsBy
       GoesOn old.desk.session
       (answer_in old.desk.stories old.desk.commands now request).accepted turned.outcome
       (seen old.pass) (seen new.pass)
+  -- where nothing is accepted the journal isn't waited for
+  pub idle :
+      (answer_in old.desk.stories old.desk.commands now request).accepted ≡ None
+      → new.pass ≡ old.pass
 
 -- What a desk leaves of its store: the disk that it was given, and, where the desk is sound, images
 -- that agree with the session's commands, now and at each moment since it was opened.

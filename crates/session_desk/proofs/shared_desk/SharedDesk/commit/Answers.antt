@@ -79,6 +79,7 @@ returns g c =
       ok = ok_unplaced done _ (takes done c.args.request.now c.args.by old new f.0 f.1 ok history);
       runs = ok_unplaced done _ c.commit_in_turn-done.ensures.runs;
       err = err_unplaced done _ err;
+      rose = why_unplaced done _ c.commit_in_turn-done.ensures.rose;
       cause =
           why_unplaced done _ (leaves_history done c.args.by old.history new.history f.0 history);
       journal =

@@ -3,7 +3,8 @@ use Rattle.turn_cell.specs.Passes.{seen, view}
 use Rattle.session_desk.specs.Shared.{met_by}
 use Rattle.session_desk.proofs.AlikeLemmas.{accepts}
 use Rattle.session_desk.proofs.OpensLemmas.{opens_by}
-use Rattle.session_desk.proofs.SharedLemmas.{appended, history_in-behind, kept-since, leaves, others}
+use Rattle.session_desk.proofs.SharedLemmas.{appended, has_risen, history_in-behind, kept-since}
+use Rattle.session_desk.proofs.SharedLemmas.{leaves, others}
 use Rattle.session_desk.proofs.shared_desk.commit.commit_in_turn.Goals as goal
 
 pub commit-done-requires-clause-rows : goal.commit-done-requires-clause-rows
@@ -23,6 +24,12 @@ leave-requires-clause-value g c =
     (appended g.D.Disk.faults c.args.request.now c.args.desk.now c.commit-done.new.self
     c.enter-journal.result c.commit-done.new.journal its.command c.commit-done.result
     its.asked c.commit-done.ensures.ok (c.commit-done.ensures.cause its.command its.asked))
+
+pub returns-clause-rose : goal.returns-clause-rose
+returns-clause-rose g c =
+    let its = accepts c.args.desk.now c.args.request.now c.requires.fresh in
+    has_risen g.D.Disk.faults c.args.desk.now.session its.command c.enter-journal.result
+    c.commit-done.new.journal c.commit-done.result (c.commit-done.ensures.cause its.command its.asked)
 
 pub returns-clause-journal : goal.returns-clause-journal
 returns-clause-journal g c = λ command asked. record {
