@@ -321,7 +321,9 @@ class Place:
         is_new = session.play_on(story, self.seed(), size)
         if given.new and not is_new:
             session.anew(story, self.seed(), size)
-        elif given.seed is not None and not is_new:
+        elif not is_new:
+            session.recall()
+        if given.seed is not None and not (is_new or given.new):
             session.note = "[this game goes on with its own seed: --seed is for a new one]"
         return session
 
