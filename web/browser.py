@@ -11,7 +11,7 @@ from aiohttp import WSMsgType
 
 from archive import IN_USE, SESSIONS, SPENT, Full, new_key, say
 from links import Strange, Unreached
-from remglk import Measure, Refused, Show, key_of, message_of, move_of, number_of, text_in, update_of, windows_of
+from remglk import Measure, Refused, Show, key_of, message_of, move_of, number_of, text_in, update_of, windows_of, with_earlier
 from watched import SHOWS_AT_ONCE, word_of
 
 from host import REFUSALS  # of stories/, which remglk puts on the path
@@ -24,7 +24,6 @@ MOST_UNSEEN = 16            # shows that wait for a spectator's browser
 LATE = {"5", "6", "7"}
 GAME = re.compile(r"([A-Za-z0-9_-]{1,32})/([0-9]|[1-9][0-9])")
 NO_GAME = "there is no such game"
-NO_WATCH = "this host can't be watched: it has no spectators"
 STOPPED = "The host has stopped. It is waited for, and what you gave is sent to it again."
 BUSY = "The host is busy; what you gave waits for its turn."
 
@@ -231,8 +230,8 @@ class Browser:
         return not reply.refusal
 
     async def resume(self, wanted, is_new):
-        """Shows what a session's story said last. A display that is new has its size told to the host; one
-        that comes again first has to see whether its last move was kept."""
+        """Shows what a session's story said last. A display that is new is shown the moves before that too, and
+        has its size told to the host; one that comes again first has to see whether its last move was kept."""
         place, key = self.place_of(wanted), key_of(wanted)
         if place is None:
             await asyncio.sleep(WRONG_KEY_SECONDS)
@@ -243,9 +242,19 @@ class Browser:
             raise Refused(NO_GAME)
         if reply.refusal:
             return await self.send(refused(reply))
+        if is_new:
+            await self.recall(session, key, reply)
         await self.seat(self.host, session, key, reply)
         if is_new:
             await self.tell_size(self.gen)
+
+    async def recall(self, session, key, reply):
+        """Puts what the moves before have left in its buffers before a last show, where the host tells them."""
+        n, _ = reply.show
+        seen = await self.wait_for(self.host.watch(session, word_of(key), max(n + 1 - SHOWS_AT_ONCE, 0)), self.host)
+        shows = [lines for number, lines in seen.shows if number <= n]
+        if shows and not seen.refusal:
+            reply.shows = [(n, with_earlier([*shows[:-1], reply.show[1]]))]
 
     async def last_of(self, host, session, key):
         """What a session says last, to who has its key. Who hasn't is answered late."""
@@ -375,5 +384,4 @@ class Browser:
             return await self.leave("what the host answers isn't understood")
         if refusal == "2":
             await asyncio.sleep(WRONG_KEY_SECONDS)
-        cause = {"1": NO_WATCH, "2": NO_GAME}
-        await self.leave(cause.get(refusal, REFUSALS.get(refusal, f"the host answers NO {refusal}")))
+        await self.leave(NO_GAME if refusal == "2" else REFUSALS.get(refusal, f"the host answers NO {refusal}"))
