@@ -133,7 +133,8 @@ def launched(words):
     try:
         return subprocess.Popen(words, **pipes, start_new_session=True)
     except OSError as cause:
-        raise SystemExit(f"play.py: {words[0]} can't be run ({cause.strerror}). ./begin builds a program to look "
+        name = os.path.basename(sys.argv[0])
+        raise SystemExit(f"{name}: {words[0]} can't be run ({cause.strerror}). ./begin builds a program to look "
                          "around with, README.md says how the proved one is built; --host names another") from None
 
 
@@ -464,6 +465,7 @@ class Session(Linked):
             raise SystemExit("play.py: there is no move to take back")
         self.windows, self.main, self.count = {}, None, None
         self.must(self.look())
+        self.recall()
         self.note = "[the last move is taken back]"
 
     def close(self):

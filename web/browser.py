@@ -25,6 +25,8 @@ LATE = {"5", "6", "7"}
 GAME = re.compile(r"([A-Za-z0-9_-]{1,32})/([0-9]|[1-9][0-9])")
 NO_GAME = "there is no such game"
 STOPPED = "The host has stopped. It is waited for, and what you gave is sent to it again."
+AWAY = "The host has stopped. It is waited for."
+THERE = "The host is there again; the game goes on."
 BUSY = "The host is busy; what you gave waits for its turn."
 
 
@@ -167,7 +169,7 @@ class Browser:
             later.cancel()
             if telling:
                 telling.cancel()
-                await self.note("The host is there again; the game goes on." if self.told == STOPPED else "", False)
+                await self.note(THERE if self.told == STOPPED else "", False)
 
     async def tell_waits(self, host):
         while True:
@@ -352,15 +354,19 @@ class Browser:
             self.unseen.put_nowait(seen)
 
     async def look_on(self):
-        watched = self.watched
-        getting = None
+        watched, getting, is_there = self.watched, None, True
         try:
             while True:
-                getting = asyncio.ensure_future(self.unseen.get())
-                done, _ = await asyncio.wait({getting, watched.task}, return_when=asyncio.FIRST_COMPLETED)
-                if getting not in done:
+                getting = getting or asyncio.ensure_future(self.unseen.get())
+                done, _ = await asyncio.wait({getting, watched.task}, timeout=NOTE_SECONDS, return_when=asyncio.FIRST_COMPLETED)
+                if is_there != self.host.links.is_there:
+                    is_there = not is_there
+                    await self.note(THERE if is_there else AWAY, not is_there)
+                if getting in done:
+                    await self.look(getting.result())
+                    getting = None
+                elif watched.task in done:
                     return await self.look_away(watched.task)
-                await self.look(getting.result())
         finally:
             if getting:
                 getting.cancel()

@@ -272,10 +272,12 @@ def play_in(pages, address, host, gateway, story, program, pictures):
     moves = read_moves(TOP / "stories" / "cottage.moves")
 
     def stop_host():
-        """The host is killed with the move under way, or just behind it."""
+        """The host is killed with the move under way, or just behind it. The spectator is told, too."""
         host.kill()
         time.sleep(1.5)
+        pages[1].wait("the spectator is told that the host is gone", lambda: "has stopped" in pages[1].note())
         host.start()
+        pages[1].wait("the spectator is told that the host is there", lambda: "there again" in pages[1].note())
 
     for at, move in enumerate(moves):
         meanwhile = None
