@@ -383,10 +383,10 @@ class Linked(Game):
                 self.link.end()
                 if self.count is None and again == 9:
                     raise SystemExit(f"play.py: no host answers at {self.link}. Is it started?") from None
-                if self.count is None:
-                    self.say("[no host answers yet; it is waited for]")
-                else:
-                    self.say("[the host has stopped; it is waited for, a minute]")
+                if not again:
+                    self.say("[no host answers yet; it is waited for]" if self.count is None else
+                             "[the host has stopped; it is waited for, a minute]")
+                if self.count is not None:
                     self.note = "[the host had stopped; it is there again, and the game goes on]"
                 time.sleep(0.5 if again else 0)
         else:
