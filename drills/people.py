@@ -6,8 +6,8 @@
 - 64 players at once on a host of four workers, by play.py's own requests, each over links of its own. While they
   play the journal is copied again and again; from each copy, put into a new folder, each game must go on from a
   move that its player had been shown, or from the one that was under way. keeper.py lists them all.
-- keeper.py: a journal is damaged and repaired, which story files it wants is asked, a game is closed over the port,
-  and a folder that is held as a host holds it is refused.
+- keeper.py: a journal is damaged and repaired, which story files it wants is asked, and what its players were shown; a
+  game is closed over the port, and a folder that is held as a host holds it is refused.
 - stories/client.py, the small client, plays over a host that is killed and started again, and loses nothing.
 - play.py on a terminal of 80 by 24 (tmux): a line is edited, a game saved and restored at its prompts, the terminal
   grows and shrinks, the text is looked back at, `quit` says what can be done, and a new game is begun; a host is
@@ -187,6 +187,12 @@ def keeper(room):
     want("a story that isn't there is named", asked.returncode == 1 and "NONE" in asked.stdout, asked.stdout)
     asked = script("keeper.py", "wants", folder, MILL, COTTAGE)
     want("one that is there, too", asked.returncode == 0 and "cottage.ulx" in asked.stdout, asked.stdout)
+    told = script("keeper.py", "texts", folder, COTTAGE, "--session", "5")
+    want("the text of a game", told.returncode == 0 and told.stdout.count(">look") == MOVES, told.stdout + told.stderr)
+    told = script("keeper.py", "texts", folder, COTTAGE)
+    want("the text of each game", told.stdout.count("==== session") == PLAYERS, told.stderr)
+    told = script("keeper.py", "texts", folder, MILL)
+    want("a story that isn't there", told.stdout.count("its story isn't among") == PLAYERS, told.stderr)
     rows = list(files.rows_of(files.journal_of(folder)))
     damaged = rows[-40].place
     files.write_at(folder / "journal", damaged + 2, b"\x09")
