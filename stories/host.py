@@ -61,6 +61,7 @@ SAVED_GAME = 1
 WRITE, READ = 1, 2
 GREATEST = 0xFFFFFFFF       # the greatest number of a command
 SHOWS = 8                   # the most shows of a reply to a spectator
+MOST_RECALLED = 1000        # moves of a game that a host is asked to play again for who comes back, which takes a second or so
 SLOW = 3                    # seconds, after which a player is told that the host hasn't answered
 # In the main window's text: what was printed in that turn before it was cleared isn't shown.
 CLEARED = "\f"
@@ -418,8 +419,8 @@ class Session(Linked):
 
     def recall(self):
         """Shows the last eight moves in place of the last one, to who comes back: what the turns before have left on
-        the screen stands there again. A host that can't tell them is left with its last show."""
-        if self.count == 0:
+        the screen stands there again. Of a long game, and where the host can't tell them, the last one stands alone."""
+        if not 0 < self.count <= MOST_RECALLED:
             return
         first = max(self.count + 1 - SHOWS, 0)
         lines = self.exchange(f"WATCH {self.number} {word_of(self.key)} {first}")

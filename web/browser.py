@@ -14,7 +14,7 @@ from links import Strange, Unreached
 from remglk import Measure, Refused, Show, key_of, message_of, move_of, number_of, text_in, update_of, windows_of, with_earlier
 from watched import SHOWS_AT_ONCE, word_of
 
-from host import REFUSALS  # of stories/, which remglk puts on the path
+from host import MOST_RECALLED, REFUSALS  # of stories/, which remglk puts on the path
 
 MOST_WAITING = 8            # messages of a browser that wait for their turn
 BURST = 40                  # messages of a browser that are taken at once
@@ -251,8 +251,10 @@ class Browser:
             await self.tell_size(self.gen)
 
     async def recall(self, session, key, reply):
-        """Puts what the moves before have left in its buffers before a last show, where the host tells them."""
+        """Puts what the moves before have left in its buffers before a last show, where the game isn't long."""
         n, _ = reply.show
+        if n > MOST_RECALLED:
+            return
         seen = await self.wait_for(self.host.watch(session, word_of(key), max(n + 1 - SHOWS_AT_ONCE, 0)), self.host)
         shows = [lines for number, lines in seen.shows if number <= n]
         if shows and not seen.refusal:

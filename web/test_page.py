@@ -239,13 +239,17 @@ def see_menu(page):
 
 
 def by_link(page, game):
-    """The game by its link alone, in a browser that keeps nothing of it. The address doesn't show the key."""
+    """The game by its link alone, in a browser that keeps nothing of it: its last eight moves are there. The address
+    doesn't show the key."""
     link, _ = links_of(page)
     page.driver.execute_script("localStorage.clear()")
     page.driver.get("about:blank")
     page.driver.get(link)
     page.wait("the page came back by the link", page.is_ready)
     game.look("coming back by the link")
+    texts = [window["text"] for window in page.windows() if window["type"] == "buffer"]
+    if texts[0].count("\n>") != 8:
+        raise Otherwise(f"who comes back doesn't see eight moves: {texts[0]!r}")
     if "#" in page.driver.current_url:
         raise Otherwise(f"the address is {page.driver.current_url}")
 
