@@ -237,7 +237,7 @@ def texts(given):
     if ran.returncode == 8:
         raise Wrong(f"the journal is damaged ({said}). `keeper.py repair` first")
     if ran.returncode:
-        raise Wrong(bad_words(said, given.files[0]) if ran.returncode == 3 else ran.stderr.strip())
+        raise Wrong(bad_words(said, given.files[int(said.split()[1])]) if ran.returncode == 3 else ran.stderr.strip())
     for number, place, game in games_shown(ran.stdout.splitlines()):
         if given.session in (None, number):
             print(f"==== session {number}, the game from place {place} of the journal\n")
