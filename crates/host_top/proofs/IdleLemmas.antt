@@ -45,9 +45,9 @@ no_rows front (Kept r ∷ added) each none =
     subst (λ (b : Bool). length (cond b (entries.Accepted 0 r.command ∷ h) h) ≡ 0)
     (same r.session) (none r.session each.0.stands.below) in
     absurd (omega arith)
-no_rows front (Faulted by from to ∷ added) each none =
+no_rows front (Faulted r from to ∷ added) each none =
     no_rows front added each
-    (λ s low. fewer (by == s + 1) (entries.Faulted 0 from to) (history_in added s) (none s low))
+    (λ s low. fewer (r.by == s + 1) (entries.Faulted 0 from to) (history_in added s) (none s low))
 
 -- a journal that has of each session what the rows give has no row more
 no_more_rows : (journal added : List JournalEntry) (rows : List Row) (finals : List (List Entry))
