@@ -59,7 +59,8 @@ returns-clause-writes g c =
 pub returns-clause-causes : goal.returns-clause-causes
 returns-clause-causes g c =
     let is = sym c.in-Ok-Some.ensures ∙ ap (option_map command_asked) c.in-Ok-Some.field-0-is in
-    rw (is, c.code-2.ensures) (has_cause _ _ _ _ _ _ _ _ _ _ c.follow-status.ensures.done
+    rw (is, c.code-2.ensures) (has_cause _ _ _ c.code-2.result _ _ _ _ _ _
+    c.follow-status.ensures.done
     c.code-2.ensures c.follow-status.ensures.read_fault c.follow-status.ensures.write_fault)
 
 pub returns-clause-bad_words : goal.returns-clause-bad_words

@@ -40,7 +40,8 @@ returns-clause-value g c = λ input. rw c.in-Ok.ensures.silent (links_served g.D
     (none_at_seven _ _ c.serve_links-status.ensures.served idle))
     (stores_back g.D.Disk _ _ _ _ _ _ _ _ _ _ c.in-Ok.ensures.ok.2
     c.end-journal.ensures.value c.in-Ok.ensures.stores c.end-journal.ensures.stores
-    g.met.D.Disk.seen_may_stay c.in-Ok.ensures.sound))
+    (g.met.D.Disk g.world.𝓛 g.world.𝓜 g.world.𝓡
+    ((λ s x. x), (λ x. x), (λ x. x), λ x. x)).seen_may_stay c.in-Ok.ensures.sound))
 
 stores_same : (g : Over) (c : After-end-journal g)
     → AreSame g.D.Disk c.args.disks.snaps.items c.end-journal.result.1.items
