@@ -2,8 +2,8 @@
 """What the transcripts of a whole evening cost.
 
 64 sessions of The Well House are given so many moves by `pipe`. Then `replay` writes all games, on one processor and on
-all that are there: the best time of some rounds each, and the peak of its memory, also of a folder with the first 16
-games alone. Both transcripts must be the same.
+all that are there: the best time of some rounds each, and the peak of its memory, also of a folder with 17 games. Both
+transcripts must be the same.
 
     bench/replay.py [MOVES] [FOLDER]"""
 
@@ -32,16 +32,23 @@ def play(folder, games, moves):
         raise SystemExit("bench: not every move was accepted")
 
 
+def peak_of(process):
+    """The kilobytes of its memory at its peak so far: `wait4` would count those of this script, which began it."""
+    with open(f"/proc/{process}/status") as told:
+        return max((int(line.split()[1]) for line in told if line.startswith("VmHWM")), default=0)
+
+
 def replayed(folder, processors):
-    """The transcript, the seconds it took, and the kilobytes of memory at its peak."""
-    began = time.perf_counter()
+    """The transcript, the seconds it took, and the kilobytes of memory at its peak, looked at with each piece of text."""
+    began, pieces, peak = time.perf_counter(), [], 0
     child = subprocess.Popen([PROGRAM, "replay", folder, STORY], stdout=subprocess.PIPE,
                              preexec_fn=lambda: os.sched_setaffinity(0, processors))
-    text = child.stdout.read()
-    _, status, used = os.wait4(child.pid, 0)
-    if status:
-        raise SystemExit(f"bench: replay ended with {status}")
-    return text, time.perf_counter() - began, used.ru_maxrss
+    while piece := child.stdout.read1(65536):
+        pieces.append(piece)
+        peak = max(peak, peak_of(child.pid))
+    if child.wait():
+        raise SystemExit(f"bench: replay ended with {child.returncode}")
+    return b"".join(pieces), time.perf_counter() - began, peak
 
 
 def main():
@@ -50,11 +57,11 @@ def main():
     there = sorted(os.sched_getaffinity(0))
     with tempfile.TemporaryDirectory(prefix="replay-", dir=above) as room:
         few, many = pathlib.Path(room) / "few", pathlib.Path(room) / "many"
-        play(few, 16, moves)
+        play(few, 17, moves)
         play(many, 64, moves)
         one = [replayed(many, there[:1]) for _ in range(ROUNDS)]
         all_ = [replayed(many, there) for _ in range(ROUNDS)]
-        sixteen = replayed(few, there)
+        seventeen = replayed(few, there)
         if len({text for text, _, _ in one + all_}) != 1:
             raise SystemExit("bench: the transcripts differ")
         size = len(one[0][0])
@@ -62,7 +69,7 @@ def main():
     print("| Transcripts of 64 games | seconds | KiB at the peak |\n|---|---|---|")
     print(f"| one processor | {slow:.2f} | {max(it[2] for it in one):,} |")
     print(f"| {len(there)} processors | {quick:.2f} | {max(it[2] for it in all_):,} |")
-    print(f"| {len(there)} processors, 16 games | {sixteen[1]:.2f} | {sixteen[2]:,} |")
+    print(f"| {len(there)} processors, 17 games | {seventeen[1]:.2f} | {seventeen[2]:,} |")
     print(f"\n{moves:,} moves a game, {size:,} bytes, best of {ROUNDS} rounds each; {slow / quick:.2f} times as fast as on one")
 
 
