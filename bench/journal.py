@@ -19,7 +19,7 @@ import tempfile
 import time
 
 TOP = pathlib.Path(__file__).resolve().parent.parent
-PROGRAM = TOP / "crates" / "storyhost" / "out" / "storyhost"
+PROGRAM = pathlib.Path(os.environ.get("STORYHOST", TOP / "crates" / "storyhost" / "out" / "storyhost"))
 ROUNDS = 5
 AREA = 4096
 

@@ -7,12 +7,13 @@ them, or of all.
 
 `rt check` locks a crate with all that lie below it, so that two of them in one checkout wait for each other. Here a
 crate is built by a process of its own, which locks that crate alone, once the libraries below it are built; of those
-that can be built it takes the one with the longest chain above it first. What each says stands in FOLDER/CRATE.log,
+that can be built it takes the one with the longest chain above it first, by several jobs where others can't. What each says stands in FOLDER/CRATE.log,
 the folder being a new one unless it is named. A library that a checkout on this machine built of the same sources is
 taken from there, as `rt` does it. Where one fails those above it are left out, and the status is 1."""
 
 import argparse
 import fcntl
+import functools
 import os
 import pathlib
 import subprocess
@@ -38,33 +39,36 @@ def crates_of(rt):
     return rt.rtlib.crates_below(str(TOP / "crates"))
 
 
-def build(name):
-    """Builds one crate over libraries that stand built. Returns rt's status."""
+def build(name, jobs):
+    """Builds one crate over libraries that stand built, by so many jobs. Returns rt's status."""
     rt = load_rt()
-    rt.share_work(True)
+    if hasattr(rt, "share_work"):
+        rt.share_work(True)
+    rt.rtlib.Crate.stamp = functools.cache(rt.rtlib.Crate.stamp)
     crate = next(it for it in crates_of(rt) if it.name == name)
     os.chdir(crate.folder)
     held = os.open(crate.folder, os.O_RDONLY)
     fcntl.flock(held, fcntl.LOCK_EX)
     if crate.makes_rlib():
-        return crate.build_rlib(["--jobs", "1"], anew=False)
-    return crate.check(["--jobs", "1"])
+        return crate.build_rlib(["--jobs", jobs], anew=False)
+    return crate.check(["--jobs", jobs])
 
 
 def is_there(rt, crate):
     """Whether a library stands built here or, of the same sources, where it can be taken from."""
     stamp = crate.stamp()
-    elsewhere = [folder for folder, said in rt.places_of(crate) if said == stamp]
+    places = rt.places_of(crate) if hasattr(rt, "places_of") else []
+    elsewhere = [folder for folder, said in places if said == stamp]
     return any(rt.rtlib.text_of(f"{it}/out/rlib/stamp") == stamp for it in [crate.folder, *elsewhere])
 
 
 class Libraries:
     """Crates to be built, and how those that ended did."""
 
-    def __init__(self, crates, names, logs):
+    def __init__(self, crates, names, logs, jobs):
         wanted = {below for it in crates if not names or it.name in names for below in [it, *it.below()]}
         self.left = [it for it in crates if it in wanted]
-        self.logs, self.count, self.running, self.ended = logs, len(self.left), set(), {}
+        self.logs, self.count, self.running, self.ended, self.jobs = logs, len(self.left), 0, {}, jobs
         self.turn, self.above = threading.Condition(), {}
         for crate in reversed(crates):
             above = [self.above[it.name] for it in crates if crate in it.deps]
@@ -83,20 +87,23 @@ class Libraries:
                 if ready:
                     crate = max(ready, key=lambda it: self.above[it.name])
                     self.left.remove(crate)
-                    return crate
+                    self.running += 1
+                    return crate, max(1, self.jobs // (self.running + len(ready) - 1))
                 self.turn.wait()
         return None
 
     def end(self, crate, status, how):
         with self.turn:
             self.ended[crate.name] = status
+            self.running -= how.startswith(("ok", "FAILED"))
             print(time.strftime("%H:%M:%S"), crate.name, how, f"({len(self.ended)} of {self.count})", flush=True)
             self.turn.notify_all()
 
     def work(self):
         """Builds crates, one after the other, until none is left."""
-        while crate := self.take():
-            began, words = time.time(), [sys.executable, __file__, "--one", crate.name]
+        while taken := self.take():
+            crate, jobs = taken
+            began, words = time.time(), [sys.executable, __file__, "--one", crate.name, str(jobs)]
             with (self.logs / f"{crate.name}.log").open("w") as log:
                 status = subprocess.run(words, stdout=log, stderr=log, stdin=subprocess.DEVNULL).returncode
             self.end(crate, status, f"{f'FAILED, status {status},' if status else 'ok'} {time.time() - began:.0f} s")
@@ -114,7 +121,7 @@ def main(jobs, logs, lacking, names):
         return 0
     logs = pathlib.Path(logs or tempfile.mkdtemp(prefix="libs-"))
     logs.mkdir(parents=True, exist_ok=True)
-    libraries = Libraries(crates, names, logs)
+    libraries = Libraries(crates, names, logs, jobs)
     lanes = [threading.Thread(target=libraries.work) for _ in range(jobs)]
     for it in lanes:
         it.start()
@@ -135,4 +142,4 @@ def words():
 
 
 if __name__ == "__main__":
-    sys.exit(build(sys.argv[2]) if sys.argv[1:2] == ["--one"] else main(**words()))
+    sys.exit(build(*sys.argv[2:]) if sys.argv[1:2] == ["--one"] else main(**words()))

@@ -8,7 +8,8 @@ one, the requests are sent one after the other to sessions in turn, and the host
 moments drawn from the seed, up to three times on the way (a kill that comes late may pass the next one's
 place); about half of the kills are aimed at an input behind which a snapshot is put. After each start `LAST`
 must show the last request whose reply had been read, or the one that was under way; then that one is sent
-again. With `--serve` it is `serve` with four workers, and each session's player, eight unless told
+again. Behind each fifth request a spectator asks for the session's last shows, which must be those that its player
+got. With `--serve` it is `serve` with four workers, and each session's player, eight unless told
 otherwise, has a connection and a thread of its own; all of them are at work when the host is killed. At the
 end the host is started once more, and each session's shows must be those that `run` writes for the same
 moves, each applied once.
@@ -26,6 +27,7 @@ the rounds are run all the same."""
 
 import argparse
 import collections
+import hashlib
 import os
 import pathlib
 import random
@@ -54,6 +56,21 @@ def echo_story():
     return bytes_of.ljust(256, b"\0")
 
 
+def reply_of(file):
+    """A reply, or None where it doesn't come to its end."""
+    reply, left = [], 1
+    while left:
+        text = file.readline()
+        if not text.endswith(b"\n"):
+            return None
+        reply.append(text.decode())
+        if text.startswith(b"SEEN "):
+            left = int(text.split()[3]) - int(text.split()[2]) + 1
+        elif text == b".\n" or text.startswith(b"NO "):
+            left -= 1
+    return "".join(reply)
+
+
 class Host:
     """One run of `pipe`, which a timer may kill."""
 
@@ -76,14 +93,7 @@ class Host:
             self.process.stdin.flush()
         except BrokenPipeError:
             return None
-        reply = []
-        while True:
-            text = self.process.stdout.readline()
-            if not text.endswith(b"\n"):
-                return None
-            reply.append(text.decode())
-            if text == b".\n" or text.startswith(b"NO "):
-                return "".join(reply)
+        return reply_of(self.process.stdout)
 
     def end(self):
         try:
@@ -110,14 +120,7 @@ class Link:
             return None
         try:
             self.socket.sendall(line.encode() + b"\n")
-            reply = []
-            while True:
-                text = self.input.readline()
-                if not text.endswith(b"\n"):
-                    return None
-                reply.append(text.decode())
-                if text == b".\n" or text.startswith(b"NO "):
-                    return "".join(reply)
+            return reply_of(self.input)
         except (ConnectionError, TimeoutError):
             return None
 
@@ -186,6 +189,21 @@ class Session:
             raise Lost(f"session {self.number}, {self.line(step)}: {head}")
         del self.shows[step:]
         self.shows.append(show)
+
+    def is_watched(self, step):
+        return step % 5 == 0
+
+    def watch(self, host, step):
+        """Behind a step a spectator gets the shows that the player got; False is that the host is gone."""
+        n, word = self.shown_behind(step), hashlib.sha256(f"k{self.number}".encode()).hexdigest()[:16]
+        first = max((n or 0) - 3, 0)
+        reply, wanted = host.ask(f"WATCH {self.number} {word} {first}"), "NO 2\n"
+        if n is not None:
+            shows = [f"SHOW {self.number} {m}\n{self.shows[step - n + m]}" for m in range(first, n + 1)]
+            wanted = f"SEEN {self.number} {first} {n}\n" + "".join(shows)
+        if reply not in (None, wanted):
+            raise Lost(f"session {self.number}: a spectator sees another game behind {self.line(step)}")
+        return reply is not None
 
     def wanted(self, story):
         """The shows of all steps, played alone."""
@@ -331,6 +349,8 @@ def play(draw, folder, story, sessions, kills, starts):
                     break
                 session.take(step, reply)
                 at += 1
+                if session.is_watched(step) and not session.watch(host, step):
+                    break
             host.process.kill()
             host.end()
             killed += 1
@@ -346,6 +366,8 @@ def play(draw, folder, story, sessions, kills, starts):
             raise Lost("the host is gone although nobody killed it")
         session.take(step, reply)
         at += 1
+        if session.is_watched(step) and not session.watch(host, step):
+            raise Lost("the host is gone although nobody killed it")
     ends(host)
     starts.look(sessions)
     host = Host(folder, story)
@@ -382,6 +404,8 @@ def play_session(server, session, kept, lost):
                     kept.append(step)
                 reply = link.ask(session.line(step))
             session.take(step, reply)
+            if session.is_watched(step):
+                session.watch(link, step)
             step += 1
         link.close()
     except (Lost, ValueError) as cause:

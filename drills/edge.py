@@ -15,12 +15,16 @@
 - Links that say nothing, or read nothing, hold all workers, and are let go: the next player is answered.
   A host that was stopped for a while (signals STOP and CONT) keeps its links.
 - A host without a descriptor for one more link serves it once another link has ended.
+- The log: the lines of standard error for links that end in several ways and for files that can't be written, each with
+  its time, without a word of what was typed or a key.
+- Words that aren't taken, and files that are no stories: what the one line of standard error ends with.
 - `pipe` over streams that don't wait.
 
 It ends with 1 where something is otherwise."""
 
 import argparse
 import contextlib
+import email.utils
 import http.client
 import os
 import pathlib
@@ -29,6 +33,7 @@ import shutil
 import signal
 import socket
 import ssl
+import struct
 import subprocess
 import sys
 import tempfile
@@ -42,6 +47,7 @@ STRANGER = 65534
 HELD = "another host may have the folder"
 MOVES = 7
 IDLE = "STORYHOST_IDLE_SECONDS"
+LOG = "STORYHOST_LOG"
 
 
 class Otherwise(Exception):
@@ -60,10 +66,10 @@ def shown(text):
 class Served:
     """One run of `serve`."""
 
-    def __init__(self, folder, story, workers, cwd=None, **environment):
+    def __init__(self, folder, story, workers, cwd=None, preexec_fn=None, **environment):
         self.process = subprocess.Popen(
             [crash.PROGRAM, "serve", folder, "0", str(workers), story],
-            cwd=cwd, env={**os.environ, **environment},
+            cwd=cwd, env={**os.environ, **environment}, preexec_fn=preexec_fn,
             stdin=subprocess.DEVNULL, stdout=subprocess.PIPE, stderr=subprocess.PIPE,
         )  # fmt: skip
         self.told = None
@@ -422,6 +428,100 @@ def no_descriptors(room, story):
             link.close()
 
 
+def events(host):
+    """What the log of a host says, which is killed; each line has a time of these minutes."""
+    host.process.kill()
+    lines = [host.told, *host.process.stderr.read().decode().splitlines(keepends=True)]
+    found = []
+    for line in lines:
+        date, name, event = line.partition(" storyhost: ")
+        about = time.time() - email.utils.parsedate_to_datetime(date).timestamp() if name else None
+        if about is None or not -2 < about < 600 or not event.endswith("\n"):
+            raise Otherwise(f"a line of the log: {line!r}")
+        found.append(event.rstrip("\n"))
+    return found
+
+
+def logged_links(room, story):
+    """A host that is asked for all, one that is asked for nothing, and one that isn't asked."""
+    begun(room, "told")
+    bad = run("serve", "told", "0", "1", story, cwd=room, env={**os.environ, LOG: "all"})
+    if bad.returncode != 9 or LOG not in bad.stderr or bad.stdout or bad.stderr.count("\n") != 1:
+        raise Otherwise(f"{LOG}=all: status {bad.returncode}, {bad.stderr!r}")
+    wanted = [
+        "link 1 is let go: it speaks HTTP or TLS, so it is no client's",
+        "link 2 is let go: Connection reset by peer (os error 104)",
+        "link 3 is let go: it sent nothing for 1 s",
+    ]
+    for amount in "links", "none", None:
+        with served(str(room / "told"), story, 1, **{IDLE: "1"}, **({LOG: amount} if amount else {})) as host:
+            stranger(host, STRANGERS["GET"])
+            link = host.link()
+            link.ask("OPEN 0 secretkey 0 1 80 24")
+            link.ask("LINE 0 secretkey 1 1 =secretword")
+            link.socket.setsockopt(socket.SOL_SOCKET, socket.SO_LINGER, struct.pack("ii", 1, 0))
+            link.close()
+            want("a silent link", said(host.link().socket), b"")
+            link = host.link()
+            link.ask("LAST 0 secretkey")
+            link.close()
+            time.sleep(0.3)
+            told = events(host)
+        whole = [it for n, line in enumerate(wanted, 1) for it in (f"link {n} is taken", line)]
+        whole += ["link 4 is taken", "link 4 has ended"]
+        want(f"the log, {LOG}={amount}", told[1:], {"links": whole, "none": [], None: wanted}[amount])
+        want("its first line", told[0], f"serving on 127.0.0.1:{host.told.rpartition(':')[2].strip()}")
+
+
+def logged_files(room, story):
+    """A host whose files may not grow: first the journal's, then a snapshot's."""
+    begun(room, "small")
+    ignored = lambda: signal.signal(signal.SIGXFSZ, signal.SIG_IGN)
+    with served(str(room / "small"), story, 1, preexec_fn=ignored) as host:
+        link, pid = host.link(), host.process.pid
+        want("OPEN", link.ask("OPEN 0 k 0 1 80 24")[:9], "SHOW 0 0\n")
+        usual = resource.prlimit(pid, resource.RLIMIT_FSIZE)
+        resource.prlimit(pid, resource.RLIMIT_FSIZE, ((room / "small" / "journal").stat().st_size, usual[1]))
+        want("a move on a full disk", link.ask("LINE 0 k 1 1 =one")[:5], "NO 11")
+        # A snapshot has more bytes than the journal comes to.
+        resource.prlimit(pid, resource.RLIMIT_FSIZE, (4000, usual[1]))
+        for n in range(1, 18):
+            want("a move", link.ask(f"LINE 0 k {n} 1 =m")[:4], "SHOW")
+        link.close()
+        told = events(host)
+    journal, snap = (room / "small" / name for name in ("journal", "snap00"))
+    want("the log", told[1:], [f"{file}: a write failed: File too large (os error 27)" for file in (journal, snap)])
+
+
+MISUSED = [
+    (2, "", "no command is given"),
+    (2, "plya x", '"plya" is no command'),
+    (2, "serve d 0 17 s", 'WORKERS is a number from 1 to 16, and "17" isn\'t'),
+    (2, "serve d x 4 s", 'PORT is a number from 0 to 65535, and "x" isn\'t'),
+    (2, "serve d 0 4", "no STORY is given"),
+    (2, "serve d 0 4 --links 0 s", '--links is a number from 1 to 4294967295, and "0" isn\'t'),
+    (2, "pipe d s --budget", "no number is given behind --budget"),
+    (2, "run s --seed 1", '"--seed" is no option here'),
+    (2, "init d e", '"e" is a word too many'),
+    (2, "drill -1", 'N is a number from 0 to 18446744073709551615, and "-1" isn\'t'),
+    (3, "check z.z5", "z.z5: it is for the Z-machine, version 5, and only Glulx is played"),
+    (3, "check text", "text: the file is no Glulx story"),
+    (3, "run form", "form: the file is no Blorb container"),
+]
+
+
+def misuse(room, story):
+    """Words that aren't taken, and files that are no stories."""
+    (room / "z.z5").write_bytes(b"\5" + bytes(511))
+    (room / "text").write_bytes(b"text" * 100)
+    (room / "form").write_bytes(b"FORM" * 100)
+    for status, words, wanted in MISUSED:
+        ran = run(*words.split(), cwd=room)
+        lines = ran.stderr.splitlines()
+        if ran.returncode != status or len(lines) != 1 or not lines[0].endswith(f": {wanted}"):
+            raise Otherwise(f"{words}: status {ran.returncode}, {ran.stderr!r}")
+
+
 def streams_that_do_not_wait(room, story):
     begun(room, "streams")
     (asked, ask), (answer, answered) = os.pipe(), os.pipe()
@@ -473,6 +573,9 @@ def main():
         timed(strangers)
         timed(silent_links)
         timed(no_descriptors)
+        timed(logged_links)
+        timed(logged_files)
+        timed(misuse)
         timed(streams_that_do_not_wait)
     except (Otherwise, OSError, subprocess.TimeoutExpired) as cause:
         print(f"edge: {cause}; its folder is {room}")
@@ -481,7 +584,7 @@ def main():
     untried = "".join(f"; {what} can't be had here, so NOT tried" for what, was in tried.items() if not was)
     print(f"edge: {asked.tries} times two hosts on one folder: one was refused, no acknowledged move is missing; two init "
           f"at once began one folder 10 times ({met} met); folders that can't be had left as they were; strangers not "
-          f"answered, silent links let go{untried}")  # fmt: skip
+          f"answered, silent links let go; the log and words that aren't taken as wanted{untried}")  # fmt: skip
     if asked.times:
         print(f"edge: seconds: {', '.join(times)}")
     return 0

@@ -5,6 +5,8 @@ usage: play.py STORY [--new | --close] [--unkept] [--seed N] [--budget N]
        play.py STORY MOVES [--budget N]
        play.py STORY [MOVES] --dir DIR --session N --key WORD [--new | --close] [--seed N] [--budget N]
        play.py --connect HOST:PORT --session N --key WORD [--story K] [--moves MOVES] [--new | --close] [--seed N]
+       play.py --watch --connect HOST:PORT --session N --word WORD
+       play.py --tell --key WORD
        each with [--host PROGRAM] [--plain] [--shows]
 
 A story alone goes on where it was left: its game, with the files that it saves, is kept in a folder of
@@ -18,6 +20,10 @@ and the last move is sent again; a move that was kept isn't played twice.
 
 --new ends the session's game and begins another one; --close ends it and frees its number. The files that a
 story saved go with its game. A new game has a seed of chance, unless it is given by --seed.
+
+--watch looks at somebody's session from its last eight moves on, and shows each new one as it comes; it gives
+no right to play. The word for that is made of the session's key: --tell says it to a player, and so does control
+and T while the windows are drawn.
 
 On a terminal the story's windows are drawn (screen.py, over Debian's python3-prompt-toolkit). With --plain,
 without that library, or where input or output is no terminal, each line of the input is a move, and the text
@@ -36,9 +42,10 @@ import secrets
 import shutil
 import sys
 import tempfile
+import time
 
-from host import CLEARED, HOST, Address, Host, Pipe, Refused, Session
-from wrapping import wrapped
+from host import CLEARED, HOST, Address, Host, Pipe, Refused, Session, Watched, word_of
+from wrapping import shown, wrapped
 
 ALONE = (0, "player")       # the session and key of a game that is kept alone
 PLAIN_SIZE = (80, 24)
@@ -122,7 +129,9 @@ def play_moves(host, moves, is_told):
     left = play(host, moves)
     host.finish()
     if is_told:
-        print(host.text.replace(CLEARED, "\n----\n").strip("\n"))
+        text = host.text.replace(CLEARED, "\n----\n").strip("\n")
+        # A terminal would take a story's control characters as its own.
+        print("".join(code if code == "\n" else shown(code) for code in text) if sys.stdout.isatty() else text)
     if host.ended != "quit":
         waits = f"the story waits for more; {len(left)} moves weren't given" if left else "the story waits for more"
         print(f"play.py: {host.end_words() if host.ended or host.is_stuck() else waits}", file=sys.stderr)
@@ -132,8 +141,36 @@ def play_moves(host, moves, is_told):
     return 0
 
 
+def look_on(host):
+    """Writes what the shows of a session say, as they come, until its game is over."""
+    before = {}
+    while not host.ended:
+        if host.more():
+            print(told(host, before), end="", flush=True)
+        elif host.is_stuck():
+            break
+        else:
+            time.sleep(1)
+    print()
+
+
+def misfit_of_watching(given):
+    """The same of words for who only looks or asks."""
+    if given.tell:
+        return "" if given.key and not (given.watch or given.file) else "--tell wants the session's --key, and plays nothing"
+    if given.word and not given.watch:
+        return "--word is for --watch: who plays has a --key"
+    if given.watch and not (given.connect and given.session is not None and given.word):
+        return "--watch wants --connect HOST:PORT, --session N and the session's --word"
+    if given.watch and (given.file or given.moves or given.key or given.new or given.close or given.seed is not None):
+        return "--watch only looks"
+    return ""
+
+
 def misfit(given):
     """Which of the words given don't go together, or nothing."""
+    if given.tell or given.watch or given.word:
+        return misfit_of_watching(given)
     alone = not (given.dir or given.connect)
     if given.connect and given.dir:
         return "--dir is for a host that this program starts, --connect for one that is there"
@@ -173,6 +210,12 @@ def key_of(text):
     return text
 
 
+def watch_word_of(text):
+    if not re.fullmatch("[0-9a-f]{16}", text):
+        raise argparse.ArgumentTypeError(f"a word for spectators has 16 of 0-9 and a-f, unlike {text!r}")
+    return text
+
+
 def read_words():
     about, _, rest = __doc__.partition("\nusage: ")
     usage, _, more = rest.partition("\n\n")
@@ -186,6 +229,9 @@ def read_words():
     words.add_argument("--story", type=natural(0, 63), metavar="K", help="which of the host's stories; 0 unless given")
     words.add_argument("--session", type=natural(0, 63), metavar="N", help="the session's number, 0 to 63")
     words.add_argument("--key", type=key_of, metavar="WORD", help="its key: letters and digits, kept from others")
+    words.add_argument("--watch", action="store_true", help="look at a session and don't play")
+    words.add_argument("--word", type=watch_word_of, metavar="WORD", help="the session's word for spectators")
+    words.add_argument("--tell", action="store_true", help="say the word for spectators of the key's session")
     words.add_argument("--seed", type=natural(0, 2**64 - 1), metavar="N", help="the chance of a new game")
     words.add_argument("--budget", type=natural(1, 10**12), metavar="N", help="the ticks of a turn")
     words.add_argument("--new", action="store_true", help="begin another game")
@@ -277,12 +323,20 @@ class Place:
         is_new = session.play_on(story, self.seed(), size)
         if given.new and not is_new:
             session.anew(story, self.seed(), size)
-        elif given.seed is not None and not is_new:
+        elif not is_new:
+            session.recall()
+        if given.seed is not None and not (is_new or given.new):
             session.note = "[this game goes on with its own seed: --seed is for a new one]"
         return session
 
     def anew(self, session, size):
         session.anew(self.given.story or 0, self.seed(), size)
+
+    def spectators_words(self):
+        """What a player may tell those who want to look at the game."""
+        if not self.given.connect:
+            return "[nobody else can look at this game: it isn't a session of a host that serves]"
+        return f"[who may look types: play.py --watch --connect {self.given.connect} --session {self.number} --word {word_of(self.key)}]"
 
     def kept_words(self, host):
         """What a player is told who leaves."""
@@ -293,6 +347,37 @@ class Place:
         if self.given.connect or self.given.dir:
             return f"Session {self.number} is kept on {self.given.connect or self.given.dir}: the same number and key go on."
         return "The game is kept: the same line goes on, --new begins another one."
+
+
+class Look:
+    """A session that is only looked at."""
+    is_own = False
+
+    def __init__(self, given):
+        self.given = given
+
+    def begun(self, say):
+        given = self.given
+        return Watched(Address(given.connect), given.session, given.word, say, sys.stdout if given.shows else None)
+
+    def game(self, size, say):
+        """The session, as it was seen first."""
+        host = self.begun(say)
+        host.more()
+        return host
+
+    def anew(self, session, size):
+        pass
+
+
+def watch(given, screen):
+    """Shows a session until its spectator leaves or its game is over."""
+    if screen:
+        import onlooker
+        onlooker.look(Look(given))
+    else:
+        look_on(Look(given).begun(say))
+    return 0
 
 
 def drawing(given):
@@ -335,8 +420,21 @@ def play_place(given, place, screen):
     return 0
 
 
+def watched(given):
+    try:
+        return watch(given, drawing(given))
+    except Refused as refusal:
+        print(f"play.py: session {given.session}: {refusal}", file=sys.stderr)
+        return 1
+
+
 def main():
     given = read_words()
+    if given.tell:
+        print(word_of(given.key))
+        return 0
+    if given.watch:
+        return watched(given)
     if given.moves and not (given.connect or given.dir):
         host = Host(given.file, given.host, given.budget, sys.stdout if given.shows else None)
         return play_moves(host, read_moves(given.moves), not given.shows)

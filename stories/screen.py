@@ -85,6 +85,10 @@ class Screen:
         presses = [KeyPress(Keys.ControlM if code == "\n" else code, code) for code in lines]
         self.keys.extendleft(reversed(presses))
 
+    def tell(self):
+        """Tells the player by which words others may look at the game."""
+        self.say(self.place.spectators_words())
+
     def leave(self):
         if not self.app.is_done:
             self.app.exit()
@@ -204,7 +208,7 @@ class Screen:
         if before is None:
             self.host = value
         self.busy = False
-        if work in (self.place.anew, before and before.back):
+        if work in (self.place.anew, getattr(before, "back", None)):
             self.views = {}
         if value is not False:
             self.line.reset(append_to_history=bool(self.mode == "line" and self.line.text))
@@ -231,8 +235,11 @@ class Screen:
             view, width = self.views.get(number), max(self.places[number][2], 1)
             if view is None or view.text.width != width:
                 fresh = View(width)
+                fresh.take(window, window.known)
+                fresh.seen = fresh.count() - 1 if window.known else fresh.floor
                 fresh.take(window)
-                fresh.seen = fresh.count() - 1 if view else fresh.floor
+                if view:
+                    fresh.seen = fresh.count() - 1
                 if view and view.end is not None and self.mode != "more":   # Who looks back stays about there.
                     fresh.end = view.end * fresh.count() // view.count()
                 self.views[number] = fresh
@@ -415,6 +422,7 @@ def common_keys(screen):
     keys = KeyBindings()
     keys.add(Keys.ControlC, eager=True)(lambda event: screen.leave())
     keys.add(Keys.SIGINT, eager=True)(lambda event: screen.leave())
+    keys.add(Keys.ControlT, eager=True)(lambda event: screen.tell())
     keys.add(Keys.ControlZ, eager=True)(lambda event: event.app.suspend_to_background())
     keys.add(Keys.BracketedPaste, eager=True)(lambda event: screen.pasted(event.data))
     return keys

@@ -71,6 +71,10 @@ served_app =
 abbrev pub serve_app : App
 serve_app = with_rule (with_rule (with_rule served_app stories_rule) budget_rule) links_rule
 
+-- `replay DIR STORY..`
+abbrev pub replay_app : App
+replay_app = with_rule (with_rule (new_app (codes "replay")) folder_rule) stories_rule
+
 -- `drill N`
 abbrev pub drill_app : App
 drill_app = with_rule (new_app (codes "drill")) number_argument
@@ -92,6 +96,10 @@ solo_app = with_subcommand (with_subcommand bare_app run_app.top) check_app.top
 abbrev pub folder_app : App
 folder_app = with_subcommand (with_subcommand solo_app init_app.top) pipe_app.top
 
+-- with these, and the commands over links and over a journal alone
+abbrev pub host_app : App
+host_app = with_subcommand (with_subcommand folder_app serve_app.top) replay_app.top
+
 -- `storyhost` with its commands
 abbrev pub storyhost_app : App
-storyhost_app = with_subcommand (with_subcommand folder_app serve_app.top) drill_app.top
+storyhost_app = with_subcommand host_app drill_app.top

@@ -15,7 +15,7 @@ use Rattle.command_words.specs.Serving.{serving_in}
 use Rattle.command_words.specs.declared.help.Topic.{Topic}
 use Rattle.command_words.specs.declared.words.Action.{Action}
 use Rattle.command_words.specs.declared.words.Action.TheVariants.{Run, Check, Pipe, Init, Help}
-use Rattle.command_words.specs.declared.words.Action.TheVariants.{Serve, Drill, Version}
+use Rattle.command_words.specs.declared.words.Action.TheVariants.{Serve, Replay, Drill, Version}
 use Rattle.command_words.specs.declared.words.Serving.{Serving}
 use Rattle.command_words.specs.declared.command.Command.{Command}
 
@@ -89,7 +89,9 @@ asked_in given =
     then asked_with Pipe (folder_in given.1) (codes "STORY") given.1 else
     (if bytes_eq given.0 (codes "serve")
     then asked_serving (serving_in given.1) given.1 else
-    (if bytes_eq given.0 (codes "drill") then asked_alone (drill_in given.1) else None)))))
+    (if bytes_eq given.0 (codes "replay")
+    then asked_with Replay (folder_in given.1) (codes "STORY") given.1 else
+    (if bytes_eq given.0 (codes "drill") then asked_alone (drill_in given.1) else None))))))
 
 -- the action that shows a text where `clap` says that one is wanted
 abbrev pub shown_by : Topic → ErrorKind → Option Action

@@ -5,7 +5,8 @@ ghost use Rattle.clap.specs.Walk.{rule_of};
 ghost use Rattle.clap.specs.Words.{AddsSubcommand};
 ghost use Rattle.clap.specs.declared.builder.command.Command.TheViews.{out-Command as fields_of};
 ghost use Rattle.command_words.specs.CommandLine.{bare_app, check_app, drill_app, folder_app};
-ghost use Rattle.command_words.specs.CommandLine.{init_app, named_rule, pipe_app, repeated_rule};
+ghost use Rattle.command_words.specs.CommandLine.{host_app, init_app, named_rule, pipe_app};
+ghost use Rattle.command_words.specs.CommandLine.{repeated_rule, replay_app};
 ghost use Rattle.command_words.specs.CommandLine.{required_rule, run_app, serve_app, served_app};
 ghost use Rattle.command_words.specs.CommandLine.{solo_app, storyhost_app};
 
@@ -96,6 +97,16 @@ fn serve_command<'w>(alloc: Global) -> Result<Command<'w>, AllocError>
         .arg(named_argument(alloc, "links"))
 }
 
+/// `replay DIR STORY..`.
+fn replay_command<'w>(alloc: Global) -> Result<Command<'w>, AllocError>
+    ensures app { IfOk result (λ c. app_of c ≡ replay_app) }
+    ensures local { IfOk result (λ c. (fields_of c).has_globals ≡ false) }
+{
+    Command::new(alloc, "replay")
+        .arg(required_argument(alloc, "DIR"))?
+        .arg(repeated_argument(alloc, "STORY"))
+}
+
 /// `drill N`.
 fn drill_command<'w>(alloc: Global) -> Result<Command<'w>, AllocError>
     ensures app { IfOk result (λ c. app_of c ≡ drill_app) }
@@ -143,11 +154,19 @@ fn folder_command<'w>(alloc: Global) -> Result<Command<'w>, AllocError>
     with_command(program, pipe_command(alloc))
 }
 
+/// The program with these, and the commands over links and over a journal alone.
+fn host_command<'w>(alloc: Global) -> Result<Command<'w>, AllocError>
+    ensures { IfOk result (λ c. app_of c ≡ host_app) }
+{
+    let folder = folder_command(alloc)?;
+    let program = with_command(folder, serve_command(alloc))?;
+    with_command(program, replay_command(alloc))
+}
+
 /// The program with its commands.
 pub fn storyhost<'w>(alloc: Global) -> Result<Command<'w>, AllocError>
     ensures { IfOk result (λ c. app_of c ≡ storyhost_app) }
 {
-    let folder = folder_command(alloc)?;
-    let program = with_command(folder, serve_command(alloc))?;
-    with_command(program, drill_command(alloc))
+    let host = host_command(alloc)?;
+    with_command(host, drill_command(alloc))
 }

@@ -11,6 +11,7 @@ pub enum Topic {
     Init,
     Pipe,
     Serve,
+    Replay,
     Drill,
 }
 
@@ -32,6 +33,7 @@ Commands:
   pipe DIR STORY.. [--budget N]    serve up to 64 sessions over one connection
   serve DIR PORT WORKERS STORY.. [--budget N] [--links K]
                                    serve them over TCP, on this machine alone
+  replay DIR STORY..               write all that the players of a folder saw
   drill N                          play eight sessions by scripts, as a trial
 
   storyhost COMMAND --help         tells more of a command
@@ -150,6 +152,25 @@ are answered as `pipe` answers those of its input. A link that comes while each
 worker serves one waits. A link that fails ends alone.
 ";
 
+/// What `replay` does.
+pub const REPLAY_HELP: &str = "\
+Writes what each player of a folder was shown, game by game, from its journal.
+No file of the folder is changed, and none but its journal is read.
+
+Usage: storyhost replay DIR STORY..
+
+  DIR           a folder with a journal, which no running host holds
+  STORY..       1 to 64 story files, in the order in which the host had them
+
+Writes the games of session 0 in the order in which they were opened, then those
+of session 1 and so on up to 63, and then the line `done`. Of each game it writes
+  GAME S place    session S, and the place of the game's OPEN in the journal
+  SHOW S N        its turns in order, N from 0, each as `pipe` wrote it, and the
+                  line `.` behind it; that of an ended game is `E closed`
+  NO 13           in the place of all turns: its story isn't there, or the file
+                  isn't the one with which the game was opened
+";
+
 /// What `drill` does.
 pub const DRILL_HELP: &str = "\
 Plays eight sessions of a small story, which only says what it is told, on a
@@ -178,6 +199,7 @@ pub fn help_text(topic: Topic) -> &'static str
         Topic::Init => INIT_HELP,
         Topic::Pipe => PIPE_HELP,
         Topic::Serve => SERVE_HELP,
+        Topic::Replay => REPLAY_HELP,
         Topic::Drill => DRILL_HELP,
     }
 }

@@ -48,6 +48,8 @@ pub enum Action {
     Pipe,
     /// Answers the numbered requests of links to a port, from the journal of a folder.
     Serve(Serving),
+    /// Writes what the players of a folder were shown, from its journal.
+    Replay,
     /// Plays eight sessions by the scripts of a number.
     Drill(u64),
     /// Shows help.
@@ -238,6 +240,7 @@ fn command_in<'w>(
             "init" => Ok(command_on(alloc, Action::Init, folder_in(given))),
             "pipe" => command_over(alloc, Action::Pipe, given),
             "serve" => command_serving(alloc, given),
+            "replay" => command_over(alloc, Action::Replay, given),
             "drill" => Ok(command_alone(alloc, drill_in(given))),
             _ => Ok(None),
         },
@@ -255,6 +258,7 @@ fn topic_named(word: &str) -> Topic
         "init" => Topic::Init,
         "pipe" => Topic::Pipe,
         "serve" => Topic::Serve,
+        "replay" => Topic::Replay,
         "drill" => Topic::Drill,
         _ => Topic::Program,
     }

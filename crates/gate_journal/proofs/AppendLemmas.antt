@@ -20,11 +20,11 @@ use Rattle.gate_journal.proofs.Sound.{sound_faulted, sound_kept, settled, append
 
 -- what a row or a fault adds to the rows
 pub faulted_rows :
-    {D : Type 0} {log old : Log D} {entries : List Entry} (by from to : ℕ)
-    → log ≡ old → entries ≡ log.entries ++ Faulted by from to ∷ []
+    {D : Type 0} {log old : Log D} {entries : List Entry} (q : Row) (from to : ℕ)
+    → log ≡ old → entries ≡ log.entries ++ Faulted q from to ∷ []
     → rows_of entries ≡ rows_of old.entries
-faulted_rows {D = D} {log = log} by from to is pushed =
-    ap rows_of pushed ∙ rows_of-append log.entries (Faulted by from to ∷ [])
+faulted_rows {D = D} {log = log} q from to is pushed =
+    ap rows_of pushed ∙ rows_of-append log.entries (Faulted q from to ∷ [])
     ∙ append-nil (rows_of log.entries)
     ∙ ap (λ (l : Log D). rows_of l.entries) is
 
@@ -80,7 +80,7 @@ module _
     stands = rw is stands;
   }
 
-  row_is : {q : Row} → q ≡ row_at end session command → q ≡ r
+  pub row_is : {q : Row} → q ≡ row_at end session command → q ≡ r
   row_is made = made ∙ ap (λ (k : ℕ). row_at k session command) sound.ends
 
   -- what the repair says, and the writing of the row
@@ -115,6 +115,15 @@ module _
       settled moment left_since rows log.uncertain r sound.journal next sound.next log.disk mid
       ((crash rows sound.ends).meanwhile told (sound.images told)))
 
+  -- the entries with the row's fault
+  pub faulted_entry :
+      {entries : List Entry} {q : Row} (from to : ℕ)
+      → entries ≡ log.entries ++ Faulted q from to ∷ [] → q ≡ row_at end session command
+      → entries
+      ≡ old.entries ++ Faulted (next_row (rows_of old.entries) session command) from to ∷ []
+  faulted_entry from to pushed made =
+      rw (← is) (pushed ∙ ap (λ (x : Row). log.entries ++ Faulted x from to ∷ []) (row_is made))
+
   -- the rows with one more
   pub kept_rows :
       {entries : List Entry} {q : Row} → entries ≡ log.entries ++ Kept q ∷ []
@@ -125,34 +134,40 @@ module _
       ∙ ap (λ (x : Row). rows ++ x ∷ []) (row_is made))
 
   -- the journal is sound with a fault more, which came after this much was done
-  abbrev Faults : D → D → List Entry → Option Row → ℕ → ℕ → ℕ → Bool → Type 0
-  Faults mid new entries uncertain by from to ready =
-      entries ≡ log.entries ++ Faulted by from to ∷ [] → room new ≡ room log.disk
+  abbrev Faults : D → D → List Entry → Option Row → Row → ℕ → ℕ → List D → Bool → Type 0
+  Faults mid new entries uncertain q from to steps ready =
+      entries ≡ log.entries ++ Faulted q from to ∷ [] → room new ≡ room log.disk
       → from ≡ faults log.disk → to ≡ faults new → faults mid ≡ faults log.disk
       → (faults mid ≤ faults new) × Rose (faults mid) (faults new)
       → IsSoundJournal tells may_leave room faults
-      (record log { disk = new; entries = entries; uncertain = uncertain; ready = ready }) end
+      (record log {
+        disk = new;
+        entries = entries;
+        uncertain = uncertain;
+        steps = steps;
+        ready = ready;
+      }) end
 
   -- a fault, after which the gate is known so
   faulted :
-      {mid new : D} {entries : List Entry} {uncertain : Option Row} {from to : ℕ} {ready : Bool}
-      (by : ℕ) (known : Option Row)
+      {mid new : D} {entries : List Entry} {uncertain : Option Row} {from to : ℕ} {steps : List D}
+      {ready : Bool} (q : Row) (known : Option Row)
       → uncertain ≡ known → IfSome known (IsNext rows)
       → EachImage tells may_leave new (StandsInImage rows known)
-      → Faults mid new entries uncertain by from to ready
-  faulted {new = new} {entries = entries} {from = from} {to = to} {ready = ready} by known so
-      next_one images pushed size is_from is_to none_yet counts =
-      rw so (sound_faulted tells may_leave room faults log end new entries known by from to ready
-      sound pushed size is_from is_to (omega (arith, is_from, is_to, none_yet, counts.0))
+      → Faults mid new entries uncertain q from to steps ready
+  faulted {new = new} {entries = entries} {from = from} {to = to} {steps = steps} {ready = ready} q
+      known so next_one images pushed size is_from is_to none_yet counts =
+      rw so (sound_faulted tells may_leave room faults log end new entries known q from to steps
+      ready sound pushed size is_from is_to (omega (arith, is_from, is_to, none_yet, counts.0))
       (omega (arith, is_from, is_to, none_yet, counts.1)) next_one images)
 
   -- of the repair: the gate stays as it was
   pub sound_unrepaired :
-      {new : D} {entries : List Entry} {uncertain : Option Row} {from to : ℕ}
-      {ready : Bool} (by : ℕ)
+      {new : D} {entries : List Entry} {uncertain : Option Row} {from to : ℕ} {steps : List D}
+      {ready : Bool} (q : Row)
       → uncertain ≡ log.uncertain → EachImage tells may_leave new (StandsInImage rows log.uncertain)
-      → Faults log.disk new entries uncertain by from to ready
-  sound_unrepaired by so images = faulted {mid = log.disk} by log.uncertain so sound.next images
+      → Faults log.disk new entries uncertain q from to steps ready
+  sound_unrepaired q so images = faulted {mid = log.disk} q log.uncertain so sound.next images
 
   -- where the repair ended Ok
   module _
@@ -167,12 +182,12 @@ module _
 
     -- before the gate's write: it is closed
     pub sound_before :
-        {new : D} {entries : List Entry} {uncertain : Option Row} {from to : ℕ}
-        {ready : Bool} (by : ℕ)
+        {new : D} {entries : List Entry} {uncertain : Option Row} {from to : ℕ} {steps : List D}
+        {ready : Bool} (q : Row)
         → uncertain ≡ None → After mid new IsShut
-        → Faults mid new entries uncertain by from to ready
-    sound_before by none after =
-        faulted {mid = mid} by None none tt (after (journal_bytes rows) (sym sound.ends) shut)
+        → Faults mid new entries uncertain q from to steps ready
+    sound_before q none after =
+        faulted {mid = mid} q None none tt (after (journal_bytes rows) (sym sound.ends) shut)
 
     module _
         {q : Row} {past : List ℕ} (made : q ≡ row_at end session command)
@@ -195,29 +210,35 @@ module _
 
       -- in the gate's write: it is uncertain, before the row
       pub sound_at_gate :
-          {new : D} {entries : List Entry} {uncertain : Option Row} {from to : ℕ}
-          {ready : Bool} (by : ℕ)
+          {new : D} {entries : List Entry} {uncertain : Option Row} {from to : ℕ} {steps : List D}
+          {ready : Bool}
           → uncertain ≡ Some q → After mid new (λ front. IsUnsure front past)
-          → Faults mid new entries uncertain by from to ready
-      sound_at_gate by so after =
-          faulted {mid = mid} by (Some q) so (rw (row_is made) next)
+          → Faults mid new entries uncertain q from to steps ready
+      sound_at_gate so after =
+          faulted {mid = mid} q (Some q) so (rw (row_is made) next)
           (rw bytes at (after (journal_bytes rows) (sym sound.ends) shut))
 
       -- the row is there
       pub sound_row :
           {S F : Type 0} {wrote : S} {new : D} {entries : List Entry} {uncertain : Option Row}
-          {ready : Bool} {later : ℕ}
+          {steps : List D} {ready : Bool} {later : ℕ}
           → uncertain ≡ None → Writes {E = F} moment left_since past (Ok wrote) mid new
           → tells new ≡ tells mid
           → entries ≡ log.entries ++ Kept q ∷ [] → room new ≡ room log.disk
           → faults log.disk ≤ faults new → later ≡ end + length past → later < room new
           → IsSoundJournal tells may_leave room faults
-          (record log { disk = new; entries = entries; uncertain = uncertain; ready = ready }) later
-      sound_row {new = new} {entries = entries} {ready = ready} {later = later} none writes
-          same_then pushed size le is_later within =
+          (record log {
+            disk = new;
+            entries = entries;
+            uncertain = uncertain;
+            steps = steps;
+            ready = ready;
+          }) later
+      sound_row {new = new} {entries = entries} {steps = steps} {ready = ready} {later = later} none
+          writes same_then pushed size le is_later within =
           rw none
-          (sound_kept tells may_leave room faults log end later new entries q ready sound pushed
-          size le (is_later ∙ ap (λ (l : List ℕ). end + length l) bytes) within
+          (sound_kept tells may_leave room faults log end later new entries q steps ready sound
+          pushed size le (is_later ∙ ap (λ (l : List ℕ). end + length l) bytes) within
           (rw (row_is made) next)
           (λ told c now. let told_then = rw same_then at told in
           opened_shut rows q past c bytes

@@ -1,8 +1,9 @@
 -- Rows and marks as one list.
 use Rattle.std.proofs.Common.{◌≡◌, ℕ, zero, suc, List, [], ◌∷◌, ◌++◌}
-use Rattle.std.proofs.Common.{length, replicate, refl, ap, arith, true, ◌<◌}
+use Rattle.std.proofs.Common.{length, replicate, ◌+◌, ◌∙◌, refl, ap, arith, true, ◌<◌}
 use Rattle.std.specs.Prelude.{nat_lt, ◌&&◌}
 use Rattle.std.proofs.lemmas.Bool.Decides.{nat_tests}
+use Rattle.std.specs.declared.snapshot.Snapshot.{Snapshot}
 use Rattle.gate_journal.specs.declared.row.Row.{Row}
 use Rattle.gate_journal.specs.declared.mark.Mark.{Mark}
 use Rattle.gate_journal.specs.declared.mark.Mark.TheVariants as marks
@@ -15,27 +16,27 @@ use Rattle.gate_journal.specs.Log.{rows_of, rows_kept}
 pub rooms : (a b c d : ℕ) → (nat_lt a b && nat_lt c d) ≡ true → (a < b) × (c < d)
 rooms a b c d is = grind (arith, nat_tests)
 
-pub count-fault : (l : List Mark) (by from to : ℕ)
-    → count_rows (l ++ marks.Fault by from to ∷ []) ≡ count_rows l
-count-fault [] by from to = refl
-count-fault (marks.Row ∷ l) by from to = ap suc (count-fault l by from to)
-count-fault (marks.Fault b f t ∷ l) by from to = count-fault l by from to
+pub count-fault : (l : List Mark) (asked : Snapshot Row) (from to : ℕ)
+    → count_rows (l ++ marks.Fault asked from to ∷ []) ≡ count_rows l
+count-fault [] asked from to = refl
+count-fault (marks.Row ∷ l) asked from to = ap suc (count-fault l asked from to)
+count-fault (marks.Fault a f t ∷ l) asked from to = count-fault l asked from to
 
 pub count-row : (l : List Mark) → count_rows (l ++ marks.Row ∷ []) ≡ suc (count_rows l)
 count-row [] = refl
 count-row (marks.Row ∷ l) = ap suc (count-row l)
-count-row (marks.Fault b f t ∷ l) = count-row l
+count-row (marks.Fault a f t ∷ l) = count-row l
 
-pub woven-fault : (l : List Mark) (rows : List Row) (by from to : ℕ)
+pub woven-fault : (l : List Mark) (rows : List Row) (asked : Snapshot Row) (from to : ℕ)
     → count_rows l ≡ length rows
-    → rows_woven (l ++ marks.Fault by from to ∷ []) rows
-    ≡ rows_woven l rows ++ Faulted by from to ∷ []
-woven-fault [] rows by from to is = refl
-woven-fault (marks.Row ∷ l) [] by from to is = absurd (omega (arith, is))
-woven-fault (marks.Row ∷ l) (r ∷ rows) by from to is =
-    ap (λ (m : List Entry). Kept r ∷ m) (woven-fault l rows by from to (omega (arith, is)))
-woven-fault (marks.Fault b f t ∷ l) rows by from to is =
-    ap (λ (m : List Entry). Faulted b f t ∷ m) (woven-fault l rows by from to is)
+    → rows_woven (l ++ marks.Fault asked from to ∷ []) rows
+    ≡ rows_woven l rows ++ Faulted asked.value from to ∷ []
+woven-fault [] rows asked from to is = refl
+woven-fault (marks.Row ∷ l) [] asked from to is = absurd (omega (arith, is))
+woven-fault (marks.Row ∷ l) (r ∷ rows) asked from to is =
+    ap (λ (m : List Entry). Kept r ∷ m) (woven-fault l rows asked from to (omega (arith, is)))
+woven-fault (marks.Fault a f t ∷ l) rows asked from to is =
+    ap (λ (m : List Entry). Faulted a.value f t ∷ m) (woven-fault l rows asked from to is)
 
 pub woven-row : (l : List Mark) (rows : List Row) (r : Row)
     → count_rows l ≡ length rows
@@ -43,8 +44,8 @@ pub woven-row : (l : List Mark) (rows : List Row) (r : Row)
 woven-row [] [] r is = refl
 woven-row (marks.Row ∷ l) (x ∷ rows) r is =
     ap (λ (m : List Entry). Kept x ∷ m) (woven-row l rows r (omega (arith, is)))
-woven-row (marks.Fault b f t ∷ l) rows r is =
-    ap (λ (m : List Entry). Faulted b f t ∷ m) (woven-row l rows r is)
+woven-row (marks.Fault a f t ∷ l) rows r is =
+    ap (λ (m : List Entry). Faulted a.value f t ∷ m) (woven-row l rows r is)
 woven-row l rows r is = absurd (omega (arith, is))
 
 pub rows_of-woven : (l : List Mark) (rows : List Row)
@@ -53,7 +54,7 @@ pub rows_of-woven : (l : List Mark) (rows : List Row)
 rows_of-woven [] [] is = refl
 rows_of-woven (marks.Row ∷ l) (x ∷ rows) is =
     ap (λ (m : List Row). x ∷ m) (rows_of-woven l rows (omega (arith, is)))
-rows_of-woven (marks.Fault b f t ∷ l) rows is = rows_of-woven l rows is
+rows_of-woven (marks.Fault a f t ∷ l) rows is = rows_of-woven l rows is
 rows_of-woven l rows is = absurd (omega (arith, is))
 
 pub length-woven : (l : List Mark) (rows : List Row)
@@ -62,7 +63,17 @@ pub length-woven : (l : List Mark) (rows : List Row)
 length-woven [] rows is = refl
 length-woven (marks.Row ∷ l) [] is = absurd (omega (arith, is))
 length-woven (marks.Row ∷ l) (x ∷ rows) is = ap suc (length-woven l rows (omega (arith, is)))
-length-woven (marks.Fault b f t ∷ l) rows is = ap suc (length-woven l rows is)
+length-woven (marks.Fault a f t ∷ l) rows is = ap suc (length-woven l rows is)
+
+pub one_mark_more : (n : ℕ)
+    → replicate n marks.Row ++ marks.Row ∷ [] ≡ replicate (n + 1) marks.Row
+one_mark_more n =
+    let next : suc n ≡ n + 1 = omega arith in
+    behind n ∙ ap (λ (k : ℕ). replicate k marks.Row) next
+  where
+    behind : (n : ℕ) → replicate n marks.Row ++ marks.Row ∷ [] ≡ replicate (suc n) marks.Row
+    behind zero = refl
+    behind (suc n) = ap (λ (l : List Mark). marks.Row ∷ l) (behind n)
 
 pub count-all : (n : ℕ) → count_rows (replicate n marks.Row) ≡ n
 count-all zero = refl

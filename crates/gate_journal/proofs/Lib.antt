@@ -11,5 +11,6 @@ pub mod HistoryLemmas
 pub mod StopLemmas
 mod ReadingLemmas
 pub mod AppendLemmas
+pub mod InTurnLemmas
 pub mod SinceLemmas
 pub mod StageLemmas

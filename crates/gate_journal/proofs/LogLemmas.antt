@@ -20,17 +20,17 @@ pub rises-kept : (entries : List Entry) (r : Row) (low high now : ℕ)
     → Rises low (entries ++ Kept r ∷ []) now
 rises-kept [] r low high now rises le = omega arith
 rises-kept (Kept x ∷ entries) r low high now rises le = rises-kept entries r low high now rises le
-rises-kept (Faulted by from to ∷ entries) r low high now rises le =
+rises-kept (Faulted q from to ∷ entries) r low high now rises le =
     (rises.0, rises.1, rises.2, rises-kept entries r to high now rises.3 le)
 
-pub rises-faulted : (entries : List Entry) (by from to low : ℕ)
+pub rises-faulted : (entries : List Entry) (r : Row) (from to low : ℕ)
     → Rises low entries from → from ≤ to → Rose from to
-    → Rises low (entries ++ Faulted by from to ∷ []) to
-rises-faulted [] by from to low rises le rose = (rises, le, rose, omega arith)
-rises-faulted (Kept x ∷ entries) by from to low rises le rose =
-    rises-faulted entries by from to low rises le rose
-rises-faulted (Faulted b f t ∷ entries) by from to low rises le rose =
-    (rises.0, rises.1, rises.2, rises-faulted entries by from to t rises.3 le rose)
+    → Rises low (entries ++ Faulted r from to ∷ []) to
+rises-faulted [] r from to low rises le rose = (rises, le, rose, omega arith)
+rises-faulted (Kept x ∷ entries) r from to low rises le rose =
+    rises-faulted entries r from to low rises le rose
+rises-faulted (Faulted q f t ∷ entries) r from to low rises le rose =
+    (rises.0, rises.1, rises.2, rises-faulted entries r from to t rises.3 le rose)
 
 pub closed_shut : (rows : List Row) (c : List ℕ)
     → IsJournal rows → IsShut (journal_bytes rows) c

@@ -1,11 +1,12 @@
 -- What holds of a journal since it was opened, with one entry more.
 use Rattle.std.proofs.Common.{◌≡◌, ◌⊎◌, inl, inr, ⊎_elim, ℕ, ◌+◌, ◌≤◌, max, Bool}
-use Rattle.std.proofs.Common.{List, [], ◌∷◌, ◌++◌, length, take, drop, refl, sym, ◌∙◌, ap}
+use Rattle.std.proofs.Common.{List, [], ◌∷◌, ◌++◌, length, take, drop, refl, sym, subst, ◌∙◌, ap}
 use Rattle.std.proofs.Common.{arith, append_assoc, length-append, Option, Some, None}
 use Rattle.std.specs.Prelude.{IsTrue, IfSome}
+use Rattle.std.proofs.Math.Seq.{take-length, drop-length}
 use Rattle.std.proofs.lemmas.List.{take-append-le, take-append-drop, drop-append-le}
 use Rattle.disk_model.specs.Disk.{EachImage, LeavesOnly, SameDisk}
-use Rattle.disk_model.proofs.Moments.{weaker}
+use Rattle.disk_model.proofs.Moments.{started, weaker}
 use Rattle.gate_journal.proofs.Opening.{and_more}
 use Rattle.turn_cell.specs.History.{Each}
 use Rattle.turn_cell.proofs.HistoryLemmas.{each_append}
@@ -16,15 +17,18 @@ use Rattle.gate_journal.specs.declared.entry.Entry.TheVariants.{Kept, Faulted}
 use Rattle.gate_journal.specs.Rows.{row_body, payload_of, rows_behind_open_gates}
 use Rattle.gate_journal.specs.Rows.{journal_bytes, EachNext, IsJournal, MayStand}
 use Rattle.gate_journal.specs.Log.{Log, IsBetween, IsOfSession, IsSinceOpened, entry_number}
-use Rattle.gate_journal.specs.Log.{EndsInFaultBy}
+use Rattle.gate_journal.specs.Gate.{IsShut}
+use Rattle.gate_journal.specs.Log.{EndsInFaultOf, InTurn, StandsBehind, row_in}
 use Rattle.gate_journal.specs.Log.{IsSoundJournal, rows_kept, MayOpen, MaySpell}
 use Rattle.gate_journal.specs.Log.{Meanwhile, next_row, rows_of}
+use Rattle.gate_journal.proofs.InTurnLemmas.{number_in, one_turn_more, owned}
 use Rattle.gate_journal.proofs.LimitLemmas.{payload_most}
+use Rattle.gate_journal.proofs.LogLemmas.{closed_shut, stands_closed, stands_well}
 
 pub rows_of-append : (xs ys : List Entry) → rows_of (xs ++ ys) ≡ rows_of xs ++ rows_of ys
 rows_of-append [] ys = refl
 rows_of-append (Kept r ∷ xs) ys = ap (λ (x : List Row). r ∷ x) (rows_of-append xs ys)
-rows_of-append (Faulted by from to ∷ xs) ys = rows_of-append xs ys
+rows_of-append (Faulted r from to ∷ xs) ys = rows_of-append xs ys
 
 opened_grows : (rows more : List Row)
     → length (rows_behind_open_gates rows) ≤ length (rows_behind_open_gates (rows ++ more))
@@ -96,21 +100,21 @@ pub unsure_none :
 unsure_none P so = rw so tt
 
 faulted_again :
-    (uncertain : Option Row) (entries : List Entry) (by from to : ℕ)
-    → IfSome uncertain (λ q. EndsInFaultBy q.by entries)
-    → IfSome uncertain (λ q. EndsInFaultBy q.by (entries ++ Faulted by from to ∷ []))
-faulted_again None entries by from to unsure = tt
-faulted_again (Some q) entries by from to unsure = record {
+    (uncertain : Option Row) (entries : List Entry) (r : Row) (from to : ℕ)
+    → IfSome uncertain (λ q. EndsInFaultOf q entries)
+    → IfSome uncertain (λ q. EndsInFaultOf q (entries ++ Faulted r from to ∷ []))
+faulted_again None entries r from to unsure = tt
+faulted_again (Some q) entries r from to unsure = record {
   front = unsure.front;
   from = unsure.from;
   to = unsure.to;
-  later = unsure.later ++ Faulted by from to ∷ [];
+  later = unsure.later ++ Faulted r from to ∷ [];
   fault =
-      ap (λ (es : List Entry). es ++ Faulted by from to ∷ []) unsure.fault
-      ∙ append_assoc unsure.front (Faulted q.by unsure.from unsure.to ∷ unsure.later)
-      (Faulted by from to ∷ []);
+      ap (λ (es : List Entry). es ++ Faulted r from to ∷ []) unsure.fault
+      ∙ append_assoc unsure.front (Faulted q unsure.from unsure.to ∷ unsure.later)
+      (Faulted r from to ∷ []);
   no_row =
-      rows_of-append unsure.later (Faulted by from to ∷ [])
+      rows_of-append unsure.later (Faulted r from to ∷ [])
       ∙ ap (λ (rows : List Row). rows ++ []) unsure.no_row;
 }
 
@@ -147,20 +151,20 @@ module _
 
   -- a gate stays uncertain behind one fault more
   pub unsure_still :
-      {entries : List Entry} {uncertain : Option Row} (by from to : ℕ)
-      → entries ≡ log.entries ++ Faulted by from to ∷ [] → uncertain ≡ log.uncertain
-      → IfSome uncertain (λ q. EndsInFaultBy q.by (drop log.opening.found entries))
-  unsure_still {entries = entries} by from to pushed so =
-      rw (so, dropped entries (Faulted by from to) pushed)
-      (faulted_again log.uncertain (drop log.opening.found log.entries) by from to since.unsure)
+      {entries : List Entry} {uncertain : Option Row} (r : Row) (from to : ℕ)
+      → entries ≡ log.entries ++ Faulted r from to ∷ [] → uncertain ≡ log.uncertain
+      → IfSome uncertain (λ q. EndsInFaultOf q (drop log.opening.found entries))
+  unsure_still {entries = entries} r from to pushed so =
+      rw (so, dropped entries (Faulted r from to) pushed)
+      (faulted_again log.uncertain (drop log.opening.found log.entries) r from to since.unsure)
 
   -- it becomes so with the fault of its row
   pub unsure_now :
-      {entries : List Entry} {uncertain : Option Row} (q : Row) (by from to : ℕ)
-      → entries ≡ log.entries ++ Faulted by from to ∷ [] → uncertain ≡ Some q → by ≡ q.by
-      → IfSome uncertain (λ q. EndsInFaultBy q.by (drop log.opening.found entries))
-  unsure_now {entries = entries} q by from to pushed so same =
-      rw (so, dropped entries (Faulted by from to) pushed, same) (record {
+      {entries : List Entry} {uncertain : Option Row} (q : Row) (from to : ℕ)
+      → entries ≡ log.entries ++ Faulted q from to ∷ [] → uncertain ≡ Some q
+      → IfSome uncertain (λ q. EndsInFaultOf q (drop log.opening.found entries))
+  unsure_now {entries = entries} q from to pushed so =
+      rw (so, dropped entries (Faulted q from to) pushed) (record {
         front = drop log.opening.found log.entries;
         from = from;
         to = to;
@@ -169,20 +173,37 @@ module _
         no_row = refl;
       })
 
-  -- one entry more, of this session, after the calls of an append
+  -- one entry more, of the row that was asked for, after the calls of an append
   pub since_more :
-      {disk : D} {entries : List Entry} {ready : Bool} (uncertain : Option Row) (e : Entry)
-      → entries ≡ log.entries ++ e ∷ [] → entry_number e ≡ session + 1
-      → IfSome uncertain (λ q. EndsInFaultBy q.by (drop log.opening.found entries))
+      {disk : D} {entries : List Entry} {steps : List D} {ready : Bool} {faults : D → ℕ} {end : ℕ}
+      (uncertain : Option Row) (e : Entry)
+      → entries ≡ log.entries ++ e ∷ [] → row_in e ≡ next_row rows session command
+      → steps ≡ log.steps ++ disk ∷ []
+      → IfSome uncertain (λ q. EndsInFaultOf q (drop log.opening.found entries))
       → SameDisk tells room label log.disk disk
       → (IsTrue (tells old.disk) → LeavesOnly moment left_since old.disk disk
       (Meanwhile (rows_of old.entries) old.uncertain
       (next_row (rows_of old.entries) session command)))
       → reach disk ≤ max (reach log.disk) (length (journal_bytes (rows_of log.entries)) + 4110)
+      → ((c : List ℕ) → left_since disk (moment disk) c → may_leave disk c)
+      → IsSoundJournal tells may_leave room faults
+      (record log {
+        disk = disk;
+        entries = entries;
+        uncertain = uncertain;
+        steps = steps;
+        ready = ready;
+      }) end
       → IsSinceOpened tells may_leave room label reach moment left_since
-      (record log { disk = disk; entries = entries; uncertain = uncertain; ready = ready })
-  since_more {disk = disk} {entries = entries} uncertain e pushed numbered unsure same leaves asked =
-      record {
+      (record log {
+        disk = disk;
+        entries = entries;
+        uncertain = uncertain;
+        steps = steps;
+        ready = ready;
+      })
+  since_more {disk = disk} {entries = entries} {steps = steps} uncertain e pushed made stepped unsure
+      same leaves asked only_now sound = record {
         same = same_then since.same same;
         many = omega (arith, since.many, ap length pushed, length-append log.entries (e ∷ []));
         numbers = rw pushed (each_append IsOfSession log.entries (e ∷ []) since.numbers (
@@ -191,9 +212,69 @@ module _
         ));
         unsure = unsure;
         meanwhile = λ start journal may told. images start journal may told;
+        in_turn = λ told. turns told;
         reaches = omega (arith, since.reaches, asked, longer);
       }
     where
+      numbered : entry_number e ≡ session + 1
+      numbered = number_in e ∙ ap (λ (r : Row). r.by) made
+
+      taken : take log.opening.found entries ≡ take log.opening.found log.entries
+      taken =
+          ap (λ (es : List Entry). take log.opening.found es) pushed
+          ∙ take-append-le log.opening.found log.entries (e ∷ []) since.many
+
+      here :
+          IsTrue (tells log.disk) → LeavesOnly moment left_since log.disk disk
+          (Meanwhile rows log.uncertain (next_row rows session command))
+      here = rw is leaves
+
+      -- the images of the append, and those behind it
+      asks : (c : List ℕ) → Meanwhile rows log.uncertain (next_row rows session command) c
+          → StandsBehind log.entries (Some (row_in e)) c
+      asks c (inl old, opens) = record {
+        one_more = log.uncertain;
+        owner = owned log.opening.found log.entries (Some (row_in e)) log.uncertain since.unsure;
+        spells = old;
+        opens = opens;
+      }
+      asks c (inr new, opens) = record {
+        one_more = Some (next_row rows session command);
+        owner = inl (ap Some made);
+        spells = new;
+        opens = opens;
+      }
+
+      stands_now : IsTrue (tells disk) → (c : List ℕ) → left_since disk (moment disk) c
+          → StandsBehind (log.entries ++ e ∷ []) None c
+      stands_now told c left =
+          subst (λ (es : List Entry). StandsBehind es None c) pushed (record {
+            one_more = uncertain;
+            owner = owned log.opening.found entries None uncertain unsure;
+            spells =
+                stands_well (rows_of entries) uncertain c sound.journal sound.next
+                (sound.images told c (only_now c left));
+            opens =
+                stands_closed (rows_of entries) uncertain c sound.next
+                (sound.images told c (only_now c left));
+          })
+
+      turns :
+          IsTrue (tells disk)
+          → InTurn moment left_since (take log.opening.found entries) log.start
+          (drop log.opening.found entries) steps disk
+      turns told =
+          let told_then : IsTrue (tells log.disk) = rw same.telling at told in
+          rw (taken, dropped entries e pushed, stepped)
+          (one_turn_more moment left_since (take log.opening.found log.entries) log.start log.disk
+          disk (drop log.opening.found log.entries) log.steps e log.entries
+          (take-append-drop log.opening.found log.entries) (since.in_turn told_then)
+          (weaker moment left_since log.disk disk
+          (Meanwhile rows log.uncertain (next_row rows session command))
+          (StandsBehind log.entries (Some (row_in e))) (here told_then) asks)
+          (started moment left_since disk (StandsBehind (log.entries ++ e ∷ []) None)
+          (stands_now told)))
+
       grows : rows_of entries ≡ rows ++ rows_of (e ∷ [])
       grows = ap rows_of pushed ∙ rows_of-append log.entries (e ∷ [])
 
@@ -201,13 +282,7 @@ module _
       longer = spelled_grows rows (rows_of entries) (rows_of (e ∷ [])) grows
 
       same_found : found_in log.entries ≡ found_in entries
-      same_found = sym (ap (λ (es : List Entry). found_in es) pushed
-          ∙ ap rows_of (take-append-le log.opening.found log.entries (e ∷ []) since.many))
-
-      here :
-          IsTrue (tells log.disk) → LeavesOnly moment left_since log.disk disk
-          (Meanwhile rows log.uncertain (next_row rows session command))
-      here = rw is leaves
+      same_found = sym (ap rows_of taken)
 
       images :
           (start : List Row) → IsJournal start
@@ -257,21 +332,27 @@ module _
 pub since_begun :
     {D : Type 0} {tells : D → Bool} {may_leave : D → List ℕ → Type 0}
     {room label reach moment : D → ℕ} {left_since : D → ℕ → List ℕ → Type 0} {given now : D}
-    {entries : List Entry} {ready : Bool} (found : ℕ)
+    {start : D} {entries : List Entry} {steps : List D} {ready : Bool} (found : ℕ)
     → found ≡ length entries → entries ≡ rows_kept (rows_of entries) → IsJournal (rows_of entries)
     → SameDisk tells room label given now
     → ((start : List Row) → IsJournal start → EachImage tells may_leave given (MayOpen start)
     → IsTrue (tells given) → LeavesOnly moment left_since given now (MayOpen start))
     → reach now ≤ max (reach given) (length (journal_bytes (rows_of entries)) + 1)
+    → EachImage tells may_leave now (IsShut (journal_bytes (rows_of entries)))
+    → ((c : List ℕ) → left_since now (moment now) c → may_leave now c)
+    → start ≡ now → steps ≡ []
     → IsSinceOpened tells may_leave room label reach moment left_since (record {
       disk = now;
       entries = entries;
       uncertain = None;
       opening = record { disk = given; found = found };
+      start = start;
+      steps = steps;
       ready = ready;
     })
 since_begun {D} {tells} {may_leave} {room} {label} {reach} {moment} {left_since} {given} {now}
-    {entries} found many fresh journal same crash asked = record {
+    {start} {entries} {steps} found many fresh journal same crash asked shut only_now is_start
+    no_steps = record {
       same = same;
       many = omega (arith, many);
       numbers = rw fresh (numbers_of [] (rows_of entries) journal);
@@ -280,9 +361,26 @@ since_begun {D} {tells} {may_leave} {room} {label} {reach} {moment} {left_since}
           weaker moment left_since given now (MayOpen start)
           (λ c. MayOpen start c ⊎ IsBetween (rows_of (take found entries)) (rows_of entries) c)
           (crash start is_journal may told) (λ c opens. inl opens);
+      in_turn = λ told. begins told;
       reaches = omega (arith, asked);
     }
   where
+    stands : IsTrue (tells now) → (c : List ℕ) → left_since now (moment now) c
+        → StandsBehind entries None c
+    stands told c left = record {
+      one_more = None;
+      owner = tt;
+      spells = closed_shut (rows_of entries) c journal (shut told c (only_now c left));
+      opens = inl (shut told c (only_now c left));
+    }
+
+    begins :
+        IsTrue (tells now)
+        → InTurn moment left_since (take found entries) start (drop found entries) steps now
+    begins told =
+        rw (is_start, no_steps, many, take-length entries, drop-length entries)
+        (started moment left_since now (StandsBehind entries None) (stands told))
+
     numbers_of :
         (before rows : List Row) → EachNext before rows → Each IsOfSession (rows_kept rows)
     numbers_of before [] all = tt
@@ -295,12 +393,12 @@ since_begun {D} {tells} {may_leave} {room} {label} {reach} {moment} {left_since}
 pub reserved :
     {D : Type 0} {tells : D → Bool} {may_leave : D → List ℕ → Type 0}
     {room faults label reach moment : D → ℕ} {left_since : D → ℕ → List ℕ → Type 0} {log : Log D}
-    {entries : List Entry} {end : ℕ} {ready : Bool}
-    → entries ≡ log.entries
+    {entries : List Entry} {steps : List D} {end : ℕ} {ready : Bool}
+    → entries ≡ log.entries → steps ≡ log.steps
     → IsSoundJournal tells may_leave room faults log end
     × IsSinceOpened tells may_leave room label reach moment left_since log
     → IsSoundJournal tells may_leave room faults
-    (record log { entries = entries; ready = ready }) end
+    (record log { entries = entries; steps = steps; ready = ready }) end
     × IsSinceOpened tells may_leave room label reach moment left_since
-    (record log { entries = entries; ready = ready })
-reserved same (sound, since) = rw same assumption
+    (record log { entries = entries; steps = steps; ready = ready })
+reserved same as_many (sound, since) = rw (same, as_many) assumption

@@ -21,16 +21,22 @@ module _ {D : Type 0} (tells : D → Bool) (may_leave : D → List ℕ → Type 
     (room faults : D → ℕ) where
   -- after a fault
   pub sound_faulted : (log : Log D) (end : ℕ) (disk : D) (entries : List Entry)
-      (uncertain : Option Row) (by from to : ℕ) (ready : Bool)
+      (uncertain : Option Row) (r : Row) (from to : ℕ) (steps : List D) (ready : Bool)
       → IsSoundJournal tells may_leave room faults log end
-      → entries ≡ log.entries ++ Faulted by from to ∷ []
+      → entries ≡ log.entries ++ Faulted r from to ∷ []
       → room disk ≡ room log.disk → from ≡ faults log.disk
       → to ≡ faults disk → from ≤ to → Rose from to
       → IfSome uncertain (IsNext (rows_of log.entries))
       → EachImage tells may_leave disk (StandsInImage (rows_of log.entries) uncertain)
       → IsSoundJournal tells may_leave room faults
-      (record log { disk = disk; entries = entries; uncertain = uncertain; ready = ready }) end
-  sound_faulted log end disk entries uncertain by from to ready sound pushed same_room
+      (record log {
+        disk = disk;
+        entries = entries;
+        uncertain = uncertain;
+        steps = steps;
+        ready = ready;
+      }) end
+  sound_faulted log end disk entries uncertain r from to steps ready sound pushed same_room
       is_from is_to le rose next images =
       let same : rows_of log.entries ≡ rows_of entries =
       sym (ap rows_of pushed ∙ rows_of-append log.entries _ ∙ append-nil _) in
@@ -41,13 +47,13 @@ module _ {D : Type 0} (tells : D → Bool) (may_leave : D → List ℕ → Type 
         next = rw (← same) next;
         images = rw (← same) images;
         counts =
-            rw (pushed, ← is_to) (rises-faulted log.entries by from to (faults log.opening.disk)
+            rw (pushed, ← is_to) (rises-faulted log.entries r from to (faults log.opening.disk)
             (rw is_from sound.counts) le rose);
       }
 
   -- after a row
   pub sound_kept : (log : Log D) (end later : ℕ) (disk : D) (entries : List Entry)
-      (r : Row) (ready : Bool)
+      (r : Row) (steps : List D) (ready : Bool)
       → IsSoundJournal tells may_leave room faults log end
       → entries ≡ log.entries ++ Kept r ∷ []
       → room disk ≡ room log.disk → faults log.disk ≤ faults disk
@@ -56,8 +62,14 @@ module _ {D : Type 0} (tells : D → Bool) (may_leave : D → List ℕ → Type 
       → IsNext (rows_of log.entries) r
       → EachImage tells may_leave disk (IsShut (journal_bytes (rows_of log.entries ++ r ∷ [])))
       → IsSoundJournal tells may_leave room faults
-      (record log { disk = disk; entries = entries; uncertain = None; ready = ready }) later
-  sound_kept log end later disk entries r ready sound pushed same_room le is_later within
+      (record log {
+        disk = disk;
+        entries = entries;
+        uncertain = None;
+        steps = steps;
+        ready = ready;
+      }) later
+  sound_kept log end later disk entries r steps ready sound pushed same_room le is_later within
       next images =
       let same : rows_of log.entries ++ r ∷ [] ≡ rows_of entries =
       sym (ap rows_of pushed ∙ rows_of-append log.entries (Kept r ∷ [])) in

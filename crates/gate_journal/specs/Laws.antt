@@ -1,13 +1,14 @@
 -- What bytes spell, they spell alone (own).
 use Rattle.std.specs.Prelude.{◌≡◌, ◌⊎◌, ℕ, ◌+◌, ◌<◌, ◌≤◌, List, [], ◌∷◌, ◌++◌}
-use Rattle.std.specs.Prelude.{length, slice_index}
+use Rattle.std.specs.Prelude.{Option, Some, None, length, slice_index}
 use Rattle.gate_journal.specs.declared.command.Command.{Command}
 use Rattle.gate_journal.specs.declared.row.Row.{Row}
+use Rattle.gate_journal.specs.declared.entry.Entry.{Entry}
 use Rattle.gate_journal.specs.Command.{IsCommand}
 use Rattle.gate_journal.specs.declared.fault.JournalFault.{JournalFault}
 use Rattle.gate_journal.specs.Rows.{journal_bytes, SpellsRows, IsCorrupt, HasNoHeader}
 use Rattle.gate_journal.specs.Rows.{IsJournal, IsNext}
-use Rattle.gate_journal.specs.Log.{next_row, row_end, MayOpen}
+use Rattle.gate_journal.specs.Log.{next_row, row_end, row_in, MayOpen, InTurn, StandsBehind}
 use Rattle.gate_journal.specs.Faults.{Explains, IsOfDisk}
 
 -- bytes spell one list of rows
@@ -56,3 +57,32 @@ abbrev pub HasOneReading : Type 0
 HasOneReading = (bytes : List ℕ) → ((i : ℕ) → slice_index bytes i < 256)
     → (reading : Reading) × IsReading bytes reading
     × ((other : Reading) → IsReading bytes other → other ≡ reading)
+
+-- the row of which the next append is
+abbrev pub next_asked : List Entry → Option Row
+next_asked [] = None
+next_asked (e ∷ entries) = Some (row_in e)
+
+-- an image that stands behind these entries and the first of the later ones, while the append of the
+-- next one may go on
+pub record StandsAmong (before later : List Entry) (c : List ℕ) : Type 0 where
+  pub since : List Entry
+  pub after : List Entry
+  pub all : later ≡ since ++ after
+  pub stands : StandsBehind (before ++ since) (next_asked after) c
+
+-- so is each image that a stop may leave since the start of entries that came in turn
+abbrev pub StopsInTurn : {D : Type 0} → (D → ℕ) → (D → ℕ → List ℕ → Type 0) → Type 0
+StopsInTurn {D} moment left_since =
+    (before : List Entry) (start end : D) (entries : List Entry) (steps : List D)
+    → InTurn moment left_since before start entries steps end
+    → (c : List ℕ) → left_since end (moment start) c → StandsAmong before entries c
+
+-- and each that it may leave once an entry was taken down stands behind that entry
+abbrev pub KeptFromThen : {D : Type 0} → (D → ℕ) → (D → ℕ → List ℕ → Type 0) → Type 0
+KeptFromThen {D} moment left_since =
+    (before : List Entry) (start end : D) (since : List Entry) (e : Entry) (later : List Entry)
+    (first : List D) (then : D) (steps : List D) → length since ≡ length first
+    → InTurn moment left_since before start (since ++ e ∷ later) (first ++ then ∷ steps) end
+    → (c : List ℕ) → left_since end (moment then) c
+    → StandsAmong ((before ++ since) ++ e ∷ []) later c

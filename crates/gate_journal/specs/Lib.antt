@@ -7,4 +7,5 @@ pub mod Gate
 pub mod Log
 pub mod History
 pub mod Faults
+pub mod Scan
 pub mod Laws

@@ -15,22 +15,27 @@ use Rattle.gate_journal.specs.declared.entry.Entry.TheVariants.{Kept, Faulted}
 abbrev pub rows_of : List Entry → List Row
 rows_of [] = []
 rows_of (Kept r ∷ entries) = r ∷ rows_of entries
-rows_of (Faulted by from to ∷ entries) = rows_of entries
+rows_of (Faulted r from to ∷ entries) = rows_of entries
 
 -- each row as an entry
 abbrev pub rows_kept : List Row → List Entry
 rows_kept rows = map Kept rows
 
+-- the row of which an entry is: it is kept, or its append failed
+abbrev pub row_in : Entry → Row
+row_in (Kept r) = r
+row_in (Faulted r from to) = r
+
 -- the number of an entry
 abbrev pub entry_number : Entry → ℕ
 entry_number (Kept r) = r.by
-entry_number (Faulted by from to) = by
+entry_number (Faulted r from to) = r.by
 
 -- the counts of the fault entries rise, from the low number to the high one
 abbrev pub Rises : ℕ → List Entry → ℕ → Type 0
 Rises low [] high = low ≤ high
 Rises low (Kept r ∷ entries) high = Rises low entries high
-Rises low (Faulted by from to ∷ entries) high =
+Rises low (Faulted r from to ∷ entries) high =
     (low ≤ from) × (from ≤ to) × Rose from to × Rises to entries high
 
 -- what a journal was opened on, which never changes: the disk as it was handed in, and how many
@@ -46,6 +51,9 @@ pub record Log (D : Type 0) : Type 0 where
   -- the row behind an uncertain gate
   pub uncertain : Option Row
   pub opening : Opening D
+  -- the disk as the opening left it, and as it stood when each entry since was taken down
+  pub start : D
+  pub steps : List D
   -- there is room for one row more
   pub ready : Bool
 
@@ -94,6 +102,8 @@ pub record SameLog {D : Type 0} (old new : Log D) : Type 0 where
   pub entries : new.entries ≡ old.entries
   pub uncertain : new.uncertain ≡ old.uncertain
   pub opening : new.opening ≡ old.opening
+  pub start : new.start ≡ old.start
+  pub steps : new.steps ≡ old.steps
 
 -- what stands in an image: the rows and a closed gate, or a gate of which nothing is known before
 -- this row and a zero byte
@@ -168,14 +178,37 @@ pub record IsBetween (first last : List Row) (c : List ℕ) : Type 0 where
   pub spells : MaySpell (first ++ since) one_more c
   pub opens : MayOpen (first ++ since) c
 
--- a fault of this number stands among the entries, and no row behind it
-pub record EndsInFaultBy (by : ℕ) (entries : List Entry) : Type 0 where
+-- an append of this row failed, and no row was kept behind that fault
+pub record EndsInFaultOf (r : Row) (entries : List Entry) : Type 0 where
   pub front : List Entry
   pub from : ℕ
   pub to : ℕ
   pub later : List Entry
-  pub fault : entries ≡ front ++ Faulted by from to ∷ later
+  pub fault : entries ≡ front ++ Faulted r from to ∷ later
   pub no_row : rows_of later ≡ []
+
+-- An image from the time behind these entries, while an append of this row may go on: it spells
+-- their rows, or these and one more, which is that row, or one whose append failed behind the last
+-- of them; and an opening may meet it.
+pub record StandsBehind (entries : List Entry) (asked : Option Row) (c : List ℕ) : Type 0 where
+  pub one_more : Option Row
+  pub owner : IfSome one_more (λ r. (asked ≡ Some r) ⊎ EndsInFaultOf r entries)
+  pub spells : MaySpell (rows_of entries) one_more c
+  pub opens : MayOpen (rows_of entries) c
+
+-- Entries in turn, from one disk to another, each with the disk as it stood when it was taken down:
+-- between one and the next each image stands behind those by then, while the next one's append goes
+-- on.
+abbrev pub InTurn :
+    {D : Type 0} → (D → ℕ) → (D → ℕ → List ℕ → Type 0) → List Entry → D → List Entry → List D → D
+    → Type 0
+InTurn moment left_since before start [] [] end =
+    LeavesOnly moment left_since start end (StandsBehind before None)
+InTurn moment left_since before start [] (d ∷ steps) end = ⊥
+InTurn moment left_since before start (e ∷ entries) [] end = ⊥
+InTurn moment left_since before start (e ∷ entries) (d ∷ steps) end =
+    LeavesOnly moment left_since start d (StandsBehind before (Some (row_in e)))
+    × InTurn moment left_since (before ++ e ∷ []) d entries steps end
 
 -- the entry is of a session below 64
 abbrev pub IsOfSession : Entry → Type 0
@@ -183,9 +216,10 @@ IsOfSession e = (0 < entry_number e) × (entry_number e ≤ 64)
 
 -- What holds of each journal since it was opened: it is on the same disk, which wasn't written
 -- farther behind the closing gate than the longest row reaches; its entries are those found and
--- more. A gate is uncertain only behind a fault of its row's session, of an append since then, and
--- no row was kept after that fault. Each image of that time is one that the opening may meet, or
--- spells the rows found and the first of those written since, or these and one row more.
+-- more. A gate is uncertain only behind a fault in the append of its row, since then, and no row was
+-- kept after that fault. Each image of that time is one that the opening may meet, or spells the
+-- rows found and the first of those written since, or these and one row more. Since the opening had
+-- ended, its entries came in turn.
 pub record IsSinceOpened
     {D : Type 0}
     (tells : D → Bool)
@@ -197,13 +231,17 @@ pub record IsSinceOpened
   pub many : log.opening.found ≤ length log.entries
   pub numbers : Each IsOfSession log.entries
   pub unsure :
-      IfSome log.uncertain (λ r. EndsInFaultBy r.by (drop log.opening.found log.entries))
+      IfSome log.uncertain (λ r. EndsInFaultOf r (drop log.opening.found log.entries))
   pub meanwhile :
       (start : List Row) → IsJournal start
       → EachImage tells may_leave log.opening.disk (MayOpen start)
       → IsTrue (tells log.opening.disk)
       → LeavesOnly moment left_since log.opening.disk log.disk
       (λ c. MayOpen start c ⊎ IsBetween (rows_found log) (rows_of log.entries) c)
+  pub in_turn :
+      IsTrue (tells log.disk)
+      → InTurn moment left_since (take log.opening.found log.entries) log.start
+      (drop log.opening.found log.entries) log.steps log.disk
   pub reaches :
       reach log.disk
       ≤ max (reach log.opening.disk) (length (journal_bytes (rows_of log.entries)) + 4110)

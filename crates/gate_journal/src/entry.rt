@@ -7,7 +7,7 @@ use crate::row::Row;
 pub enum Entry {
     /// A row that is synced.
     Kept(Row),
-    /// A fault of the disk in an append, by the number of its session and 1, with the disk's counts
-    /// of faults at its start and end.
-    Faulted { by: u64, from: u64, to: u64 },
+    /// A fault of the disk in the append of this row, with the disk's counts of faults at its start
+    /// and end.
+    Faulted { row: Row, from: u64, to: u64 },
 }

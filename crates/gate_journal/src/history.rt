@@ -1,7 +1,7 @@
 //! Rows and faults in their order (own).
 
 ghost use Rattle.std.specs.Prelude.{◌≡◌, ◌++◌, ◌<◌, ◌≤◌, [], ◌∷◌, IfOk};
-ghost use Rattle.std.specs.Prelude.{OnOk, MatchOption, length};
+ghost use Rattle.std.specs.Prelude.{OnOk, MatchOption, length, replicate};
 ghost use Rattle.std.specs.Prelude.{slice_get, None, Some};
 ghost use Rattle.std.specs.Prelude.{IsTrue, ◌↔◌};
 ghost use Rattle.gate_journal.specs.Log.{rows_of, rows_kept};
@@ -15,6 +15,7 @@ use crate::row::Row;
 use crate::seats::may_stand;
 use std::alloc::{AllocError, Global};
 use std::marker::Model;
+use std::snapshot::Snapshot;
 
 /// A list of entries: the rows apart, and marks that say where they stand among the faults.
 #[derive(Drop)]
@@ -45,6 +46,17 @@ fn row_at(rows: &[Row], index: u64) -> Option<&Row>
     rows.get(index as usize)
 }
 
+/// A mark for each of so many rows.
+fn row_marks(alloc: Global, count: usize) -> Result<Vec<Mark>, AllocError>
+    ensures { IfOk result (λ v. v.items ≡ replicate count Mark.Row) }
+{
+    let mut made = Vec::new(alloc);
+    for k in 0..count {
+        made.push(Mark::Row)?;
+    }
+    Ok(made)
+}
+
 impl History {
     ghost use Rattle.std.specs.Prelude.{true};
 
@@ -52,7 +64,7 @@ impl History {
     pub fn of(alloc: Global, rows: Vec<Row>) -> Result<History, AllocError>
         ensures { IfOk result (λ h. h.list ≡ rows_kept rows.items) }
     {
-        let marks = vec![in alloc; Mark::Row; rows.len()]?;
+        let marks = row_marks(alloc, rows.len())?;
         Ok(History { rows, marks })
     }
 
@@ -66,13 +78,14 @@ impl History {
         Ok(())
     }
 
-    /// Takes a fault down.
-    pub fn note_fault(&mut self, by: u64, from: u64, to: u64) -> DiskFault
+    /// Takes down a fault in the append of this row.
+    pub fn note_fault(&mut self, row: &Row, from: u64, to: u64) -> DiskFault
         requires { self.old.room ≡ true }
         ensures value { (result.from ≡ from) × (result.to ≡ to) }
-        ensures entry { self.new.list ≡ self.old.list ++ Faulted by from to ∷ [] }
+        ensures entry { self.new.list ≡ self.old.list ++ Faulted row.now from to ∷ [] }
     {
-        let _ = self.marks.push(Mark::Fault { by, from, to });
+        let asked = Snapshot::of(row);
+        let _ = self.marks.push(Mark::Fault { asked, from, to });
         DiskFault { from, to }
     }
 

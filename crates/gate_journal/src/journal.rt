@@ -17,6 +17,7 @@ use crate::fault::{DiskFault, JournalFault};
 use crate::gate::{RowFault, write_row};
 use crate::history::History;
 use crate::load::load;
+use crate::moments::Moments;
 use crate::parse::Parsed;
 use crate::room::Room;
 use crate::row::Row;
@@ -37,6 +38,9 @@ pub struct Journal<D: Disk> {
     // the disk as it was handed in, and how many entries were found on it
     opened: Snapshot<D>,
     found: u64,
+    // the disk as the opening left it, and as it stood at each entry since
+    start: Snapshot<D>,
+    steps: Moments<D>,
     room: Option<Room>,
 }
 
@@ -51,7 +55,9 @@ impl<D: Disk> Model for Journal<D> {
       entries = j.history.list;
       uncertain = j.uncertain;
       opening = record { disk = j.opened.value; found = j.found };
-      ready = is_some j.room && j.history.room;
+      start = j.start.value;
+      steps = j.steps.list;
+      ready = is_some j.room && j.history.room && j.steps.room;
     } };
 
     ghost invariant = { λ j. IsSoundJournal D.tells D.may_leave D.room D.faults
@@ -60,7 +66,9 @@ impl<D: Disk> Model for Journal<D> {
           entries = j.history.list;
           uncertain = j.uncertain;
           opening = record { disk = j.opened.value; found = j.found };
-          ready = is_some j.room && j.history.room;
+          start = j.start.value;
+          steps = j.steps.list;
+          ready = is_some j.room && j.history.room && j.steps.room;
         })
         j.end
         × IsSinceOpened D.tells D.may_leave D.room D.label D.reach D.moment D.left_since
@@ -69,7 +77,9 @@ impl<D: Disk> Model for Journal<D> {
           entries = j.history.list;
           uncertain = j.uncertain;
           opening = record { disk = j.opened.value; found = j.found };
-          ready = is_some j.room && j.history.room;
+          start = j.start.value;
+          steps = j.steps.list;
+          ready = is_some j.room && j.history.room && j.steps.room;
         }) };
 }
 
@@ -103,7 +113,8 @@ impl<D: Disk> Journal<D> {
             → SpellsRows (D.seen disk) (rows_of j.entries)) }
         ensures fresh { IfOk result (λ j. (j.entries ≡ rows_kept (rows_of j.entries))
             × (j.uncertain ≡ None)
-            × (j.opening ≡ record { disk = disk; found = length j.entries })) }
+            × (j.opening ≡ record { disk = disk; found = length j.entries })
+            × (j.start ≡ j.disk) × (j.steps ≡ [])) }
         ensures exact { IfErr result (λ e. IsTrue (D.tells disk)
             → Explains (D.seen disk) e.0) }
         ensures cause { MatchResult result (λ j. D.faults j.disk ≡ D.faults disk)
@@ -169,6 +180,7 @@ impl<D: Disk> Journal<D> {
             Err(fault) => return Err((fault, disk)),
         };
         let found = history.len();
+        let start = Snapshot::of(&disk);
         Ok(Journal {
             disk,
             history,
@@ -176,6 +188,8 @@ impl<D: Disk> Journal<D> {
             uncertain: None,
             opened,
             found,
+            start,
+            steps: Moments::new(alloc),
             room: None,
         })
     }
@@ -186,6 +200,7 @@ impl<D: Disk> Journal<D> {
         ensures kept { SameLog self.old self.new }
     {
         self.history.reserve()?;
+        self.steps.reserve()?;
         if self.room.is_none() {
             self.room = Some(Room::new(alloc)?);
         }
@@ -220,8 +235,8 @@ impl<D: Disk> Journal<D> {
 
         // The gate was left as it was, or closed, or had its write begun.
         ensures err { IfErr result (λ e.
-            (self.new.entries
-            ≡ self.old.entries ++ Faulted (session + 1) e.from e.to ∷ [])
+            (self.new.entries ≡ self.old.entries
+            ++ Faulted (next_row (rows_of self.old.entries) session command.now) e.from e.to ∷ [])
             × ((self.new.uncertain ≡ self.old.uncertain)
             ⊎ (self.new.uncertain ≡ None)
             ⊎ (self.new.uncertain
@@ -247,8 +262,10 @@ impl<D: Disk> Journal<D> {
             (λ _. rows_of self.new.entries ≡ rows_of self.old.entries
             ++ next_row (rows_of self.old.entries) session command.now ∷ [])
             (λ _. rows_of self.new.entries ≡ rows_of self.old.entries) }
+        // The entry is taken down with the disk as it stands then.
+        ensures step { self.new.steps ≡ self.old.steps ++ self.new.disk ∷ [] }
         ensures kept { SameDisk D.tells D.room D.label self.old.disk self.new.disk
-            × (self.new.opening ≡ self.old.opening) }
+            × (self.new.opening ≡ self.old.opening) × (self.new.start ≡ self.old.start) }
 
         // Meanwhile an image spells the rows from before alone, or these and the uncertain one, or
         // these and the new one.
@@ -260,29 +277,35 @@ impl<D: Disk> Journal<D> {
             (row_end (next_row (rows_of self.old.entries) session command.now)) }
     {
         let from = self.disk.faults();
-        let by = u64::from(session) + 1;
         let (row, past) = self.room.take().unwrap().fill(self.end, session, command);
         let Ok(()) = settle(&mut self.disk, &mut self.uncertain, self.end) else {
-            let_go(row);
             let to = self.disk.faults();
-            return Err(self.history.note_fault(by, from, to));
+            let fault = self.history.note_fault(&row, from, to);
+            self.steps.note(&self.disk);
+            let_go(row);
+            return Err(fault);
         };
         match write_row(&mut self.disk, self.end, &past) {
             Ok(()) => {
                 let place = self.end;
                 self.end += past.len() as u64;
                 self.history.note_row(row);
+                self.steps.note(&self.disk);
                 Ok(place)
             }
             Err(RowFault::Before) => {
-                let_go(row);
                 let to = self.disk.faults();
-                Err(self.history.note_fault(by, from, to))
+                let fault = self.history.note_fault(&row, from, to);
+                self.steps.note(&self.disk);
+                let_go(row);
+                Err(fault)
             }
             Err(RowFault::AtGate) => {
-                note_uncertain(&mut self.uncertain, row);
                 let to = self.disk.faults();
-                Err(self.history.note_fault(by, from, to))
+                let fault = self.history.note_fault(&row, from, to);
+                self.steps.note(&self.disk);
+                note_uncertain(&mut self.uncertain, row);
+                Err(fault)
             }
         }
     }

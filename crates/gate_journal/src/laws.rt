@@ -2,6 +2,9 @@
 
 ghost use Rattle.gate_journal.specs.Laws.{SpellsOneList, IsNeverBoth, HasOnePlace};
 ghost use Rattle.gate_journal.specs.Laws.{EndsWithin, FindsRows, HasOneReading};
+ghost use Rattle.gate_journal.specs.Laws.{KeptFromThen, StopsInTurn};
+
+use disk_model::Disk;
 
 /// Bytes spell one list of rows at most.
 pub fn spells_one_list()
@@ -32,4 +35,16 @@ pub fn opening_finds()
 /// Bytes have exactly one reading: rows, a corrupt place, or no header.
 pub fn has_one_reading()
     ensures { HasOneReading }
+{}
+
+/// Of entries that came in turn, each image that a stop may leave since their start spells the rows
+/// of the first of them, and at most one more: that of the next one, or one whose append failed
+/// behind the last row.
+pub fn stops_in_turn<D: Disk>()
+    ensures { StopsInTurn D.moment D.left_since }
+{}
+
+/// Each image that a stop may leave once an entry was taken down spells its row, where it is one.
+pub fn kept_from_then<D: Disk>()
+    ensures { KeptFromThen D.moment D.left_since }
 {}

@@ -10,7 +10,9 @@ mod history;
 mod journal;
 mod laws;
 mod load;
+mod look;
 mod mark;
+mod moments;
 mod parse;
 mod payload;
 mod room;
@@ -25,9 +27,10 @@ pub use entry::Entry;
 pub use fault::{DiskFault, InitFault, JournalFault};
 pub use journal::Journal;
 pub use laws::{
-    ends_within, has_one_corrupt_place, has_one_reading, opening_finds, spells_one_list,
-    spells_or_is_corrupt,
+    ends_within, has_one_corrupt_place, has_one_reading, kept_from_then, opening_finds,
+    spells_one_list, spells_or_is_corrupt, stops_in_turn,
 };
+pub use look::scan;
 pub use parse::{Rows, read_rows, row_behind};
 pub use room::row_bytes;
 pub use row::Row;

@@ -2,7 +2,7 @@
 
 ghost use Rattle.std.specs.Prelude.{◌≡◌, ◌+◌, ◌<◌, ◌≤◌, List, IsTrue, IfOk, IfErr};
 ghost use Rattle.std.specs.Prelude.{length, max, slice_index, Option, IfSome};
-ghost use Rattle.disk_model.specs.Disk.{EachImage, LeavesOnly, SameDisk, OnlyLooks};
+ghost use Rattle.disk_model.specs.Disk.{EachImage, LeavesOnly, NoneNew, SameDisk, OnlyLooks};
 ghost use Rattle.gate_journal.specs.Faults.{Explains, IsOfDisk, IsNoFault, UnlessFault};
 ghost use Rattle.gate_journal.specs.Faults.{IsFault, CountsOpening, IsDiskFault};
 ghost use Rattle.disk_model.specs.Work.{GoodCalls, FailedCall};
@@ -30,7 +30,7 @@ fn disk_fault<D: Disk>(disk: &D, from: u64) -> JournalFault
 }
 
 /// All bytes: two device calls.
-fn read_all<D: Disk>(alloc: Global, disk: &mut D) -> Result<Vec<u8>, JournalFault>
+pub fn read_all<D: Disk>(alloc: Global, disk: &mut D) -> Result<Vec<u8>, JournalFault>
     ensures ok { IfOk result (λ v. IsTrue (D.tells disk.old) → v.items ≡ D.seen disk.old) }
     ensures within { IfOk result (λ v. length v.items ≤ D.room disk.old) }
     ensures err { IfErr result IsOfDisk }
@@ -40,6 +40,8 @@ fn read_all<D: Disk>(alloc: Global, disk: &mut D) -> Result<Vec<u8>, JournalFaul
         → D.seen disk.new ≡ D.seen disk.old) }
     ensures kept { OnlyLooks D.tells D.may_leave D.moment D.left_since D.reach D.room D.label
         disk.old disk.new }
+    ensures none_lost { IsTrue (D.tells disk.old)
+        → NoneNew (D.may_leave disk.new) (D.may_leave disk.old) }
     ensures calls { IsTrue (D.tells disk.old) → MatchResult result
         (λ _. GoodCalls D.fails_at D.moment 2 disk.old disk.new)
         (λ e. IsDiskFault e → (k : ℕ) × (k < 2)

@@ -1,8 +1,15 @@
 //! Where the rows of a journal stand among its faults (own).
 
-/// A row, the next one in their list, or a fault.
-#[derive(Clone, Copy)]
+use crate::row::Row;
+use std::snapshot::Snapshot;
+
+/// A row, the next one in their list, or a fault in the append of this row, which only clauses read.
+#[derive(Drop)]
 pub enum Mark {
     Row,
-    Fault { by: u64, from: u64, to: u64 },
+    Fault {
+        asked: Snapshot<Row>,
+        from: u64,
+        to: u64,
+    },
 }

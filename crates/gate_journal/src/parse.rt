@@ -59,6 +59,14 @@ impl Rows {
         self.list.as_slice()
     }
 
+    /// The rows alone.
+    pub fn into_vec(self) -> Vec<Row>
+        ensures value { result.items ≡ self }
+        ensures journal { IsJournal self }
+    {
+        self.list
+    }
+
     /// The place of the closing gate.
     pub fn end(&self) -> u64
         ensures { result ≡ length (journal_bytes self.now) }

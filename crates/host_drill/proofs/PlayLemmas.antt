@@ -17,6 +17,7 @@ use Rattle.host_serve.specs.declared.host.Passes.{Passes}
 use Rattle.host_serve.specs.declared.mark.Mark.{Mark}
 use Rattle.host_serve.proofs.AloneLemmas.{alone_there, met_one}
 use Rattle.host_serve.proofs.ChainLemmas.{answer_wide, chain_wide}
+use Rattle.host_serve.proofs.SaidLemmas.{turn_player}
 use Rattle.line_talk.specs.Conversation.{texts_joined}
 use Rattle.line_talk.specs.Lines.{lines}
 use Rattle.line_words.specs.Reply.{print_reply}
@@ -30,14 +31,14 @@ use Rattle.reply_tally.proofs.TurnLemmas.{turn_lines}
 use Rattle.sha2.specs.Sha256.{sha256}
 use Rattle.session_core.specs.declared.entry.Entry.{Entry}
 use Rattle.session_core.specs.Hosts.{session_on}
-use Rattle.session_core.specs.Turning.{commands_in}
+use Rattle.session_core.specs.Turning.{commands_in, Turned, turn_of}
 use Rattle.story_make.specs.Script.{script_bytes}
 use Rattle.story_run.specs.declared.story.Story.{Story}
 use Rattle.host_drill.specs.Alone.{history_alone, replies_alone}
 use Rattle.host_drill.specs.Drill.{counts_line, echo, drilled_history}
 use Rattle.host_drill.specs.Drill.{lines_of, drilled_replies, session_line}
 use Rattle.host_drill.specs.Drilled.{AnswersAll, IsDrilled, IsPlayed, history_seen}
-use Rattle.host_drill.proofs.ScriptLemmas.{script_names}
+use Rattle.host_drill.proofs.ScriptLemmas.{IsOnLine, script_names}
 use Rattle.host_drill.proofs.SessionLemmas.{IsAlone, IsOn, alone_all}
 use Rattle.host_drill.proofs.SessionLemmas.{are_commands, is_failing, others_all}
 
@@ -65,20 +66,26 @@ fine_replies (replies.Show s n body ∷ rs) e = (refl, fine_replies rs e)
 fine_replies (replies.No why ∷ rs) e =
     let p = neither (is_failure why) (list_any is_failure (refusals_in rs)) e in
     (p.0, fine_replies rs p.1)
+fine_replies (replies.Seen s from to text ∷ rs) e = (refl, fine_replies rs e)
 
 module _ (stories : List Story) (budget : ℕ) (sound : Type 0) where
   -- the shows of replies are lines of shows
-  show_lines : (sure : sound) (old : List (List Entry)) (turns : List AnsweredLine)
+  show_lines : (sure : sound) (s : ℕ) (old : List (List Entry)) (turns : List AnsweredLine)
       (new : List (List Entry))
       → length old ≡ 64
       → AnswersInOrder stories budget sound roots old turns new
+      → Each (IsOn s) turns
       → Each HasShowLines (map (λ (t : AnsweredLine). t.reply) turns)
-  show_lines sure old [] new wide c = tt
-  show_lines sure old (t ∷ turns) new wide c = (
-    subst HasShowLines (sym (met_one stories budget sound sure old t c.0 wide c.1).said)
-        (turn_lines stories budget 0 (seen_at old (session_on t.line)) t.line t.outcome),
-    show_lines sure c.0 turns new (answer_wide stories budget sound roots old t c.0 wide c.1) c.2,
-  )
+  show_lines sure s old [] new wide c on = tt
+  show_lines sure s old (t ∷ turns) new wide c on =
+      let h : List Entry = seen_at old (session_on t.line) in
+      let said : t.reply ≡ (turn_of stories budget h 0 t.line t.outcome).reply =
+      (met_one stories budget sound sure old t c.0 wide c.1).said
+      ∙ ap (λ (u : Turned). u.reply) (turn_player stories budget h 0 t.line t.outcome on.0.1) in (
+        subst HasShowLines (sym said) (turn_lines stories budget 0 h t.line t.outcome),
+        show_lines sure s c.0 turns new
+            (answer_wide stories budget sound roots old t c.0 wide c.1) c.2 on.1,
+      )
 
   -- the mark of the first line has the length of its session's history
   one_mark : (old : List (List Entry)) (t : AnsweredLine) (mid : List (List Entry)) (s : ℕ)
@@ -140,8 +147,8 @@ module _ {D : Type 0} (tells : D → Bool) (reads : D → List ℕ) (host : Host
   module _ (number s turns : ℕ) (below : s < 64) (fits : number < 2 ^ 64)
       (few : turns < 2 ^ 32 - 1) (is : bytes ≡ script_bytes number s turns) where
     on : Each (IsOn s) a.turns
-    on = each_map (λ (l : List ℕ). session_on l ≡ s) (λ (t : AnsweredLine). t.line) a.turns
-        (subst (λ (ls : List (List ℕ)). Each (λ (l : List ℕ). session_on l ≡ s) ls)
+    on = each_map (IsOnLine s) (λ (t : AnsweredLine). t.line) a.turns
+        (subst (λ (ls : List (List ℕ)). Each (IsOnLine s) ls)
         (sym (a.answered ∙ ap lines is)) (script_names s below number turns fits few))
 
     -- other sessions have what they had
@@ -170,8 +177,8 @@ module _ {D : Type 0} (tells : D → Bool) (reads : D → List ℕ) (host : Host
 
       tallied : IsTallyOf said tally
       tallied = counts said (All-from_recursion HasShowLines said (by_recursion HasShowLines said
-          (show_lines (echo ∷ []) 50000000 Sound drilled.sound (seens old.desks.items) a.turns
-          (seens new.desks.items) drilled.many chain))) a.replies
+          (show_lines (echo ∷ []) 50000000 Sound drilled.sound s (seens old.desks.items) a.turns
+          (seens new.desks.items) drilled.many chain on))) a.replies
 
       alone : IsAlone (echo ∷ []) 50000000 (history_seen old s) a.turns (history_seen new s)
       alone =

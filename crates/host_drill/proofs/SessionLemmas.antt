@@ -10,6 +10,9 @@ use Rattle.host_serve.specs.Opening.{roots}
 use Rattle.host_serve.specs.Serves.{AnsweredLine}
 use Rattle.host_serve.proofs.AloneLemmas.{IsMet, met_one}
 use Rattle.host_serve.proofs.ChainLemmas.{answer_wide}
+use Rattle.host_serve.proofs.SaidLemmas.{IsPlayers, turn_player}
+use Rattle.host_serve.specs.Said.{said_on, turn_said_on}
+use Rattle.line_words.specs.Request.{request_of}
 use Rattle.line_words.specs.declared.reply.Reply.{Reply}
 use Rattle.line_words.specs.declared.reply.Reply.TheVariants as replies
 use Rattle.reply_tally.specs.Refusals.{is_failure}
@@ -30,10 +33,11 @@ Histories = List (List Entry)
 abbrev pub is_failing : Reply → Bool
 is_failing (replies.Show s n body) = false
 is_failing (replies.No why) = is_failure why
+is_failing (replies.Seen s from to text) = false
 
--- the turn is one of this session
+-- the turn is one of this session, and a player's
 abbrev pub IsOn : ℕ → AnsweredLine → Type 0
-IsOn s t = session_on t.line ≡ s
+IsOn s t = (session_on t.line ≡ s) × IsPlayers (request_of t.line)
 
 module _ (stories : List Story) (budget : ℕ) where
   -- ---- what a turn met
@@ -52,12 +56,13 @@ module _ (stories : List Story) (budget : ℕ) where
 
   -- a turn whose reply doesn't say so met nothing
   turn_fine : (h : List Entry) (line : List ℕ) (outcome : Outcome)
-      → MayMeet (decision_on stories budget (commands_in h) line).accepted outcome
-      → is_failing (turn_of stories budget h 0 line outcome).reply ≡ false → outcome ≡ Answered
-  unfolding turn_of
+      → MayMeet (said_on stories budget (commands_in h) line).accepted outcome
+      → is_failing (turn_said_on stories budget h 0 line outcome).reply ≡ false
+      → outcome ≡ Answered
+  unfolding turn_said_on
   turn_fine h line outcome may fine =
-      met_fine h (decision_on stories budget (commands_in h) line).reply
-      (decision_on stories budget (commands_in h) line).accepted outcome may fine
+      met_fine h (said_on stories budget (commands_in h) line).reply
+      (said_on stories budget (commands_in h) line).accepted outcome may fine
 
   -- ---- histories that have commands alone
 
@@ -135,7 +140,7 @@ module _ (stories : List Story) (budget : ℕ) where
     others_one old t new m on k other =
         ap (λ (h : Histories). seen_at h k) m.after
         ∙ get_or-set_other old (session_on t.line) k _ []
-        (λ (e : k ≡ session_on t.line). other (e ∙ on))
+        (λ (e : k ≡ session_on t.line). other (e ∙ on.0))
 
     -- other sessions have what they had
     pub others_all : (old : Histories) (turns : List AnsweredLine) (new : Histories)
@@ -154,24 +159,27 @@ module _ (stories : List Story) (budget : ℕ) where
         → IsAloneOnce (seen_at old s) t (seen_at new s)
     alone_one old t new wide m on fine =
         let there : seen_at old (session_on t.line) ≡ seen_at old s =
-        ap (λ (k : ℕ). seen_at old k) on in
+        ap (λ (k : ℕ). seen_at old k) on.0 in
         let is_fine : is_failing
-        (turn_of stories budget (seen_at old (session_on t.line)) 0 t.line t.outcome).reply
+        (turn_said_on stories budget (seen_at old (session_on t.line)) 0 t.line t.outcome).reply
         ≡ false
         = subst (λ (r : Reply). is_failing r ≡ false) m.said fine in
         let behind : List Entry =
-        (turn_of stories budget (seen_at old (session_on t.line)) 0 t.line t.outcome).history in
+        (turn_said_on stories budget (seen_at old (session_on t.line)) 0 t.line t.outcome).history
+        in
         let met : t.outcome ≡ Answered =
         turn_fine (seen_at old (session_on t.line)) t.line t.outcome m.may is_fine in
-        let turned : turn_of stories budget (seen_at old (session_on t.line)) 0 t.line t.outcome
+        let turned :
+        turn_said_on stories budget (seen_at old (session_on t.line)) 0 t.line t.outcome
         ≡ turn_alone stories budget (seen_at old s) t.line
-        = ap (λ (o : Outcome). turn_of stories budget (seen_at old (session_on t.line)) 0 t.line o)
-        met
-        ∙ ap (λ (h : List Entry). turn_of stories budget h 0 t.line Answered) there in
+        = ap (λ (o : Outcome).
+        turn_said_on stories budget (seen_at old (session_on t.line)) 0 t.line o) met
+        ∙ ap (λ (h : List Entry). turn_said_on stories budget h 0 t.line Answered) there
+        ∙ turn_player stories budget (seen_at old s) 0 t.line Answered on.1 in
         record {
           reply = m.said ∙ ap (λ u. u.reply) turned;
           history = ap (λ (h : Histories). seen_at h s) m.after
-              ∙ ap (λ (k : ℕ). seen_at (set old k behind) s) on
+              ∙ ap (λ (k : ℕ). seen_at (set old k behind) s) on.0
               ∙ get_or-set_same old s behind [] (omega (arith, wide, below))
               ∙ ap (λ u. u.history) turned;
         }

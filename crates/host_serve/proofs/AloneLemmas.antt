@@ -1,4 +1,4 @@
--- Turns of a host's passes that were never split, as the histories of session_core have them.
+-- Turns of a host's passes that were never split, on the histories of all sessions.
 use Rattle.std.proofs.Common.{◌≡◌, ◌≢◌, ◌⊎◌, inl, inr, ℕ, ◌<◌, ◌≤◌, List, [], ◌∷◌, ◌++◌, length}
 use Rattle.std.proofs.Common.{map, set, refl, sym, ap, ◌∙◌, subst, arith, Option, Some, None}
 use Rattle.std.proofs.lemmas.Bool.{cases_eq, cases_lt}
@@ -21,13 +21,13 @@ use Rattle.session_core.specs.declared.entry.Entry.{Entry}
 use Rattle.session_core.specs.declared.entry.Entry.TheVariants as entries
 use Rattle.session_core.specs.declared.entry.Outcome.{Outcome}
 use Rattle.session_core.specs.declared.entry.Outcome.TheVariants.{OutOfMemory}
-use Rattle.session_core.specs.Hosts.{AreMet, decision_at, entries_of, histories_after}
-use Rattle.session_core.specs.Hosts.{histories_met, replies_met, session_on, turn_on_line}
+use Rattle.session_core.specs.Hosts.{entries_of, session_on}
+use Rattle.host_serve.specs.Alone.{AreMet, histories_after, histories_met, replies_met, said_at}
+use Rattle.host_serve.specs.Alone.{turn_on_line}
+use Rattle.host_serve.specs.Said.{said_in, said_on, turn_said_in, turn_said_on}
 use Rattle.session_core.specs.declared.decision.Decision.{Decision}
-use Rattle.session_core.specs.Turning.{AddsTo, MayMeet, Turned, commands_in, decision_in}
-use Rattle.session_core.specs.Turning.{decision_on, entry_by, turn_in, turn_of}
-use Rattle.session_core.proofs.WorldLemmas.{decides_alike, turns_alike}
-use Rattle.session_core.proofs.TurningLemmas.{turn_in_adds}
+use Rattle.session_core.specs.Turning.{AddsTo, MayMeet, Turned, commands_in, entry_by}
+use Rattle.host_serve.proofs.SaidLemmas.{said_adds, says_alike, turns_said_alike}
 use Rattle.session_desk.specs.Shared.{unnumbered}
 use Rattle.session_desk.specs.Turn.{history_in}
 use Rattle.session_desk.proofs.SharedLemmas.{history_in-kept, unnumbered-all}
@@ -61,22 +61,22 @@ module _ (stories : List Story) (budget : ℕ) where
 
   own_decides : (history : List Entry) (t : AnsweredLine) → t.world ≡ own_world stories history
       → decided_on_line stories budget history t
-      ≡ decision_on stories budget (commands_in history) t.line
+      ≡ said_on stories budget (commands_in history) t.line
   own_decides history t own =
-      ap (λ (w : Option WorldState). decision_in stories budget (commands_in history) w t.line) own
-      ∙ decides_alike stories budget (commands_in history) t.line
+      ap (λ (w : Option WorldState). said_in stories budget (commands_in history) w t.line) own
+      ∙ says_alike stories budget (commands_in history) t.line
 
   own_turns : (history : List Entry) (by : ℕ) (t : AnsweredLine)
       → t.world ≡ own_world stories history
       → turned_again stories budget history by t
-      ≡ turn_of stories budget history by t.line t.outcome
+      ≡ turn_said_on stories budget history by t.line t.outcome
   own_turns history by t own =
-      ap (λ (w : Option WorldState). turn_in stories budget history w by t.line t.outcome) own
-      ∙ turns_alike stories budget history by t.line t.outcome
+      ap (λ (w : Option WorldState). turn_said_in stories budget history w by t.line t.outcome) own
+      ∙ turns_said_alike stories budget history by t.line t.outcome
 
   own_may : (history : List Entry) (t : AnsweredLine) → t.world ≡ own_world stories history
       → MayMeetIn stories budget history t
-      → MayMeet (decision_on stories budget (commands_in history) t.line).accepted t.outcome
+      → MayMeet (said_on stories budget (commands_in history) t.line).accepted t.outcome
   own_may history t own met =
       subst (λ (d : Decision). MayMeet d.accepted t.outcome) (own_decides history t own) met
 
@@ -84,7 +84,7 @@ module _ (stories : List Story) (budget : ℕ) where
 
   -- its turn is that of the session that it names, on that session's history
   pub record IsMet (old : Histories) (t : AnsweredLine) (new : Histories) : Type 0 where
-    pub may : MayMeet (decision_at stories budget old t.line).accepted t.outcome
+    pub may : MayMeet (said_at stories budget old t.line).accepted t.outcome
     pub said : t.reply ≡ (turn_on_line stories budget old 0 t.line t.outcome).reply
     pub after : new ≡ histories_after stories budget old 0 t.line t.outcome
 
@@ -99,10 +99,10 @@ module _ (stories : List Story) (budget : ℕ) where
       record {
         may =
             subst (λ (b : List Entry). MayMeet
-            (decision_on stories budget (commands_in b) t.line).accepted t.outcome) (sym empty)
+            (said_on stories budget (commands_in b) t.line).accepted t.outcome) (sym empty)
             (own_may [] t n.world n.met);
         said = n.reply ∙ (ap (λ (u : Turned). u.reply) (own_turns [] 0 t n.world)
-            ∙ ap (λ (b : List Entry). (turn_of stories budget b 0 t.line t.outcome).reply)
+            ∙ ap (λ (b : List Entry). (turn_said_on stories budget b 0 t.line t.outcome).reply)
             (sym empty));
         after =
             n.seen ∙ sym (set_past old (session_on t.line)
@@ -111,14 +111,14 @@ module _ (stories : List Story) (budget : ℕ) where
 
   -- and so is one whose reading found no memory
   wanted_memory : (h : List Entry) (line : List ℕ)
-      → (turn_of stories budget h 0 line OutOfMemory).history ≡ h
-  unfolding turn_of
+      → (turn_said_on stories budget h 0 line OutOfMemory).history ≡ h
+  unfolding turn_said_on
   wanted_memory h line = refl
 
   same_wanted : (h g : List Entry) (line : List ℕ)
-      → (turn_of stories budget h 0 line OutOfMemory).reply
-      ≡ (turn_of stories budget g 0 line OutOfMemory).reply
-  unfolding turn_of
+      → (turn_said_on stories budget h 0 line OutOfMemory).reply
+      ≡ (turn_said_on stories budget g 0 line OutOfMemory).reply
+  unfolding turn_said_on
   same_wanted h g line = refl
 
   may_want : (accepted : Option Command) → MayMeet accepted OutOfMemory
@@ -131,14 +131,15 @@ module _ (stories : List Story) (budget : ℕ) where
       let h : List Entry = entries_of old (session_on t.line) in
       record {
         may =
-            subst (λ (o : Outcome). MayMeet (decision_at stories budget old t.line).accepted o)
-            (sym wanted) (may_want (decision_at stories budget old t.line).accepted);
+            subst (λ (o : Outcome). MayMeet (said_at stories budget old t.line).accepted o)
+            (sym wanted) (may_want (said_at stories budget old t.line).accepted);
         said = n.reply ∙ (ap (λ (u : Turned). u.reply) (own_turns [] 0 t n.world)
-            ∙ subst (λ (o : Outcome). (turn_of stories budget [] 0 t.line o).reply
-            ≡ (turn_of stories budget h 0 t.line o).reply) (sym wanted) (same_wanted [] h t.line));
+            ∙ subst (λ (o : Outcome). (turn_said_on stories budget [] 0 t.line o).reply
+            ≡ (turn_said_on stories budget h 0 t.line o).reply) (sym wanted)
+            (same_wanted [] h t.line));
         after = n.seen ∙ sym (ap (λ (x : List Entry). set old (session_on t.line) x)
-            (subst (λ (o : Outcome). (turn_of stories budget h 0 t.line o).history ≡ h) (sym wanted)
-            (wanted_memory h t.line))
+            (subst (λ (o : Outcome). (turn_said_on stories budget h 0 t.line o).history ≡ h)
+            (sym wanted) (wanted_memory h t.line))
             ∙ set-get_or old (session_on t.line) []);
       }
 
@@ -231,13 +232,14 @@ module _ (stories : List Story) (budget : ℕ) where
         ≡ turn_on_line stories budget old 0
         t.line t.outcome
         = own_turns i.before h.number t (i.own holds)
-        ∙ (ap (λ (b : List Entry). turn_of stories budget b h.number t.line t.outcome) before
-        ∙ ap (λ (g : Holder). turn_of stories budget (entries_of old (session_on t.line)) g.number
-        t.line t.outcome) is) in
+        ∙ (ap (λ (b : List Entry). turn_said_on stories budget b h.number t.line t.outcome) before
+        ∙ ap (λ (g : Holder).
+        turn_said_on stories budget (entries_of old (session_on t.line)) g.number t.line t.outcome)
+        is) in
         record {
           may =
               subst (λ (b : List Entry). MayMeet
-              (decision_on stories budget (commands_in b) t.line).accepted t.outcome) before
+              (said_on stories budget (commands_in b) t.line).accepted t.outcome) before
               (own_may i.before t (i.own holds) i.met);
           said = i.reply ∙ ap (λ (u : Turned). u.reply) turned;
           after =
@@ -278,7 +280,7 @@ module _ (stories : List Story) (budget : ℕ) where
         (subst (λ (l : List Entry). AddsTo i.before 0 l) (sym i.history)
         (subst (λ (g : Holder). AddsTo i.before g.number
         (turned_again stories budget i.before h.number t).history) is
-        (turn_in_adds stories budget i.before t.world h.number t.line t.outcome)))
+        (said_adds stories budget i.before t.world h.number t.line t.outcome)))
 
     own_one : (old : Histories) (t : AnsweredLine) (new : Histories) → AreOwn old
         → Answers stories budget sound roots old t new → AreOwn new

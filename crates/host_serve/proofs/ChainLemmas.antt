@@ -7,7 +7,7 @@ use Rattle.turn_cell.proofs.HistoryLemmas.{nil_right}
 use Rattle.story_run.specs.declared.story.Story.{Story}
 use Rattle.session_core.specs.declared.entry.Entry.{Entry}
 use Rattle.session_core.specs.Turning.{AddsTo}
-use Rattle.session_core.proofs.TurningLemmas.{turn_in_adds}
+use Rattle.host_serve.proofs.SaidLemmas.{said_adds}
 use Rattle.host_serve.specs.Holders.{Holder, holder_at, seen_at}
 use Rattle.host_serve.specs.Serves.{AnsweredLine, turned_again}
 use Rattle.host_serve.specs.Chain.{TurnsIn, TurnsOn, Answers, AnswersInOrder}
@@ -55,7 +55,7 @@ module _ (stories : List Story) (budget : ℕ) (sound : Type 0) where
   turn_grows : (h : Holder) (old : List Entry) (t : AnsweredLine) (new : List Entry)
       → TurnsIn stories budget sound h old t new → (rest : List Entry) × (new ≡ old ++ rest)
   turn_grows h old t new i =
-      of (turn_in_adds stories budget i.before t.world h.number t.line t.outcome)
+      of (said_adds stories budget i.before t.world h.number t.line t.outcome)
     where
       of : AddsTo i.before h.number (turned_again stories budget i.before h.number t).history
           → (rest : List Entry) × (new ≡ old ++ rest)

@@ -14,27 +14,31 @@ use Rattle.turn_cell.proofs.HistoryLemmas.{among_first, among_second, continues_
 use Rattle.turn_cell.proofs.HistoryLemmas.{nil_right}
 use Rattle.gate_journal.specs.Log.{Log, entry_number, rows_of}
 use Rattle.disk_model.specs.Disk.{EachImage}
+use Rattle.disk_model.proofs.Moments.{weaker}
 use Rattle.gate_journal.specs.Rows.{IsJournal, commands_of}
 use Rattle.gate_journal.specs.declared.command.Command.{Command}
+use Rattle.gate_journal.specs.declared.row.Row.{Row}
 use Rattle.snap_store.specs.Store.{Snapshots}
 use Rattle.story_run.specs.declared.story.Story.{Story}
 use Rattle.gate_journal.specs.declared.entry.Entry.{Entry as JournalEntry}
 use Rattle.session_core.specs.declared.entry.Entry.{Entry}
 use Rattle.session_core.specs.History.{game_of}
 use Rattle.session_core.specs.Turning.{commands_in, entry_by}
-use Rattle.session_saves.specs.Agreement.{IsAgreedFile}
+use Rattle.session_saves.specs.Agreement.{AgreesWithBeginning, IsAgreedFile, last_row}
 use Rattle.session_desk.specs.Shared.{DeskTag, IsShared, SharedState, desk_tag, unnumbered}
 use Rattle.session_desk.specs.Sound.{EndsStore, IsSoundDesk, open_rows}
 use Rattle.session_desk.specs.Turn.{history_in}
+use Rattle.session_desk.proofs.FileLemmas.{first_rows}
 use Rattle.session_desk.proofs.HistoryLemmas.{commands_in-history}
-use Rattle.session_desk.proofs.OpensLemmas.{opens_of-since}
+use Rattle.session_desk.proofs.OpensLemmas.{opens_of-since, rows_of-append}
 use Rattle.session_desk.proofs.SharedLemmas.{commands_in-unnumbered, history_in-since, kept-since}
 use Rattle.host_serve.specs.declared.host.Host.{Host}
 use Rattle.host_serve.specs.declared.host.Passes.{Passes}
 use Rattle.host_serve.specs.Ending.{AreAgreedDisks, EndsAt, EndsWith, GivesBack, IsAgreedDisk}
+use Rattle.host_serve.specs.Ending.{KeepFiles, KeepsFileOf}
 use Rattle.host_serve.specs.Gathering.{BringsIn, Gathers, Heard, KeepsRoot, Returns}
-use Rattle.host_serve.specs.Holders.{Holder, IsAloneHolder, holder_at, holder_of, holders, seen_at}
-use Rattle.host_serve.specs.Holders.{seens}
+use Rattle.host_serve.specs.Holders.{Holder, IsWholeHolder, IsAloneHolder, holder_at, holder_of, holders}
+use Rattle.host_serve.specs.Holders.{seen_at, seens}
 use Rattle.host_serve.specs.Hosts.{AreOf, IsHost, IsSound, cell_id, rows_at_opening, opened_stores}
 use Rattle.host_serve.specs.Hosts.{tag_at}
 use Rattle.host_serve.proofs.ListLemmas.{goes_on, length_more, one_more, same_some}
@@ -120,15 +124,16 @@ module _ {D : Type 0} where
       ∙ commands_in-history (seen desk.pass) desk.desk.session))
 
 module _ {D : Type 0} (tells : D → Bool) (may_leave : D → List ℕ → Type 0)
-    (reads : D → List ℕ) (faults reach room label : D → ℕ) where
+    (reads : D → List ℕ) (moment : D → ℕ) (left_since : D → ℕ → List ℕ → Type 0)
+    (faults reach room label : D → ℕ) where
   -- what a desk leaves of its store
   desk_returns : (s : ℕ) (desk : SharedState D) (its : DeskTag D) (back : D)
       (other : Pass (Log D) JournalEntry) (journal : List JournalEntry) → desk_tag desk ≡ its
       → desk.desk.session ≡ s → IsShared desk
-      → EndsStore tells may_leave reads room label faults reach desk
+      → EndsStore tells may_leave reads moment left_since room label faults reach desk
       → back ≡ desk.saves.store.disk → other ≡ desk.pass
       → Continues (IsForeign entry_number ((s + 1) ∷ [])) journal (seen other)
-      → Returns tells may_leave reads faults reach room label s its back journal
+      → Returns tells may_leave reads moment left_since faults reach room label s its back journal
   desk_returns s desk its back other journal tag same shared e is_back is since = record {
     gives = subst (λ (x : DeskTag D × D). GivesBack tells faults reach room label x.0.store x.1)
         (λ i. (tag i, sym is_back i)) (record {
@@ -151,25 +156,37 @@ module _ {D : Type 0} (tells : D → Bool) (may_leave : D → List ℕ → Type 
         (IsAgreedFile desk.desk.stories (open_rows desk) (game_of cs)))
         (own_commands desk shared)
         (e.agreed (subst (IsSoundDesk tells reads) (sym tag) sound)));
+    file = λ sound.
+        let f = e.file (subst (IsSoundDesk tells reads) (sym tag) sound) in
+        subst (λ (x : DeskTag D × Pass (Log D) JournalEntry × ℕ × D). KeepsFileOf moment left_since
+        x.0.stories x.0.rows (rows_of (seen x.1)) x.2 x.0.store x.3)
+        (λ i. (tag i, sym is i, same i, sym is_back i))
+        (record {
+          agreed = f.agreed;
+          newest = λ journal none place least last has.
+              (f.newest journal none place least last has).images;
+        });
   }
 
   -- a session's desk, and its pass joined into the root
   pub brings_in : (s : ℕ) (h : Holder) (old : List Entry) (tag : Option (DeskTag D))
       (desk : SharedState D) (other root : Pass (Log D) JournalEntry) (back : D)
       → Continues (IsForeign entry_by h.holds) desk.history old
-      → (IsAloneHolder h → desk.history ≡ old) → tag ≡ Some (desk_tag desk)
+      → (IsAloneHolder h → desk.history ≡ old) → (IsWholeHolder h → desk.history ≡ old)
+      → tag ≡ Some (desk_tag desk)
       → desk.desk.session ≡ s → IsShared desk
-      → EndsStore tells may_leave reads room label faults reach desk
+      → EndsStore tells may_leave reads moment left_since room label faults reach desk
       → back ≡ desk.saves.store.disk → other ≡ desk.pass
       → Continues (IsForeign entry_number (pass_numbers other)) (seen root) (seen other)
-      → BringsIn tells may_leave reads faults reach room label s h old tag root back
-  brings_in s h old tag desk other root back since alone tagged same shared e is_back is joined =
+      → BringsIn tells may_leave reads moment left_since faults reach room label s h old tag root back
+  brings_in s h old tag desk other root back since alone complete tagged same shared e is_back is
+      joined =
       let after = subst (λ (l : List ℕ). Continues (IsForeign entry_number l) (seen root)
       (seen other)) (ap (λ (p : Pass (Log D) JournalEntry). pass_numbers p) is ∙ (shared.pass.only
       ∙ ap (λ (k : ℕ). (k + 1) ∷ []) same)) joined in
       record {
         final = desk.history;
-        ends = record { since = since; alone = alone };
+        ends = record { since = since; alone = alone; complete = complete };
         heard = record {
           seen = seen other;
           since = after;
@@ -184,22 +201,24 @@ module _ {D : Type 0} (tells : D → Bool) (may_leave : D → List ℕ → Type 
   -- a store that came back is as it was, as the root joins more
   returns_on : (s : ℕ) (tag : DeskTag D) (back : D) (numbers : List ℕ)
       (mid new : List JournalEntry)
-      → Returns tells may_leave reads faults reach room label s tag back mid
+      → Returns tells may_leave reads moment left_since faults reach room label s tag back mid
       → IsAmong (s + 1) numbers → Continues (IsForeign entry_number numbers) new mid
-      → Returns tells may_leave reads faults reach room label s tag back new
+      → Returns tells may_leave reads moment left_since faults reach room label s tag back new
   returns_on s tag back numbers mid new r held since = record {
     gives = r.gives;
     seen = r.seen;
     since = since_to s numbers r.seen mid new r.since held since;
     agreed = r.agreed;
+    file = r.file;
   }
 
 module _ {D : Type 0} (tells : D → Bool) (may_leave : D → List ℕ → Type 0)
-    (reads : D → List ℕ) (faults reach room label : D → ℕ) (holders : List Holder)
+    (reads : D → List ℕ) (moment : D → ℕ) (left_since : D → ℕ → List ℕ → Type 0)
+    (faults reach room label : D → ℕ) (holders : List Holder)
     (old : List (List Entry)) (tags : List (Option (DeskTag D)))
     (first : Pass (Log D) JournalEntry) where
   pub gathers_none : (backs : List D) → backs ≡ []
-      → Gathers tells may_leave reads faults reach room label 0 holders old tags first first backs
+      → Gathers tells may_leave reads moment left_since faults reach room label 0 holders old tags first first backs
   gathers_none backs none = record {
     finals = [];
     many = refl;
@@ -214,11 +233,11 @@ module _ {D : Type 0} (tells : D → Bool) (may_leave : D → List ℕ → Type 
   -- one session more
   pub gathers_more : (n : ℕ) (mid new : Pass (Log D) JournalEntry) (backs backs' : List D)
       (back : D)
-      → Gathers tells may_leave reads faults reach room label n holders old tags first mid backs
-      → BringsIn tells may_leave reads faults reach room label n (holder_at holders n)
+      → Gathers tells may_leave reads moment left_since faults reach room label n holders old tags first mid backs
+      → BringsIn tells may_leave reads moment left_since faults reach room label n (holder_at holders n)
       (seen_at old n) (get_or tags n None) new back
       → KeepsRoot ((n + 1) ∷ []) mid new → backs' ≡ backs ++ back ∷ []
-      → Gathers tells may_leave reads faults reach room label (n + 1) holders old tags first new
+      → Gathers tells may_leave reads moment left_since faults reach room label (n + 1) holders old tags first new
       backs'
   gathers_more n mid new backs backs' back g b k pushed = record {
     finals = g.finals ++ b.final ∷ [];
@@ -241,13 +260,13 @@ module _ {D : Type 0} (tells : D → Bool) (may_leave : D → List ℕ → Type 
     disks = ap (λ (l : List D). length l) pushed
         ∙ (length_more backs back ∙ ap (λ (m : ℕ). m + 1) g.disks);
     returns = λ s tag there low tagged at.
-        subst (λ (d : D). Returns tells may_leave reads faults reach room label s tag d (seen new))
+        subst (λ (d : D). Returns tells may_leave reads moment left_since faults reach room label s tag d (seen new))
         (get_or_from_slice_get (backs ++ back ∷ []) s there there
         (ap (λ (l : List D). slice_get l s) (sym pushed) ∙ at))
         (one_more (λ (s : ℕ) (d : D). (tag : DeskTag D) → get_or tags s None ≡ Some tag
-        → Returns tells may_leave reads faults reach room label s tag d (seen new)) backs back
+        → Returns tells may_leave reads moment left_since faults reach room label s tag d (seen new)) backs back
         there n g.disks (λ s below tag tagged.
-        returns_on tells may_leave reads faults reach room label s tag (get_or backs s there)
+        returns_on tells may_leave reads moment left_since faults reach room label s tag (get_or backs s there)
         (pass_numbers mid) (seen mid) (seen new) (g.returns s tag (get_or backs s there) below
         tagged (slice_get-get_or backs s there (let many = g.disks in omega arith)))
         (g.held s below) k.since) b.returns s low tag tagged);
@@ -262,16 +281,17 @@ later_on now old s q later t d low =
 
 -- what was brought in of a session, by its place among the passes
 pub brought_at : {D : Type 0} (tells : D → Bool) (may_leave : D → List ℕ → Type 0)
-    (reads : D → List ℕ) (faults reach room label : D → ℕ)
+    (reads : D → List ℕ) (moment : D → ℕ) (left_since : D → ℕ → List ℕ → Type 0)
+    (faults reach room label : D → ℕ)
     (passes : List (Pass (SharedState D) Entry)) (s : ℕ) (p : Pass (SharedState D) Entry)
     (root : Pass (Log D) JournalEntry) (back : D) → s < length passes → p ≡ get_or passes s p
-    → BringsIn tells may_leave reads faults reach room label s (holder_of p) (seen p)
+    → BringsIn tells may_leave reads moment left_since faults reach room label s (holder_of p) (seen p)
     (tag_of desk_tag p) root back
-    → BringsIn tells may_leave reads faults reach room label s (holder_at (holders passes) s)
+    → BringsIn tells may_leave reads moment left_since faults reach room label s (holder_at (holders passes) s)
     (seen_at (seens passes) s) (get_or (map (tag_of desk_tag) passes) s None) root back
-brought_at tells may_leave reads faults reach room label passes s p root back low at_p =
+brought_at tells may_leave reads moment left_since faults reach room label passes s p root back low at_p =
     subst (λ (x : Holder × List Entry × Option (DeskTag _)).
-    BringsIn tells may_leave reads faults reach room label s x.0 x.1 x.2 root back)
+    BringsIn tells may_leave reads moment left_since faults reach room label s x.0 x.1 x.2 root back)
     (λ i. (
       sym (holder_there passes s p low at_p) i,
       sym (seen_of_pass passes s p low at_p) i,
@@ -288,11 +308,12 @@ heard_kept s journal final rows h =
 
 -- what a host ends with
 module _ {D : Type 0} (tells : D → Bool) (may_leave : D → List ℕ → Type 0)
-    (reads : D → List ℕ) (faults reach room label : D → ℕ) (host : Host D) (passes : Passes D)
+    (reads : D → List ℕ) (moment : D → ℕ) (left_since : D → ℕ → List ℕ → Type 0)
+    (faults reach room label : D → ℕ) (host : Host D) (passes : Passes D)
     (root : Pass (Log D) JournalEntry) (backs : List D) where
   -- all desks were brought in
   abbrev pub AllIn : Type 0
-  AllIn = Gathers tells may_leave reads faults reach room label 64 (holders passes.desks.items)
+  AllIn = Gathers tells may_leave reads moment left_since faults reach room label 64 (holders passes.desks.items)
       (seens passes.desks.items) (map (tag_of desk_tag) passes.desks.items) host.root root backs
 
   pub ends_with : (log : Log D) → IsHost host → AllIn
@@ -319,7 +340,7 @@ module _ {D : Type 0} (tells : D → Bool) (may_leave : D → List ℕ → Type 
   -- the store of a session, and its disk
   store_returns : AreOf host passes → AllIn → (s : ℕ) (store : Snapshots D) (back : D)
       → slice_get (opened_stores host) s ≡ Some store → slice_get backs s ≡ Some back
-      → Returns tells may_leave reads faults reach room label s
+      → Returns tells may_leave reads moment left_since faults reach room label s
       (tag_at host.stories.now host.budget (cell_id host.journal) (rows_at_opening host) s store)
       back (seen root)
   store_returns of g s store back there there' =
@@ -359,3 +380,39 @@ module _ {D : Type 0} (tells : D → Bool) (may_leave : D → List ℕ → Type 
         sym (kept-since s log.entries r.seen (commands_of (rows_of r.seen) s) rows since' refl) i,
       ))
       (r.agreed (sound s store.0 store.1))
+
+  -- and did since they were opened
+  pub files_back : (log : Log D) → AreOf host passes → AllIn
+      → Continues (IsForeign entry_number (pass_numbers root)) log.entries (seen root)
+      → IsJournal (rows_of log.entries) → IsSound tells reads host
+      → KeepFiles moment left_since host.stories.now (rows_at_opening host) (rows_of log.entries)
+      (opened_stores host) backs
+  files_back log of g since rows sound = λ s store back there there'.
+      let low = slice_get_within backs s back there' in
+      let many = g.disks in
+      let low' : s < 64 = omega arith in
+      let r = store_returns of g s store back there there' in
+      let since' =
+      since_to s (pass_numbers root) r.seen (seen root) log.entries r.since (g.held s low')
+      since in
+      let grew : rows_of log.entries ≡ rows_of r.seen ++ rows_of since'.0 =
+      ap rows_of since'.1 ∙ rows_of-append r.seen since'.0 in
+      let opens = opens_of-since s log.entries r.seen rows since' in
+      let f = r.file (sound s store there) in
+      record {
+        agreed =
+            weaker moment left_since store.disk back
+            (AgreesWithBeginning host.stories.now (rows_of r.seen) s)
+            (AgreesWithBeginning host.stories.now (rows_of log.entries) s) f.agreed
+            (λ file a. record {
+              first = a.first;
+              more = a.more ++ rows_of since'.0;
+              all = grew ∙ ap (λ (x : List Row). x ++ rows_of since'.0) a.all
+                  ∙ append_assoc a.first a.more (rows_of since'.0);
+              agreed = a.agreed;
+            });
+        newest = λ journal none place least last has.
+            f.newest
+            (first_rows (rows_of r.seen) (rows_of since'.0) (subst IsJournal grew journal))
+            (sym opens ∙ none) place least (ap last_row (sym opens) ∙ last) has;
+      }

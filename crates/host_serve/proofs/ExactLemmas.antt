@@ -3,6 +3,7 @@ use Rattle.std.proofs.Common.{◌≡◌, ◌⊎◌, ℕ, Option, Some, None, Lis
 use Rattle.std.proofs.Common.{ap, sym, ◌∙◌, inl, inr, arith}
 use Rattle.std.specs.Prelude.{slice_get}
 use Rattle.std.proofs.lemmas.List.{same_from_push}
+use Rattle.disk_model.specs.Disk.{Rose}
 use Rattle.gate_journal.specs.declared.command.Command.{Command}
 use Rattle.line_words.specs.declared.reply.No.TheVariants as no
 use Rattle.line_words.specs.declared.reply.Reply.{Reply}
@@ -13,8 +14,9 @@ use Rattle.session_core.specs.declared.entry.Entry.TheVariants.{Faulted}
 use Rattle.session_core.specs.declared.entry.Outcome.{Outcome}
 use Rattle.session_core.specs.declared.entry.Outcome.TheVariants.{Answered, DiskFailed, OutOfMemory}
 use Rattle.session_core.specs.declared.entry.Outcome.TheVariants.{Forgotten}
-use Rattle.session_core.specs.Turning.{MayMeet, turn_in, turn_met}
+use Rattle.session_core.specs.Turning.{MayMeet, turn_met}
 use Rattle.host_serve.specs.Holders.{Holder, holder_at, seen_at}
+use Rattle.host_serve.specs.Said.{turn_said_in}
 use Rattle.host_serve.specs.Serves.{AnsweredLine, AddsItsEntry, AddsNothing, IsExact}
 use Rattle.host_serve.specs.Serves.{MayMeetIn, decided_on_line, marked, turned}
 use Rattle.host_serve.proofs.ListLemmas.{length_more}
@@ -24,7 +26,7 @@ abbrev Replies : Reply → List Entry → ℕ → Reply → List Entry → Type 
 Replies decision before by reply after = (reply ≡ decision)
     ⊎ (reply ≡ replies.No no.NoMemory)
     ⊎ ((from : ℕ) × (to : ℕ) × (reply ≡ replies.No (no.DiskFault from to))
-    × (after ≡ before ++ Faulted by from to ∷ []))
+    × (after ≡ before ++ Faulted by from to ∷ []) × Rose from to)
 
 met_replies : (h : List Entry) (by : ℕ) (reply : Reply) (accepted : Option Command)
     (outcome : Outcome) → MayMeet accepted outcome
@@ -36,7 +38,7 @@ met_replies h by reply None OutOfMemory met = inr (inl refl)
 met_replies h by reply None Forgotten met = absurd met
 met_replies h by reply (Some command) Answered met = inl refl
 met_replies h by reply (Some command) (DiskFailed from to) met =
-    inr (inr (from, to, refl, refl))
+    inr (inr (from, to, refl, refl, met))
 met_replies h by reply (Some command) OutOfMemory met = inr (inl refl)
 met_replies h by reply (Some command) Forgotten met = inr (inl refl)
 
@@ -46,7 +48,7 @@ module _ (stories : List Story) (budget : ℕ) (holders : List Holder) (new : Li
       → Replies (decided_on_line stories budget (marked new t) t).reply (marked new t)
       (holder_at holders t.mark.session).number (turned stories budget holders new t).reply
       (turned stories budget holders new t).history
-  unfolding turn_in
+  unfolding turn_said_in
   turned_replies met = met_replies (marked new t) (holder_at holders t.mark.session).number
       (decided_on_line stories budget (marked new t) t).reply
       (decided_on_line stories budget (marked new t) t).accepted t.outcome met
@@ -78,4 +80,5 @@ module _ (stories : List Story) (budget : ℕ) (holders : List Holder) (new : Li
         f.1,
         reply ∙ f.2,
         stands_there (Faulted (holder_at holders t.mark.session).number f.0 f.1) adds f.3,
+        f.4,
       ))

@@ -6,7 +6,7 @@ use Rattle.std.proofs.Math.Seq.{get_or-append_seam}
 use Rattle.std.proofs.lemmas.Bool.{cases_lt}
 use Rattle.std.proofs.lemmas.List.{append-nil, get_or-map, get_or-set_other, get_or-set_same}
 use Rattle.std.proofs.lemmas.List.{length-append, length-map, length-set, map-set}
-use Rattle.turn_cell.specs.History.{Continues, IsAmong, IsForeign}
+use Rattle.turn_cell.specs.History.{AreApart, Continues, IsAmong, IsForeign}
 use Rattle.turn_cell.specs.declared.cell.Cell.{Cell}
 use Rattle.turn_cell.specs.declared.pass.Pass.{Pass}
 use Rattle.turn_cell.specs.Passes.{IsOf, IsOutside, made, pass_number, pass_numbers, sample, seen}
@@ -17,7 +17,8 @@ use Rattle.host_serve.specs.declared.host.Passes.{Passes}
 use Rattle.host_serve.specs.Ending.{EndsAt}
 use Rattle.host_serve.specs.Holders.{Holder, holder_at, holder_of, holders, nobody, seen_at, seens}
 use Rattle.host_serve.specs.Hosts.{ArePasses}
-use Rattle.host_serve.specs.Joining.{ArePartsOf, IsPart, with_pass}
+use Rattle.host_serve.specs.Joining.{ArePartsOf, IsPart, JoinsPasses, with_pass}
+use Rattle.session_desk.specs.Shared.{SharedState}
 use Rattle.host_serve.specs.Splitting.{after_split, newest_of}
 use Rattle.host_serve.proofs.ListLemmas.{goes_on, length_more}
 use Rattle.host_serve.proofs.PassLemmas.{are_put, as_many, holder_there, pass_ready, seen_of_pass}
@@ -83,6 +84,9 @@ pub record Joined (old other new : Holder × List Entry) : Type 0 where
   pub seen : (new.1 ≡ old.1) ⊎ (new.1 ≡ other.1)
   pub first : IsPart old.0 old.1 new.0 new.1
   pub second : IsPart other.0 other.1 new.0 new.1
+  pub apart : AreApart old.0.holds other.0.holds
+  pub given :
+      old.0.number ≡ 0 → Continues (λ (e : Entry). entry_by e ≤ old.0.made) new.1 old.1
 
 joined_here : {T : Type 0} (p q new : Pass T Entry)
     → pass_numbers new ≡ pass_numbers p ++ pass_numbers q
@@ -90,8 +94,10 @@ joined_here : {T : Type 0} (p q new : Pass T Entry)
     → (seen new ≡ seen p) ⊎ (seen new ≡ seen q)
     → Continues (IsForeign entry_by (pass_numbers p)) (seen new) (seen p)
     → Continues (IsForeign entry_by (pass_numbers q)) (seen new) (seen q)
+    → AreApart (pass_numbers p) (pass_numbers q)
+    → (pass_number p ≡ 0 → Continues (λ (e : Entry). entry_by e ≤ made p) (seen new) (seen p))
     → Joined (knows p) (knows q) (knows new)
-joined_here p q new held kept heard first second = record {
+joined_here p q new held kept heard first second apart given = record {
   holders = λ i. record { number = kept.0 i; made = kept.1 i; holds = held i };
   seen = heard;
   first = record {
@@ -104,6 +110,8 @@ joined_here p q new held kept heard first second = record {
         (among_second n (pass_numbers p) (pass_numbers q) own);
     since = second;
   };
+  apart = apart;
+  given = given;
 }
 
 one_less : {A : Type 0} (all left rest gone : List A) (x : A) → all ≡ left ++ gone
@@ -180,9 +188,11 @@ module _ {T G : Type 0} (tag : T → G) (tags : List (Option G)) (cells : List (
       → IsOutside new → (seen new ≡ seen p) ⊎ (seen new ≡ seen q)
       → Continues (IsForeign entry_by (pass_numbers p)) (seen new) (seen p)
       → Continues (IsForeign entry_by (pass_numbers q)) (seen new) (seen q)
+      → AreApart (pass_numbers p) (pass_numbers q)
+      → (pass_number p ≡ 0 → Continues (λ (e : Entry). entry_by e ≤ made p) (seen new) (seen p))
       → JoinsDown old other (set now s new) rest
   joins_on s old other now left rest c p q new j is place at_c at_p held kept outside heard first
-      second =
+      second no_both given =
       let two = last_two s old other now left rest c p q j is place at_c at_p in
       let low = two.2 in
       let more = ap (λ (l : List (Pass T Entry)). length l) is ∙ length_more rest q in
@@ -200,7 +210,7 @@ module _ {T G : Type 0} (tag : T → G) (tags : List (Option G)) (cells : List (
         sym (knows_there (set now s new) s new (omega arith)
             (sym (get_or-set_same now s new new (omega arith)))) i,
       ))
-      (joined_here p q new held (kept.1, kept.2) heard first second) in
+      (joined_here p q new held (kept.1, kept.2) heard first second no_both given) in
       let there = λ (t : ℕ) (other_one : t ≢ s).
       ap (λ (l : List Holder). holder_at l t) (map-set holder_of now s new)
       ∙ get_or-set_other (holders now) s t (holder_of new) nobody other_one in
@@ -226,3 +236,23 @@ module _ {T G : Type 0} (tag : T → G) (tags : List (Option G)) (cells : List (
             (j.done t (omega arith) below))
             (cases_lt t (s + 1));
       }
+
+-- once none is left
+pub joined_all : {D : Type 0} {G : Type 0} (tag : SharedState D → G) (tags : List (Option G))
+    (cells : List (Cell (SharedState D) Entry)) (old other now : Passes D)
+    (left : List (Pass (SharedState D) Entry))
+    → JoinsDown tag tags cells old.desks.items other.desks.items now.desks.items left
+    → length left ≡ 0 → length cells ≡ 64 → JoinsPasses old other now
+joined_all tag tags cells old other now left j none many = record {
+  holders = λ s low. (done s low).holders;
+  seen = λ s low. (done s low).seen;
+  first = λ s low. (done s low).first;
+  second = λ s low. (done s low).second;
+  apart = λ s low. (done s low).apart;
+  given = λ s low. (done s low).given;
+}
+  where
+    done : (s : ℕ) → s < 64
+        → Joined (knows_at old.desks.items s) (knows_at other.desks.items s)
+        (knows_at now.desks.items s)
+    done s low = j.done s (omega arith) (omega arith)

@@ -1,4 +1,5 @@
 pub mod ListLemmas
+pub mod SaidLemmas
 pub mod TurnLemmas
 pub mod ExactLemmas
 pub mod ChainLemmas

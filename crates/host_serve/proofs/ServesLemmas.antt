@@ -11,7 +11,7 @@ use Rattle.turn_cell.specs.History.{IsAmong, IsForeign}
 use Rattle.story_run.specs.declared.story.Story.{Story}
 use Rattle.session_core.specs.declared.entry.Entry.{Entry}
 use Rattle.session_core.specs.Turning.{entry_by, AddsTo, Turned}
-use Rattle.session_core.proofs.TurningLemmas.{turn_in_adds}
+use Rattle.host_serve.proofs.SaidLemmas.{said_adds}
 use Rattle.host_serve.specs.Holders.{Holder, nobody, IsAloneHolder, holder_at, seen_at}
 use Rattle.host_serve.specs.Serves.{AnsweredLine, IsTurn, IsOfItsSession, IsOfNoSession, MayMeetIn}
 use Rattle.host_serve.specs.Serves.{marked, own_world, turned_again, turned, AddsItsEntry}
@@ -56,7 +56,7 @@ module _ (stories : List Story) (budget : ℕ) (sound : Type 0) where
   stands_in : (h : Holder) (old : List Entry) (t : AnsweredLine) (mid final rest : List Entry)
       → TurnsIn stories budget sound h old t mid → final ≡ mid ++ rest → Stands h old t mid final
   stands_in h old t mid final rest i goes =
-      of (turn_in_adds stories budget i.before t.world h.number t.line t.outcome)
+      of (said_adds stories budget i.before t.world h.number t.line t.outcome)
     where
       taken : (tail : List Entry) → final ≡ i.before ++ tail → i.before ≡ take t.mark.length final
       taken tail is = subst (λ (x : ℕ × List Entry). i.before ≡ take x.0 x.1)

@@ -1,16 +1,25 @@
 -- The stores of a host, in the order of its sessions.
 use Rattle.std.proofs.Common.{◌≡◌, ℕ, zero, suc, ◌<◌, Bool, List, [], ◌∷◌, ◌++◌, length, refl, ap}
-use Rattle.std.proofs.Common.{sym, ◌∙◌, subst, arith, append_assoc, Some, IsTrue}
+use Rattle.std.proofs.Common.{sym, ◌∙◌, subst, arith, append_assoc, Some, None, IsTrue, true}
+use Rattle.std.proofs.Common.{false, cond, not, ◌&&◌, ◌==◌}
 use Rattle.std.specs.Prelude.{slice_get}
+use Rattle.std.proofs.lemmas.Bool.{and_parts}
+use Rattle.std.proofs.lemmas.Bool.Decides.{nat_tests}
 use Rattle.std.specs.List.{AllZip}
 use Rattle.std.proofs.lemmas.List.{length-append}
 use Rattle.gate_journal.specs.declared.fault.JournalFault.{JournalFault}
+use Rattle.snap_store.specs.File.{Stored, area_on_side, gate_byte, has_header, is_open_area}
+use Rattle.snap_store.specs.File.{is_whole, open_area}
+use Rattle.snap_store.specs.Slots.{slot_in}
 use Rattle.snap_store.specs.Store.{Snapshots}
+use Rattle.snap_store.specs.declared.side.Side.{Side}
+use Rattle.snap_store.specs.declared.slot.Slot.TheVariants.{Open}
 use Rattle.snap_store.specs.declared.fault.DiskFault.{DiskFault as StoreFault}
 use Rattle.story_run.specs.declared.story.Story.{Story}
 use Rattle.session_core.specs.History.{game_of}
 use Rattle.gate_journal.specs.Rows.{commands_of}
 use Rattle.session_saves.specs.Agreement.{Agrees, opens_of}
+use Rattle.session_saves.specs.Saves.{HasOpenSince, HasSince}
 use Rattle.host_serve.specs.declared.host.Host.{Host}
 use Rattle.host_serve.specs.Hosts.{IsSound, rows_at_opening, opened_stores}
 use Rattle.host_serve.specs.declared.fault.OpenFault.{OpenFault}
@@ -79,6 +88,50 @@ module _ {D : Type 0} (P : ℕ → StoreFault → D → Type 0) (W : Type 0) whe
   off_journal Q (faults.Journal fault disk) of = absurd of
   off_journal Q (faults.Snap session fault disk) of = tt
   off_journal Q faults.NoMemory of = tt
+
+-- ---- an open area is known to be open in a store
+
+stored_same : (x y : Stored) → Some x ≡ Some y → x ≡ y
+stored_same x y e = cc
+
+is_one : (header whole : Bool) (gate : ℕ) → (header && (gate == 1) && whole) ≡ true
+    → (header && not (gate == 0)) ≡ true
+is_one header whole gate e =
+    let parts = and_parts header (gate == 1) (and_parts (header && (gate == 1)) whole e).0 in
+    let one : gate ≡ 1 = grind (arith, nat_tests, parts.1) in
+    let zero : (gate == 0) ≡ false = grind (arith, nat_tests, one) in
+    rw (parts.0, zero) refl
+
+open_slot : (side : Side) (file : List ℕ) (area : Stored) (opens : Bool)
+    → is_open_area side file ≡ opens → open_area side file ≡ Some area
+    → slot_in side file ≡ Open area.place area.count
+unfolding area_on_side
+open_slot side file area true is e =
+    let here : area_on_side side file ≡ area =
+    stored_same (area_on_side side file) area
+    (sym (ap (λ (b : Bool). cond b (Some (area_on_side side file)) None) is) ∙ e) in
+    let gate = is_one (has_header file) (is_whole side file) (gate_byte side file) is in
+    rw (is, gate) (ap (λ (a : Stored). Open a.place a.count) here)
+open_slot side file area false is e =
+    absurd (none_some area (sym (ap (λ (b : Bool). cond b (Some (area_on_side side file)) None) is)
+    ∙ e))
+
+module _ {D : Type 0} (tells : D → Bool) (may_leave : D → List ℕ → Type 0)
+    (reads : D → List ℕ) (moment : D → ℕ) (left_since : D → ℕ → List ℕ → Type 0)
+    (faults reach room label : D → ℕ) where
+  pub slot_since : (disk : D) (store : Snapshots D) (place least : ℕ)
+      → IsStoreOf tells may_leave reads moment left_since faults reach room label disk store
+      → IsTrue (tells disk) → HasOpenSince place least (reads disk)
+      → HasSince place least store.slots
+  slot_since disk store place least of told has = record {
+    side = has.side;
+    count = has.area.count;
+    open_there = of.slots told has.side
+        ∙ open_slot has.side (reads disk) has.area (is_open_area has.side (reads disk)) refl
+        has.open_there
+        ∙ ap (λ (row : ℕ). Open row has.area.count) has.row;
+    since = has.since;
+  }
 
 module _ {D : Type 0} (tells : D → Bool) (may_leave : D → List ℕ → Type 0)
     (reads : D → List ℕ) (moment : D → ℕ) (left_since : D → ℕ → List ℕ → Type 0)

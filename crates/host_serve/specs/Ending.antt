@@ -3,27 +3,31 @@ use Rattle.std.specs.Prelude.{◌≡◌, ℕ, ◌<◌, ◌≤◌, List, [], ◌�
 use Rattle.std.specs.Prelude.{slice_get}
 use Rattle.turn_cell.specs.History.{Continues, IsForeign}
 use Rattle.turn_cell.specs.Passes.{seen, tag_of}
-use Rattle.disk_model.specs.Disk.{EachImage, SameDisk}
+use Rattle.disk_model.specs.Disk.{EachImage, LeavesOnly, SameDisk}
 use Rattle.gate_journal.specs.Log.{Log, entry_number}
-use Rattle.gate_journal.specs.Rows.{commands_of}
+use Rattle.gate_journal.specs.Rows.{IsJournal, commands_of}
 use Rattle.gate_journal.specs.declared.row.Row.{Row}
 use Rattle.snap_store.specs.Store.{Snapshots}
 use Rattle.story_run.specs.declared.story.Story.{Story}
 use Rattle.session_core.specs.declared.entry.Entry.{Entry}
 use Rattle.session_core.specs.History.{game_of}
 use Rattle.session_core.specs.Turning.{entry_by}
-use Rattle.session_saves.specs.Agreement.{IsAgreedFile, opens_of}
+use Rattle.session_saves.specs.Agreement.{AgreesWithBeginning, IsAgreedFile, last_row, opens_of}
+use Rattle.session_saves.specs.Saves.{HasOpenSince, HasSince}
 use Rattle.session_desk.specs.Shared.{unnumbered}
 use Rattle.session_desk.specs.Turn.{history_in}
 use Rattle.host_serve.specs.declared.host.Host.{Host}
 use Rattle.host_serve.specs.declared.host.Passes.{Passes}
-use Rattle.host_serve.specs.Holders.{Holder, IsAloneHolder, holder_at, holders, seen_at, seens}
+use Rattle.host_serve.specs.Holders.{Holder, IsWholeHolder, IsAloneHolder, holder_at, holders, seen_at}
+use Rattle.host_serve.specs.Holders.{seens}
 
 -- the history of a session as its host ends, where this holder's pass had seen so much: others'
--- entries came since, and none where the pass is alone
+-- entries came since, and none where the pass is alone or all that were split from it were joined
+-- into it again
 pub record EndsAt (h : Holder) (old final : List Entry) : Type 0 where
   pub since : Continues (IsForeign entry_by h.holds) final old
   pub alone : IsAloneHolder h → final ≡ old
+  pub complete : IsWholeHolder h → final ≡ old
 
 -- The histories of all sessions as a host ends, and its journal then: of each session it has the
 -- accepted commands and the faults, and no others, in their order.
@@ -60,3 +64,25 @@ module _ {D : Type 0} where
   AreAgreedDisks tells may_leave stories rows disks =
       (s : ℕ) (disk : D) → slice_get disks s ≡ Some disk
       → IsAgreedDisk tells may_leave stories rows s disk
+
+  -- What is kept of the file of a session's store since it was opened, where the journal had these
+  -- rows then and has those now. Each image that a stop may leave agrees with the first of the
+  -- journal's rows. While no OPEN of the session comes, an open area of its last game is never lost.
+  pub record KeepsFileOf (moment : D → ℕ) (left_since : D → ℕ → List ℕ → Type 0)
+      (stories : List Story) (rows after : List Row) (s : ℕ) (store : Snapshots D) (back : D)
+      : Type 0 where
+    pub agreed :
+        LeavesOnly moment left_since store.disk back (AgreesWithBeginning stories after s)
+    pub newest :
+        IsJournal after → opens_of after s ≡ opens_of rows s
+        → (place least : ℕ) → last_row (opens_of after s) ≡ Some place
+        → HasSince place least store.slots
+        → LeavesOnly moment left_since store.disk back (HasOpenSince place least)
+
+  -- and so of those of all sessions
+  abbrev pub KeepFiles : (D → ℕ) → (D → ℕ → List ℕ → Type 0) → List Story → List Row → List Row
+      → List (Snapshots D) → List D → Type 0
+  KeepFiles moment left_since stories rows after stores backs =
+      (s : ℕ) (store : Snapshots D) (back : D)
+      → slice_get stores s ≡ Some store → slice_get backs s ≡ Some back
+      → KeepsFileOf moment left_since stories rows after s store back

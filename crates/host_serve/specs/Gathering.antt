@@ -11,7 +11,7 @@ use Rattle.session_core.specs.declared.entry.Entry.{Entry}
 use Rattle.session_desk.specs.Shared.{DeskTag, unnumbered}
 use Rattle.session_desk.specs.Sound.{IsSoundDesk}
 use Rattle.session_desk.specs.Turn.{history_in}
-use Rattle.host_serve.specs.Ending.{EndsAt, GivesBack, IsAgreedDisk}
+use Rattle.host_serve.specs.Ending.{EndsAt, GivesBack, IsAgreedDisk, KeepsFileOf}
 use Rattle.host_serve.specs.Holders.{Holder, holder_at, seen_at}
 
 -- a session's history as its desk has it, what that desk's pass has seen of the journal, and what
@@ -29,37 +29,40 @@ module _ {D : Type 0} where
     pub kept : (pass_number new ≡ pass_number old) × (sample new ≡ sample old)
 
   module _ (tells : D → Bool) (may_leave : D → List ℕ → Type 0) (reads : D → List ℕ)
-      (faults reach room label : D → ℕ) where
-    -- The disk of the store of a desk with this tag comes back. On a sound desk it agrees with the
-    -- rows that its pass has seen; entries of others have come since.
-    pub record Returns (s : ℕ) (tag : DeskTag D) (back : D) (journal : List JournalEntry)
-        : Type 0 where
-      pub gives : GivesBack tells faults reach room label tag.store back
-      pub seen : List JournalEntry
-      pub since : Continues (IsForeign entry_number ((s + 1) ∷ [])) journal seen
-      pub agreed : IsSoundDesk tells reads tag
-          → IsAgreedDisk tells may_leave tag.stories (rows_of seen) s back
+      (moment : D → ℕ) (left_since : D → ℕ → List ℕ → Type 0) (faults reach room label : D → ℕ)
+    where
+      -- The disk of the store of a desk with this tag comes back. On a sound desk it agrees with the
+      -- rows that its pass has seen, and did since it was opened; entries of others have come since.
+      pub record Returns (s : ℕ) (tag : DeskTag D) (back : D) (journal : List JournalEntry)
+          : Type 0 where
+        pub gives : GivesBack tells faults reach room label tag.store back
+        pub seen : List JournalEntry
+        pub since : Continues (IsForeign entry_number ((s + 1) ∷ [])) journal seen
+        pub agreed : IsSoundDesk tells reads tag
+            → IsAgreedDisk tells may_leave tag.stories (rows_of seen) s back
+        pub file : IsSoundDesk tells reads tag
+            → KeepsFileOf moment left_since tag.stories tag.rows (rows_of seen) s tag.store back
 
-    -- the session's desk was entered, by this holder, and its pass joined into the root
-    pub record BringsIn (s : ℕ) (h : Holder) (old : List Entry) (tag : Option (DeskTag D))
-        (root : Pass (Log D) JournalEntry) (back : D) : Type 0 where
-      pub final : List Entry
-      pub ends : EndsAt h old final
-      pub heard : Heard s (seen root) final
-      pub returns : (its : DeskTag D) → tag ≡ Some its → Returns s its back (seen root)
+      -- the session's desk was entered, by this holder, and its pass joined into the root
+      pub record BringsIn (s : ℕ) (h : Holder) (old : List Entry) (tag : Option (DeskTag D))
+          (root : Pass (Log D) JournalEntry) (back : D) : Type 0 where
+        pub final : List Entry
+        pub ends : EndsAt h old final
+        pub heard : Heard s (seen root) final
+        pub returns : (its : DeskTag D) → tag ≡ Some its → Returns s its back (seen root)
 
-    -- the sessions below this number were brought in
-    pub record Gathers (n : ℕ) (holders : List Holder) (old : List (List Entry))
-        (tags : List (Option (DeskTag D))) (first root : Pass (Log D) JournalEntry)
-        (backs : List D) : Type 0 where
-      pub finals : List (List Entry)
-      pub many : length finals ≡ n
-      pub ends :
-          (s : ℕ) → s < n → EndsAt (holder_at holders s) (seen_at old s) (seen_at finals s)
-      pub heard : (s : ℕ) → s < n → Heard s (seen root) (seen_at finals s)
-      pub held : (s : ℕ) → s < n → IsAmong (s + 1) (pass_numbers root)
-      pub grows : (rest : List ℕ) × KeepsRoot rest first root
-      pub disks : length backs ≡ n
-      pub returns :
-          (s : ℕ) (tag : DeskTag D) (back : D) → s < n → get_or tags s None ≡ Some tag
-          → slice_get backs s ≡ Some back → Returns s tag back (seen root)
+      -- the sessions below this number were brought in
+      pub record Gathers (n : ℕ) (holders : List Holder) (old : List (List Entry))
+          (tags : List (Option (DeskTag D))) (first root : Pass (Log D) JournalEntry)
+          (backs : List D) : Type 0 where
+        pub finals : List (List Entry)
+        pub many : length finals ≡ n
+        pub ends :
+            (s : ℕ) → s < n → EndsAt (holder_at holders s) (seen_at old s) (seen_at finals s)
+        pub heard : (s : ℕ) → s < n → Heard s (seen root) (seen_at finals s)
+        pub held : (s : ℕ) → s < n → IsAmong (s + 1) (pass_numbers root)
+        pub grows : (rest : List ℕ) × KeepsRoot rest first root
+        pub disks : length backs ≡ n
+        pub returns :
+            (s : ℕ) (tag : DeskTag D) (back : D) → s < n → get_or tags s None ≡ Some tag
+            → slice_get backs s ≡ Some back → Returns s tag back (seen root)

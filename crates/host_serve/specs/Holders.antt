@@ -1,5 +1,6 @@
 -- What the passes of all sessions know, session by session (own).
-use Rattle.std.specs.Prelude.{◌≡◌, ℕ, List, [], map, get_or}
+use Rattle.std.specs.Prelude.{◌≡◌, ◌≤◌, ℕ, List, [], map, get_or}
+use Rattle.turn_cell.specs.History.{IsAmong}
 use Rattle.turn_cell.specs.declared.pass.Pass.{Pass}
 use Rattle.turn_cell.specs.Passes.{pass_number, made, pass_numbers, seen}
 use Rattle.session_core.specs.declared.entry.Entry.{Entry}
@@ -13,6 +14,10 @@ pub record Holder : Type 0 where
 -- the root that was never split
 abbrev pub IsAloneHolder : Holder → Type 0
 IsAloneHolder h = (h.number ≡ 0) × (h.made ≡ 0)
+
+-- it holds its own number and those of all that were split from it
+abbrev pub IsWholeHolder : Holder → Type 0
+IsWholeHolder h = (n : ℕ) → n ≤ h.made → IsAmong n h.holds
 
 -- no session has this holder
 abbrev pub nobody : Holder

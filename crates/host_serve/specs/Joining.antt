@@ -1,6 +1,6 @@
 -- Passes that are joined into others, session by session (own).
-use Rattle.std.specs.Prelude.{◌≡◌, ◌≢◌, ◌⊎◌, ℕ, ◌<◌, List, ◌++◌}
-use Rattle.turn_cell.specs.History.{Continues, IsAmong, IsForeign}
+use Rattle.std.specs.Prelude.{◌≡◌, ◌≢◌, ◌⊎◌, ℕ, ◌<◌, ◌≤◌, List, ◌++◌}
+use Rattle.turn_cell.specs.History.{AreApart, Continues, IsAmong, IsForeign}
 use Rattle.session_core.specs.declared.entry.Entry.{Entry}
 use Rattle.session_core.specs.Turning.{entry_by}
 use Rattle.host_serve.specs.declared.host.Passes.{Passes}
@@ -29,6 +29,20 @@ module _ {D : Type 0} where
       → IsPart (holder_at (holders passes.desks.items) s) (seen_at (seens passes.desks.items) s)
       (holder_at (holders whole.desks.items) s) (seen_at (seens whole.desks.items) s)
 
+  -- no number is held by both
+  abbrev pub HoldApart : Passes D → Passes D → Type 0
+  HoldApart passes others =
+      (s : ℕ) → s < 64
+      → AreApart (holder_at (holders passes.desks.items) s).holds
+      (holder_at (holders others.desks.items) s).holds
+
+  -- what roots hadn't seen, and later have, is of numbers that they had given
+  abbrev pub HaveGiven : Passes D → Passes D → Type 0
+  HaveGiven old new =
+      (s : ℕ) → s < 64 → (holder_at (holders old.desks.items) s).number ≡ 0
+      → Continues (λ (e : Entry). entry_by e ≤ (holder_at (holders old.desks.items) s).made)
+      (seen_at (seens new.desks.items) s) (seen_at (seens old.desks.items) s)
+
   -- the passes of others were joined into these
   pub record JoinsPasses (old other new : Passes D) : Type 0 where
     pub holders :
@@ -43,3 +57,5 @@ module _ {D : Type 0} where
         ⊎ (seen_at (seens new.desks.items) s ≡ seen_at (seens other.desks.items) s)
     pub first : ArePartsOf new old
     pub second : ArePartsOf new other
+    pub apart : HoldApart old other
+    pub given : HaveGiven old new

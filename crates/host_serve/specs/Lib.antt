@@ -1,4 +1,6 @@
 pub mod Holders
+pub mod Said
+pub mod Alone
 pub mod Serves
 pub mod Chain
 pub mod Speaking

@@ -11,6 +11,7 @@ use Rattle.gate_journal.specs.declared.fault.JournalFault.{JournalFault}
 use Rattle.gate_journal.specs.declared.row.Row.{Row}
 use Rattle.snap_store.specs.File.{openable_area}
 use Rattle.snap_store.specs.Frames.{IsFaultOfDisk}
+use Rattle.snap_store.specs.Slots.{slot_in, slot_of}
 use Rattle.snap_store.specs.Store.{Snapshots, store_area}
 use Rattle.snap_store.specs.declared.fault.DiskFault.{DiskFault as StoreFault}
 use Rattle.snap_store.specs.declared.side.Side.{Side}
@@ -106,6 +107,9 @@ module _ {D : Type 0} where
         pub areas :
             IsTrue (tells disk) → (side : Side)
             → store_area reads store side ≡ openable_area side (reads disk)
+        pub slots :
+            IsTrue (tells disk) → (side : Side)
+            → slot_of store.slots side ≡ slot_in side (reads disk)
         pub counts : faults store.disk ≡ faults disk
         pub kept :
             OnlyLooks tells may_leave moment left_since reach room label disk store.disk

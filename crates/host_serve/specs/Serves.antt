@@ -2,6 +2,7 @@
 use Rattle.std.specs.Prelude.{◌≡◌, ◌⊎◌, ℕ, ◌<◌, ◌≤◌, List, [], ◌∷◌, ◌++◌, length}
 use Rattle.std.specs.Prelude.{take, set, slice_get, Option, Some}
 use Rattle.turn_cell.specs.History.{IsAmong}
+use Rattle.disk_model.specs.Disk.{Rose}
 use Rattle.line_words.specs.declared.reply.No.TheVariants.{DiskFault, NoMemory}
 use Rattle.line_words.specs.declared.reply.Reply.{Reply}
 use Rattle.line_words.specs.declared.reply.Reply.TheVariants.{No}
@@ -14,10 +15,10 @@ use Rattle.session_core.specs.declared.entry.Outcome.{Outcome}
 use Rattle.session_core.specs.declared.entry.Outcome.TheVariants.{OutOfMemory}
 use Rattle.session_core.specs.History.{game_of, world_of}
 use Rattle.session_core.specs.Hosts.{session_on}
-use Rattle.session_core.specs.Turning.{commands_in, decision_in, entry_by, MayMeet, Turned}
-use Rattle.session_core.specs.Turning.{turn_in}
+use Rattle.session_core.specs.Turning.{commands_in, entry_by, MayMeet, Turned}
 use Rattle.host_serve.specs.declared.mark.Mark.{Mark}
 use Rattle.host_serve.specs.Holders.{Holder, IsAloneHolder, holder_at, seen_at}
+use Rattle.host_serve.specs.Said.{said_in, turn_said_in}
 
 -- one answered line: the world that its session had come to, as the host held it, what its turn
 -- met, its mark and its reply
@@ -50,9 +51,9 @@ abbrev pub own_world : List Story → List Entry → Option WorldState
 own_world stories history = world_of stories (game_of (commands_in history))
 
 module _ (stories : List Story) (budget : ℕ) where
-  -- what the session decides on the line, with this history and in the world that the host held
+  -- what the session says to the line, with this history and in the world that the host held
   abbrev pub decided_on_line : List Entry → AnsweredLine → Decision
-  decided_on_line history t = decision_in stories budget (commands_in history) t.world t.line
+  decided_on_line history t = said_in stories budget (commands_in history) t.world t.line
 
   -- a turn on this history may meet what this one met
   abbrev pub MayMeetIn : List Entry → AnsweredLine → Type 0
@@ -61,7 +62,7 @@ module _ (stories : List Story) (budget : ℕ) where
   -- the turn of the same line on this history and in the same world, by a pass of this number,
   -- where it meets the same
   abbrev pub turned_again : List Entry → ℕ → AnsweredLine → Turned
-  turned_again history by t = turn_in stories budget history t.world by t.line t.outcome
+  turned_again history by t = turn_said_in stories budget history t.world by t.line t.outcome
 
   -- the turn on the prefix that its mark names
   abbrev pub turned : List Holder → List (List Entry) → AnsweredLine → Turned
@@ -77,14 +78,14 @@ module _ (stories : List Story) (budget : ℕ) where
       × (slice_get (seen_at new t.mark.session) t.mark.length ≡ Some e)
       × (entry_by e ≡ (holder_at holders t.mark.session).number)
 
-  -- the reply is the session's on the marked prefix, or `NO 12`; or the disk failed, and its fault
-  -- stands there as this pass's entry
+  -- the reply is the session's on the marked prefix, or `NO 12`; or the disk failed, its count rose,
+  -- and its fault stands there as this pass's entry
   abbrev pub IsExact : List Holder → List (List Entry) → AnsweredLine → Type 0
   IsExact holders new t = (t.reply ≡ (decided_on_line (marked new t) t).reply)
       ⊎ (t.reply ≡ No NoMemory)
       ⊎ ((from : ℕ) × (to : ℕ) × (t.reply ≡ No (DiskFault from to))
       × (slice_get (seen_at new t.mark.session) t.mark.length
-      ≡ Some (Faulted (holder_at holders t.mark.session).number from to)))
+      ≡ Some (Faulted (holder_at holders t.mark.session).number from to)) × Rose from to)
 
   -- exactly one turn adds the entry at this place of the session's history
   pub record AddedOnce (holders : List Holder) (new : List (List Entry)) (turns : List AnsweredLine)
@@ -126,8 +127,8 @@ module _ (stories : List Story) (budget : ℕ) where
     -- on a sound host a turn is made in the world to which its session had come
     pub own : sound → (i : ℕ) (t : AnsweredLine) → IsTurn turns i t
         → t.world ≡ own_world stories (marked new t)
-    -- a reply is that of `turn_in` on the marked prefix, in the turn's world and by an outcome with
-    -- which it adds nothing, or the entry that stands there
+    -- a reply is that of `turn_said_in` on the marked prefix, in the turn's world and by an outcome
+    -- with which it adds nothing, or the entry that stands there
     pub replies : (i : ℕ) (t : AnsweredLine) → IsTurn turns i t
         → (t.reply ≡ (turned holders new t).reply)
         × (AddsNothing holders new t ⊎ AddsItsEntry holders new t)

@@ -10,11 +10,11 @@ ghost use Rattle.session_desk.specs.Shared.{desk_tag};
 ghost use Rattle.snap_store.specs.Store.{Snapshots};
 ghost use Rattle.story_run.specs.declared.story.Story.{Story};
 ghost use Rattle.turn_cell.specs.Passes.{IsOf, IsOutside, seen, tag_of};
-ghost use Rattle.host_serve.specs.Ending.{AreAgreedDisks, EndsWith, GivesBack};
+ghost use Rattle.host_serve.specs.Ending.{AreAgreedDisks, EndsWith, GivesBack, KeepFiles};
 ghost use Rattle.host_serve.specs.Gathering.{BringsIn, Gathers, KeepsRoot};
 ghost use Rattle.host_serve.specs.Holders.{holder_of, holders, seens};
 ghost use Rattle.host_serve.specs.Hosts.{AreOf, ArePasses, IsSound, cell_id, opened_stores, tag_at};
-ghost use Rattle.host_serve.specs.Hosts.{tags_from};
+ghost use Rattle.host_serve.specs.Hosts.{rows_at_opening, tags_from};
 
 use crate::desks::SESSIONS;
 use crate::host::{Host, Passes};
@@ -39,8 +39,8 @@ fn bring_in<'i, D: Disk + Drop, R: Wait>(
     requires tag { (stories : List Story) × (budget : ℕ) × (rows : List Row)
         × (store : Snapshots D) × (tag_of desk_tag pass.old
         ≡ Some (tag_at stories budget (cell_id journal.now) rows _session store)) }
-    ensures value { BringsIn D.tells D.may_leave D.seen D.faults D.reach D.room D.label _session
-        (holder_of pass.old) (seen pass.old) (tag_of desk_tag pass.old) root.new result }
+    ensures value { BringsIn D.tells D.may_leave D.seen D.moment D.left_since
+        D.faults D.reach D.room D.label _session (holder_of pass.old) (seen pass.old) (tag_of desk_tag pass.old) root.new result }
     ensures grows { KeepsRoot ((_session + 1) ∷ []) root.old root.new }
     ensures kept { IsOf journal.now root.new × IsOutside root.new }
 {
@@ -66,7 +66,8 @@ fn gather<'i, D: Disk + Drop, R: Wait>(
         × ArePasses desk_tag (tags_from stories budget (cell_id journal.now) rows 0 stores)
         cells.now passes.old }
     requires room { (disks.old.items ≡ []) × (64 ≤ vec_capacity disks.old) }
-    ensures value { Gathers D.tells D.may_leave D.seen D.faults D.reach D.room D.label 64
+    ensures value { Gathers D.tells D.may_leave D.seen D.moment D.left_since
+        D.faults D.reach D.room D.label 64
         (holders passes.old) (seens passes.old) (map (tag_of desk_tag) passes.old) root.old
         root.new disks.new.items }
     ensures kept { IsOf journal.now root.new × IsOutside root.new }
@@ -91,7 +92,10 @@ impl<'i, D: Disk + Drop> Host<'i, D> {
             × Rises (D.faults log.opening.disk) log.entries (D.faults result.0)
             × IsSinceOpened D.tells D.may_leave D.room D.label D.reach D.moment D.left_since log
             × (IsSound D.tells D.seen self.entry → AreAgreedDisks D.tells D.may_leave
-            self.entry.stories.now (rows_of log.entries) result.1.items) }
+            self.entry.stories.now (rows_of log.entries) result.1.items)
+            × (IsSound D.tells D.seen self.entry → KeepFiles D.moment D.left_since
+            self.entry.stories.now (rows_at_opening self.entry) (rows_of log.entries)
+            (opened_stores self.entry) result.1.items) }
         ensures stores { AllZip (GivesBack D.tells D.faults D.reach D.room D.label)
             (opened_stores self.entry) result.1.items }
     {

@@ -5,7 +5,8 @@ use turn_cell::{Pass, Told};
 
 /// What is told of two moments of each answered line. A thread that it holds waits there.
 pub trait Pause: Sync {
-    /// The session's turn is this pass's, and the reply is known.
+    /// The session's turn is this pass's, and the reply is known, or, of a spectator's line, the
+    /// commands are copied.
     fn in_turn<T: Told>(&self, session: u8, pass: &Pass<T>)
         requires inside { IsInTurn pass.now };
 

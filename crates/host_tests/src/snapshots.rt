@@ -100,16 +100,16 @@ fn are_answered_without_a_header<'i, R: Wait>(
     Ok(empty && text.as_slice() == wanted.0 && last.as_slice() == wanted.1)
 }
 
-/// Whether they answer this whichever call of a put fails.
+/// Whether they answer this whichever of these calls fails.
 fn are_answered_at_each_fault<'i, R: Wait>(
     rt: &R,
     alloc: Global,
     stories: &'i [Story<'i>],
+    calls: (u64, u64),
     lines: &[u8],
     wanted: (&[u8], &[u8]),
 ) -> Result<bool, Fail> {
-    // the making of a file takes two calls of its disk, its opening five, and a put six
-    for call in 7..13 {
+    for call in calls.0..calls.1 {
         if !are_answered(rt, alloc, stories, failing(alloc, 0, call)?, lines, wanted)? {
             return Ok(false);
         }
@@ -117,7 +117,7 @@ fn are_answered_at_each_fault<'i, R: Wait>(
     Ok(true)
 }
 
-/// Whether they answer this still where a store fails or has no header.
+/// Whether they answer this still where a store fails in a put or as it is read, or has no header.
 fn are_answered_still<'i, R: Wait>(
     rt: &R,
     alloc: Global,
@@ -125,8 +125,11 @@ fn are_answered_still<'i, R: Wait>(
     lines: &[u8],
     wanted: (&[u8], &[u8]),
 ) -> Result<bool, Fail> {
+    // the making of a file takes two calls of its disk, its opening five, and a put six; the next
+    // host's opening takes five, and its reading of the newest area at most five
     Ok(
-        are_answered_at_each_fault(rt, alloc, stories, lines, wanted)?
+        are_answered_at_each_fault(rt, alloc, stories, (7, 13), lines, wanted)?
+            && are_answered_at_each_fault(rt, alloc, stories, (18, 23), lines, wanted)?
             && are_answered_without_a_header(rt, alloc, stories, lines, wanted)?,
     )
 }

@@ -21,7 +21,8 @@ use Rattle.host_top.specs.Follows.{DoesTask, FollowsCommand}
 use Rattle.host_top.specs.LinksServed.{LinksServed, ServesOver}
 use Rattle.host_top.specs.Piped.{HostedOver, PipesOver}
 use Rattle.host_top.specs.Said.{SaysFault, SaysLine}
-use Rattle.host_top.specs.Speech.{Task, Says, Serves, ServesLinks, Begins}
+use Rattle.host_top.specs.Replayed.{ReplaysOn}
+use Rattle.host_top.specs.Speech.{Task, Says, Serves, ServesLinks, Begins, Replays}
 use Rattle.host_top.specs.Status.{status_of, status_of_served, status_of_stop}
 use Rattle.line_talk.specs.Streams.{SourceState, SinkState, Wrote}
 use Rattle.command_words.specs.Words.{Asked}
@@ -34,7 +35,7 @@ use Rattle.host_serve.specs.declared.served.Served.TheVariants as served
 use Rattle.line_talk.specs.declared.sink.Stop.{Stop}
 use Rattle.line_talk.specs.declared.sink.Stop.TheVariants as stop
 use Rattle.host_top.specs.declared.status.Status.{Status}
-use Rattle.host_top.specs.declared.status.Status.TheVariants.{BadWords, ReadFault, WriteFault}
+use Rattle.host_top.specs.declared.status.Status.TheVariants.{Done, BadWords, ReadFault, WriteFault}
 use Rattle.host_top.specs.declared.status.Status.TheVariants.{DiskFault, DoorFault}
 
 -- no end of a connection has this status
@@ -175,6 +176,19 @@ init_failed disks folder outside beyond output new (inr i) = elim i.inits.does [
   ]
 ]
 
+replay_failed : {D : Type 0} (disks : DiskWords D) (stories : List Story) (folder : List ℕ)
+    (outside beyond : OutsideState D) {input now : SourceState} (output new : SinkState)
+    → ReplaysOn disks stories folder outside beyond input now output new DiskFault
+    → Failed outside.disk_faults beyond.disk_faults output new
+replay_failed disks stories folder outside beyond output new (inl none) =
+    not_lent_failed disks (journal_in folder ∷ []) outside beyond output new none
+replay_failed disks stories folder outside beyond output new (inr r) = elim r.replays.does [
+  | inl t ↦ no_line _ (λ e. absurd (grind (arith, e))) t.says
+  | inr n ↦ let failed =
+      opening_failed n.fault (disks.faults r.given) (disks.faults r.back) output new n.cause n.says
+      in (r.counts.rose.0 failed.0, failed.1)
+]
+
 does_failed : {D : Type 0} (disks : DiskWords D) (OnDoor : OfDoor D) (task : Result Task (List ℕ))
     (outside beyond : OutsideState D) (input now : SourceState) (output new : SinkState)
     → DoesTask disks OnDoor task outside beyond input now output new DiskFault
@@ -192,6 +206,8 @@ does_failed disks OnDoor (Ok (ServesLinks stories budget folder serving)) outsid
     output new (inr t, doors) = links_failed disks folder outside beyond output new t
 does_failed disks OnDoor (Ok (Begins folder)) outside beyond input now output new does =
     init_failed disks folder outside beyond output new does.0
+does_failed disks OnDoor (Ok (Replays stories folder)) outside beyond input now output new does =
+    replay_failed disks stories folder outside beyond output new does.0
 
 disk_failed : {D : Type 0} (disks : DiskWords D) {OnDoor : OfDoor D} (asked : Asked)
     (outside beyond : OutsideState D) (input now : SourceState) (output new : SinkState)
@@ -297,6 +313,13 @@ door_in disks OnDoor (Ok (Begins folder)) outside beyond input now output new (i
         | inr wanted ↦ absurd (grind (arith, wanted))
       ]
     ]
+door_in disks OnDoor (Ok (Replays stories folder)) outside beyond input now output new
+    (inl none, doors) = not_lent_door disks _ outside beyond _ none
+door_in disks OnDoor (Ok (Replays stories folder)) outside beyond input now output new
+    (inr r, doors) = elim r.replays.does [
+      | inl t ↦ unsaid _ (λ e. absurd (grind (arith, e))) t.says
+      | inr n ↦ absurd (fault_no_door n.fault output new DoorFault n.says refl)
+    ]
 
 door_failed : {D : Type 0} (disks : DiskWords D) {OnDoor : OfDoor D} (asked : Asked)
     (outside beyond : OutsideState D) (input now : SourceState) (output new : SinkState)
@@ -325,6 +348,10 @@ failed_nine disks {OnDoor} asked status code outside beyond input now output new
     (subst
     (λ (s : Status). FollowsCommand disks OnDoor asked s outside beyond input now output new)
     (sym (nine status code is e)) follows)
+
+pub coded_zero : (status : Status) (code : ℕ) → status_of code ≡ Some status → code ≡ 0
+    → status ≡ Done
+coded_zero status code is e = cc
 
 pub coded_two : (status : Status) (code : ℕ) → status_of code ≡ Some status → code ≡ 2
     → status ≡ BadWords

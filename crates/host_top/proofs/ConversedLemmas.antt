@@ -1,20 +1,22 @@
 -- What `pipe` leaves of its disk, its input and its output, from what its host says as it is
 -- opened, serves and ends.
 use Rattle.std.proofs.Common.{◌≡◌, ◌⊎◌, ℕ, ◌+◌, ◌<◌, ◌≤◌, max, List, [], ◌∷◌, ◌++◌, length, map}
-use Rattle.std.proofs.Common.{take, sym, ap, ◌∙◌, subst, Bool, IsTrue, arith, refl}
+use Rattle.std.proofs.Common.{take, drop, IfSome, sym, ap, ◌∙◌, subst, Bool, IsTrue, arith, refl}
 use Rattle.std.proofs.lemmas.List.{length-map}
 use Rattle.std.proofs.Math.Seq.{take-append_seam}
 use Rattle.std.proofs.lemmas.Option.{same_Some}
+use Rattle.std.specs.Prelude.{Some, slice_get}
 use Rattle.disk_model.specs.Disk.{EachImage, LeavesOnly, SameDisk}
+use Rattle.disk_model.proofs.Moments.{and_then, weaker}
 use Rattle.gate_journal.specs.Log.{IsBetween, IsSinceOpened, Log, MayOpen, MaySpell, Opening, Rises}
-use Rattle.gate_journal.specs.Log.{rows_kept, rows_found, rows_of}
+use Rattle.gate_journal.specs.Log.{EndsInFaultOf, InTurn, rows_kept, rows_found, rows_of}
 use Rattle.gate_journal.proofs.LogLemmas.{rows_of-all}
 use Rattle.gate_journal.proofs.SinceLemmas.{rows_of-append}
 use Rattle.gate_journal.specs.Rows.{SpellsRows, IsJournal, journal_bytes}
 use Rattle.gate_journal.specs.declared.entry.Entry.{Entry as JournalEntry}
 use Rattle.gate_journal.specs.declared.row.Row.{Row}
 use Rattle.host_serve.specs.Chain.{AnswersInOrder}
-use Rattle.host_serve.specs.Ending.{AreAgreedDisks, EndsWith, GivesBack}
+use Rattle.host_serve.specs.Ending.{AreAgreedDisks, EndsWith, GivesBack, KeepFiles, KeepsFileOf}
 use Rattle.host_serve.specs.Hosts.{IsSound, rows_at_opening, opened_stores}
 use Rattle.host_serve.specs.Holders.{Holder, holder_at, holders, seen_at, seens}
 use Rattle.host_serve.specs.Opening.{AreAgreed, IsOpenedHost, IsStoreOf, histories_in_rows, roots}
@@ -33,7 +35,11 @@ use Rattle.story_run.specs.declared.story.Story.{Story}
 use Rattle.host_top.specs.Between.{ServesBetween}
 use Rattle.disk_model.specs.declared.disk.Disk.{Ghosts as DiskWords}
 use Rattle.host_top.specs.Folder.{AreSame}
-use Rattle.host_top.specs.Piped.{Conversed, IsStoreBack, StoresBack}
+use Rattle.host_top.specs.JournalBack.{JournalBack}
+use Rattle.host_top.specs.Piped.{Conversed, IsStoreBack, StoresBack, StaysSound}
+use Rattle.session_saves.specs.Agreement.{AgreesWithBeginning}
+use Rattle.session_saves.specs.Saves.{HasOpenSince}
+use Rattle.host_serve.proofs.StoreLemmas.{slot_since, zip_at}
 use Rattle.host_serve.proofs.AloneLemmas.{AreOwn, alone_there, many_histories, own_all, own_rows}
 use Rattle.host_top.proofs.MeetLemmas.{led_all, led_alone}
 
@@ -49,6 +55,9 @@ EndsOn {D} disks host passes back backs =
     disks.left_since log
     × (IsSound disks.tells disks.seen host
     → AreAgreedDisks disks.tells disks.may_leave host.stories.now (rows_of log.entries) backs)
+    × (IsSound disks.tells disks.seen host
+    → KeepFiles disks.moment disks.left_since host.stories.now (rows_at_opening host)
+    (rows_of log.entries) (opened_stores host) backs)
 
 -- the journal of a host that was opened had these rows then
 pub opened_rows : {D : Type 0} (stories : List Story) (budget : ℕ) (rows : List Row)
@@ -135,6 +144,40 @@ module _ {D : Type 0} (disks : DiskWords D) (given back : D) (givens backs : Lis
       ∙ ap (λ (es : List JournalEntry). rows_of (take (length (rows_kept rows)) es)) all_rows
       ∙ ap rows_of (take-append_seam (rows_kept rows) end.2.grows.0) ∙ rows_of-all rows
 
+  many : end.0.opening.found ≡ length rows
+  many = ap (λ (o : Opening D). o.found) opening
+
+  found_entries : take (length rows) end.0.entries ≡ rows_kept rows
+  found_entries =
+      let as_many : length rows ≡ length (rows_kept rows) = sym (length-map rows _) in
+      ap (λ (n : ℕ). take n end.0.entries) as_many
+      ∙ ap (λ (es : List JournalEntry). take (length (rows_kept rows)) es) all_rows
+      ∙ take-append_seam (rows_kept rows) end.2.grows.0
+
+  pub journal_back : JournalBack disks rows end.0.entries end.0.uncertain back
+  journal_back = record {
+    stands = end.3;
+    numbers = since.numbers;
+    opens = end.5;
+    owner =
+        subst (λ (n : ℕ).
+        IfSome end.0.uncertain (λ (r : Row). EndsInFaultOf r (drop n end.0.entries))) many
+        since.unsure;
+    start = end.0.start;
+    steps = end.0.steps;
+    in_turn =
+        subst (λ (d : D).
+        IsTrue (disks.tells d)
+        → InTurn disks.moment disks.left_since (rows_kept rows) end.0.start
+        (drop (length rows) end.0.entries) end.0.steps d) (sym end.1)
+        (λ told. subst (λ (es : List JournalEntry).
+        InTurn disks.moment disks.left_since es end.0.start (drop (length rows) end.0.entries)
+        end.0.steps end.0.disk) found_entries
+        (subst (λ (n : ℕ).
+        InTurn disks.moment disks.left_since (take n end.0.entries) end.0.start
+        (drop n end.0.entries) end.0.steps end.0.disk) many (since.in_turn told)));
+  }
+
   pub same_back : SameDisk disks.tells disks.room disks.label given back
   same_back =
       subst (λ (d : D). SameDisk disks.tells disks.room disks.label given d) (sym end.1)
@@ -181,16 +224,75 @@ module _ {D : Type 0} (disks : DiskWords D) (given back : D) (givens backs : Lis
     pub same_stores : AreSame disks givens backs
     same_stores = same_zip disks givens (opened_stores host) backs stores returned
 
-    pub stores_back : (AreAgreed disks.tells disks.seen stories (rows_at_opening host) givens
-        → IsSound disks.tells disks.seen host)
+    abbrev Agreed : Type 0
+    Agreed = AreAgreed disks.tells disks.seen stories (rows_at_opening host) givens
+        → IsSound disks.tells disks.seen host
+
+    is_sound : Agreed → AreAgreed disks.tells disks.seen stories rows givens
+        → IsSound disks.tells disks.seen host
+    is_sound sound agreed =
+        sound (subst (λ (rs : List Row). AreAgreed disks.tells disks.seen stories rs givens)
+        (sym at_opening) agreed)
+
+    -- the file of one session
+    stays : ((d : D) → disks.may_leave d (disks.seen d)) → Agreed
+        → AreAgreed disks.tells disks.seen stories rows givens
+        → AreAgreedDisks disks.tells disks.may_leave stories rows givens
+        → (s : ℕ) (given' back' : D) → slice_get givens s ≡ Some given'
+        → slice_get backs s ≡ Some back'
+        → StaysSound disks stories rows (rows_of end.0.entries) s given' back'
+    stays may_stay sound agreed each s given' back' there there' =
+        let after = rows_of end.0.entries in
+        let store =
+        zip_at (GivesBack disks.tells disks.faults disks.reach disks.room disks.label)
+        (opened_stores host) backs s back' returned there' in
+        let found =
+        zip_at (IsStoreOf disks.tells disks.may_leave disks.seen disks.moment disks.left_since
+        disks.faults disks.reach disks.room disks.label) givens (opened_stores host) s store.0
+        stores store.1 in
+        let same : found.0 ≡ given' = same_Some found.0 given' (sym found.1 ∙ there) in
+        let of =
+        subst (λ (d : D). IsStoreOf disks.tells disks.may_leave disks.seen disks.moment
+        disks.left_since disks.faults disks.reach disks.room disks.label d store.0) same
+        found.2 in
+        let told = (agreed s given' there).0 in
+        let looks = of.kept.moments told in
+        let kept =
+        subst (λ (x : List Story × List Row). KeepsFileOf disks.moment disks.left_since x.0 x.1
+        after s store.0 back') (λ i. (opened.stories i, at_opening i))
+        (end.9 (is_sound sound agreed) s store.0 back' store.1 there') in
+        record {
+          agreed =
+              and_then disks.moment disks.left_since given' store.0.disk back'
+              (AgreesWithBeginning stories after s)
+              (weaker disks.moment disks.left_since given' store.0.disk (disks.may_leave given')
+              (AgreesWithBeginning stories after s) looks
+              (λ file may. record {
+                first = rows;
+                more = rows_of end.2.grows.0;
+                all = grows;
+                agreed = each s given' there told file may;
+              }))
+              kept.agreed;
+          newest = λ none place least last has.
+              and_then disks.moment disks.left_since given' store.0.disk back'
+              (HasOpenSince place least)
+              (weaker disks.moment disks.left_since given' store.0.disk (disks.may_leave given')
+              (HasOpenSince place least) looks (λ file may. has told file may))
+              (kept.newest end.3 none place least last
+              (slot_since disks.tells disks.may_leave disks.seen disks.moment disks.left_since
+              disks.faults disks.reach disks.room disks.label given' store.0 place least of told
+              (has told (disks.seen given') (may_stay given'))));
+        }
+
+    pub stores_back : ((d : D) → disks.may_leave d (disks.seen d)) → Agreed
         → StoresBack disks stories rows (rows_of end.0.entries) givens backs
-    stores_back sound = record {
+    stores_back may_stay sound = record {
       each = back_zip disks givens (opened_stores host) backs stores returned;
       agreed =
           λ agreed. subst (λ (s : List Story). AreAgreedDisks disks.tells disks.may_leave s
-          (rows_of end.0.entries) backs) opened.stories
-          (end.8 (sound (subst (λ (rs : List Row). AreAgreed disks.tells disks.seen stories rs
-          givens) (sym at_opening) agreed)));
+          (rows_of end.0.entries) backs) opened.stories (end.8 (is_sound sound agreed));
+      meanwhile = stays may_stay sound;
     }
 
   -- ---- the lines between the two
@@ -259,8 +361,11 @@ module _ {D : Type 0} (disks : DiskWords D) (given back : D) (givens backs : Lis
       faults = counts;
       accepted =
           λ s below. sym (commands_in-history end.0.entries s) ∙ ap commands_in (entries s below);
+      more = rows_of end.2.grows.0;
+      grows = grows;
       uncertain = end.0.uncertain;
       images = end.4;
+      left = journal_back;
       meanwhile = meanwhile;
       reaches = reaches;
       stores = stores;

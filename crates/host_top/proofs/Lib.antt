@@ -3,8 +3,13 @@ pub mod SpeechLemmas
 pub mod StoriesLemmas
 pub mod ServedLemmas
 pub mod WrittenLemmas
+pub mod ReplayLemmas
 pub mod ToldLemmas
 pub mod CauseLemmas
+pub mod CompleteLemmas
+pub mod HasCauseLemmas
+pub mod WritesLemmas
+pub mod CallsLemmas
 pub mod StopLemmas
 pub mod OutsideLemmas
 pub mod BorrowLemmas
@@ -17,5 +22,9 @@ pub mod FolderLemmas
 pub mod UsedLemmas
 pub mod MeetLemmas
 pub mod ConversedLemmas
+pub mod CrewLemmas
+pub mod AddedLemmas
+pub mod RejoinLemmas
+pub mod IdleLemmas
 pub mod DoorLemmas
 pub mod LinksLemmas

@@ -1,6 +1,6 @@
 -- What `serve` leaves of its disk, its output and its doors, from what its host says as it is
 -- opened and ends.
-use Rattle.std.proofs.Common.{◌≡◌, ◌⊎◌, inl, inr, ℕ, List, length, refl, sym}
+use Rattle.std.proofs.Common.{◌≡◌, ◌⊎◌, inl, inr, ℕ, List, [], length, refl, sym}
 use Rattle.std.proofs.Common.{◌∙◌, subst, arith, IsTrue}
 use Rattle.gate_journal.specs.Log.{rows_of}
 use Rattle.gate_journal.specs.Rows.{SpellsRows}
@@ -28,7 +28,8 @@ use Rattle.host_top.specs.Status.{status_of_stop}
 use Rattle.host_top.specs.declared.door_call.DoorCall.{DoorCall}
 use Rattle.host_top.specs.declared.status.Status.{Status}
 use Rattle.host_top.specs.declared.status.Status.TheVariants as ends
-use Rattle.host_top.proofs.ConversedLemmas.{EndsOn, counts, grows, meanwhile, reaches}
+use Rattle.host_top.proofs.ConversedLemmas.{EndsOn, counts, grows, journal_back, meanwhile}
+use Rattle.host_top.proofs.ConversedLemmas.{reaches}
 
 -- ---- the journal
 
@@ -40,12 +41,13 @@ pub links_served : {D : Type 0} (disks : DiskWords D) (OnDoor : OfDoor D) (given
     → (input : SourceState) (output : SinkState) (status : Status)
     → (status ≡ ends.Done) ⊎ (status ≡ ends.DoorFault) ⊎ (status ≡ ends.NoMemory)
     → (IsTrue (disks.tells given) → SpellsRows (disks.seen given) rows)
-    → (status ≡ ends.Done → OnDoor stories budget workers rows givens end.0.entries)
+    → OnDoor status stories budget workers rows givens end.0.entries
+    → (status ≡ ends.NoMemory → rows_of end.2.grows.0 ≡ [])
     → StoresBack disks stories rows (rows_of end.0.entries) givens backs
     → LinksServed disks OnDoor stories budget workers given givens back backs input input output
     output status
 links_served disks OnDoor given back givens backs stories budget workers rows host first last
-    opened end input output status how spells served stores = record {
+    opened end input output status how spells served idle stores = record {
       how = how;
       gave = gave_none input;
       wrote = wrote_none output;
@@ -55,9 +57,12 @@ links_served disks OnDoor given back givens backs stories budget workers rows ho
       journal = end.0.entries;
       more = rows_of end.2.grows.0;
       grows = grows disks given back givens backs stories budget rows host first last opened end;
+      idle = idle;
       faults = counts disks given back givens backs stories budget rows host first last opened end;
       uncertain = end.0.uncertain;
       images = end.4;
+      left =
+          journal_back disks given back givens backs stories budget rows host first last opened end;
       meanwhile =
           meanwhile disks given back givens backs stories budget rows host first last opened end;
       reaches =

@@ -12,7 +12,8 @@ use Rattle.host_serve.specs.Serves.{MayMeetIn, AnsweredLine, turned_again}
 use Rattle.host_serve.proofs.AloneLemmas.{AreMetBy, met_all}
 use Rattle.host_serve.proofs.ChainLemmas.{answer_wide}
 use Rattle.session_core.specs.Hosts.{entries_of, session_on}
-use Rattle.session_core.specs.Turning.{MayMeet, Turned, turn_in}
+use Rattle.host_serve.specs.Said.{turn_said_in}
+use Rattle.session_core.specs.Turning.{MayMeet, Turned}
 use Rattle.session_core.specs.declared.entry.Entry.{Entry}
 use Rattle.session_core.specs.declared.entry.Outcome.{Outcome}
 use Rattle.session_core.specs.declared.entry.Outcome.TheVariants.{OutOfMemory}
@@ -52,14 +53,14 @@ module _ (stories : List Story) (budget : ℕ) where
 
   -- and so is one whose reading found no memory
   wanted_memory : (h : List Entry) (now : Option WorldState) (line : List ℕ)
-      → (turn_in stories budget h now 0 line OutOfMemory).history ≡ h
-  unfolding turn_in
+      → (turn_said_in stories budget h now 0 line OutOfMemory).history ≡ h
+  unfolding turn_said_in
   wanted_memory h now line = refl
 
   same_wanted : (h g : List Entry) (now : Option WorldState) (line : List ℕ)
-      → (turn_in stories budget h now 0 line OutOfMemory).reply
-      ≡ (turn_in stories budget g now 0 line OutOfMemory).reply
-  unfolding turn_in
+      → (turn_said_in stories budget h now 0 line OutOfMemory).reply
+      ≡ (turn_said_in stories budget g now 0 line OutOfMemory).reply
+  unfolding turn_said_in
   same_wanted h g now line = refl
 
   may_want : (accepted : Option Command) → MayMeet accepted OutOfMemory
@@ -76,11 +77,11 @@ module _ (stories : List Story) (budget : ℕ) where
             (sym wanted) (may_want (decision_held stories budget old t).accepted);
         said =
             n.reply ∙ subst (λ (o : Outcome).
-            (turn_in stories budget [] t.world 0 t.line o).reply
-            ≡ (turn_in stories budget h t.world 0 t.line o).reply) (sym wanted)
+            (turn_said_in stories budget [] t.world 0 t.line o).reply
+            ≡ (turn_said_in stories budget h t.world 0 t.line o).reply) (sym wanted)
             (same_wanted [] h t.world t.line);
         after = n.seen ∙ sym (ap (λ (x : List Entry). set old (session_on t.line) x)
-            (subst (λ (o : Outcome). (turn_in stories budget h t.world 0 t.line o).history ≡ h)
+            (subst (λ (o : Outcome). (turn_said_in stories budget h t.world 0 t.line o).history ≡ h)
             (sym wanted) (wanted_memory h t.world t.line))
             ∙ set-get_or old (session_on t.line) []);
       }

@@ -14,7 +14,7 @@ use Rattle.host_top.specs.declared.stories.Refusal.{Refusal}
 use Rattle.host_drill.specs.Drill.{drill_text}
 use Rattle.command_words.specs.declared.words.Action.{Action}
 use Rattle.command_words.specs.declared.words.Action.TheVariants.{Run, Check, Pipe, Serve, Drill}
-use Rattle.command_words.specs.declared.words.Action.TheVariants.{Init, Help, Version}
+use Rattle.command_words.specs.declared.words.Action.TheVariants.{Init, Replay, Help, Version}
 use Rattle.host_top.specs.Borrowed.{journal_in, snaps_below}
 use Rattle.host_top.specs.Files.{OutsideState, KeepsDisks, KeepsDoors, Told}
 use Rattle.host_top.specs.Follows.{DoesTask, FollowsCommand, TellsCaller, WritesFor}
@@ -25,7 +25,8 @@ use Rattle.host_top.specs.Headline.{Speech, WritesOf, whole_text}
 use Rattle.command_words.specs.Help.{help_text, version_text}
 use Rattle.line_talk.specs.Lines.{lines, talk, IsWithinLimits}
 use Rattle.disk_model.specs.declared.disk.Disk.{Ghosts as DiskWords}
-use Rattle.host_top.specs.Speech.{Task, Says, Serves, ServesLinks, Begins, tasked}
+use Rattle.host_top.specs.Replayed.{WritesReplayed}
+use Rattle.host_top.specs.Speech.{Task, Says, Serves, ServesLinks, Begins, Replays, tasked}
 use Rattle.host_top.specs.Status.{status_of}
 use Rattle.host_top.specs.Spoken.{Spoken, SpeechLeaves}
 use Rattle.host_top.specs.Stories.{stories_of}
@@ -37,6 +38,7 @@ use Rattle.line_talk.specs.Writing.{IsPartOf}
 use Rattle.line_talk.proofs.LinesLemmas.{still_reached, talk_settled, talk_first}
 use Rattle.host_top.proofs.ServedLemmas.{WroteSome, consumed, nothing_left, pipe_told}
 use Rattle.host_top.proofs.WrittenLemmas.{never_begun, init_told, links_told}
+use Rattle.host_top.proofs.ReplayLemmas.{replay_told}
 use Rattle.host_top.proofs.LinksLemmas.{no_doors}
 use Rattle.host_top.proofs.LoansLemmas.{doors_none, keeps_none}
 use Rattle.host_top.proofs.UsedLemmas.{not_lent, takes_lent}
@@ -119,6 +121,7 @@ IsSteadyTask (Ok (Says speech)) = IsSteady speech
 IsSteadyTask (Ok (Serves stories budget folder)) = Unit {0}
 IsSteadyTask (Ok (ServesLinks stories budget folder serving)) = Unit {0}
 IsSteadyTask (Ok (Begins folder)) = Unit {0}
+IsSteadyTask (Ok (Replays stories folder)) = Unit {0}
 IsSteadyTask (Err line) = Unit {0}
 
 steady : (action : Action) (found : Result (List Story) Refusal) (budget : ℕ) (folder : List ℕ)
@@ -128,6 +131,7 @@ steady Check (Ok stories) budget folder = steady_check (slice_get stories 0)
 steady Pipe (Ok stories) budget folder = tt
 steady (Serve serving) (Ok stories) budget folder = tt
 steady Init (Ok stories) budget folder = tt
+steady Replay (Ok stories) budget folder = tt
 steady (Drill number) (Ok stories) budget folder = steady_once (drill_text number)
 steady (Help topic) (Ok stories) budget folder = steady_once (help_text topic)
 steady Version (Ok stories) budget folder = steady_once version_text
@@ -197,6 +201,10 @@ held_on disks OnDoor (Ok (Begins folder)) s bytes held outside beyond input now 
     does left_is held_is =
     held_so held _ held_is
     (init_told disks folder outside beyond input now output new status does.0)
+held_on disks OnDoor (Ok (Replays stories folder)) s bytes held outside beyond input now output new
+    status does left_is held_is =
+    held_so held _ held_is
+    (replay_told disks stories folder outside beyond input now output new status does.0)
 
 nothing_tells : {D : Type 0} (disks : DiskWords D) (disk : List ℕ → Told D) (status : Status)
     (P : Type 0) (task : Result Task (List ℕ)) (input : List ℕ)
@@ -213,6 +221,9 @@ nothing_tells disks disk status P (Ok (ServesLinks stories budget folder serving
 nothing_tells disks disk status P (Ok (Begins folder)) input c =
     never_begun (λ (s : Status). WritesBegun s disks (disk (journal_in folder)) []) ReadFault status
     P refl (inl (ready, refl)) c
+nothing_tells disks disk status P (Ok (Replays stories folder)) input c =
+    never_begun (λ (s : Status). WritesReplayed s disks stories (disk (journal_in folder)) [])
+    ReadFault status P refl (inl refl) c
 
 -- the disks that are told are those from before the loads
 same_told : {D : Type 0} (disks : DiskWords D) (old new : List ℕ → Told D) (status : Status)
@@ -279,6 +290,8 @@ does_nothing disks OnDoor (Ok (ServesLinks stories budget folder serving)) outsi
   no_doors outside NoMemory (λ e. cc) (λ e. cc),
 )
 does_nothing disks OnDoor (Ok (Begins folder)) outside input output =
+    (inl (not_lent disks (journal_in folder ∷ []) outside input output), doors_none outside)
+does_nothing disks OnDoor (Ok (Replays stories folder)) outside input output =
     (inl (not_lent disks (journal_in folder ∷ []) outside input output), doors_none outside)
 
 -- where memory was wanted before a file was loaded, each caller is told so

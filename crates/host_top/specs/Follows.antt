@@ -10,8 +10,10 @@ use Rattle.host_top.specs.Headline.{WritesOf}
 use Rattle.disk_model.specs.declared.disk.Disk.{Ghosts as DiskWords}
 use Rattle.host_top.specs.LinksServed.{DoorsBy, ServesOver, WritesLinks}
 use Rattle.host_top.specs.Piped.{PipesOver}
+use Rattle.host_top.specs.Replayed.{ReplaysOn, WritesReplayed}
 use Rattle.host_top.specs.Served.{WritesServed}
-use Rattle.host_top.specs.Speech.{Task, Says, Serves, ServesLinks, Begins, door_call, tasked}
+use Rattle.host_top.specs.Speech.{Task, Says, Serves, ServesLinks, Begins, Replays, door_call}
+use Rattle.host_top.specs.Speech.{tasked}
 use Rattle.host_top.specs.Spoken.{Spoken}
 use Rattle.host_top.specs.Stories.{stories_of, AreFiles, IsLoadSettled, LoadStopsBehind}
 use Rattle.line_talk.specs.Streams.{SourceState, SinkState, Gave, Wrote}
@@ -46,6 +48,9 @@ DoesTask disks OnDoor (Ok (ServesLinks stories budget folder serving)) outside b
     × DoorsBy (door_call serving) outside beyond status
 DoesTask disks OnDoor (Ok (Begins folder)) outside beyond input now output new status =
     InitsOn disks folder outside beyond input now output new status × KeepsDoors outside beyond
+DoesTask disks OnDoor (Ok (Replays stories folder)) outside beyond input now output new status =
+    ReplaysOn disks stories folder outside beyond input now output new status
+    × KeepsDoors outside beyond
 
 -- a load failed behind stories alone, or memory was wanted; and nothing was read or written
 pub record NotLoaded {D : Type 0} (names : List (List ℕ)) (outside beyond : OutsideState D)
@@ -91,6 +96,8 @@ WritesFor disks disk status (Ok (ServesLinks stories budget folder serving)) byt
     WritesLinks status disks (disk (journal_in folder)) written
 WritesFor disks disk status (Ok (Begins folder)) bytes written =
     WritesBegun status disks (disk (journal_in folder)) written
+WritesFor disks disk status (Ok (Replays stories folder)) bytes written =
+    WritesReplayed status disks stories (disk (journal_in folder)) written
 
 -- what an output holds then, for a caller who is told its bytes, the files and the input
 abbrev pub TellsCaller : {D : Type 0} → DiskWords D → Asked → Status → OutsideState D → SourceState

@@ -2,6 +2,7 @@ pub mod Headline
 pub mod Speech
 pub mod RunText
 pub mod Between
+pub mod JournalBack
 pub mod Piped
 pub mod Served
 pub mod Begun
@@ -14,10 +15,17 @@ pub mod Stories
 pub mod StoryFile
 pub mod Status
 pub mod Follows
+pub mod Complete
+pub mod Scene
+pub mod Causes
+pub mod Writes
+pub mod Calls
 pub mod Spoken
 pub mod Plain
 pub mod Files
 pub mod MemoryOutside
 pub mod MemoryState
+pub mod Rejoining
 pub mod DoorServed
 pub mod LinksServed
+pub mod Replayed

@@ -11,6 +11,7 @@ use Rattle.line_talk.specs.Streams.{SourceState, SinkState, Gave, Wrote}
 use Rattle.disk_model.specs.declared.disk.Disk.{Ghosts as DiskWords}
 use Rattle.host_top.specs.DoorServed.{OfDoor}
 use Rattle.host_top.specs.Files.{OutsideState, Told, after_call, after_one}
+use Rattle.host_top.specs.JournalBack.{JournalBack}
 use Rattle.host_top.specs.Piped.{HostedOver, StoresBack}
 use Rattle.host_top.specs.Served.{BeginsRefusal, RefusesJournal}
 use Rattle.host_top.specs.declared.door_call.DoorCall.{DoorCall}
@@ -19,8 +20,7 @@ use Rattle.host_top.specs.declared.status.Status.{Status}
 use Rattle.host_top.specs.declared.status.Status.TheVariants as ends
 
 -- The links of a door were served by so many workers until it was shut, or the door failed, or
--- memory was wanted first; and what a stop leaves of the disks handed back. Where a door failed
--- nothing is said of what was answered.
+-- memory was wanted first; and what a stop leaves of the disks handed back.
 pub record LinksServed {D : Type 0} (disks : DiskWords D) (Serves : OfDoor D)
     (stories : List Story) (budget workers : ℕ) (given : D) (givens : List D) (back : D)
     (backs : List D) (input now : SourceState) (output new : SinkState) (status : Status)
@@ -34,14 +34,17 @@ pub record LinksServed {D : Type 0} (disks : DiskWords D) (Serves : OfDoor D)
   -- with those handed in; the counts of the faults rise, from the disk's as it was handed in to the
   -- disk's as it was handed back
   pub journal : List JournalEntry
-  pub served : status ≡ ends.Done → Serves stories budget workers rows givens journal
+  pub served : Serves status stories budget workers rows givens journal
   pub more : List Row
   pub grows : rows_of journal ≡ rows ++ more
+  -- where memory was wanted there is no row more
+  pub idle : status ≡ ends.NoMemory → more ≡ []
   pub faults : Rises (disks.faults given) journal (disks.faults back)
   -- each image spells these rows, or these and the one row whose gate is uncertain
   pub uncertain : Option Row
   pub images :
       EachImage disks.tells disks.may_leave back (MaySpell (rows_of journal) uncertain)
+  pub left : JournalBack disks rows journal uncertain back
   -- meanwhile an image is one that the opening may meet, or spells the rows handed in and the first
   -- of those that were accepted since, or these and one row more
   pub meanwhile :

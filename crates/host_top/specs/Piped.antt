@@ -1,12 +1,12 @@
 -- What `pipe` leaves of the disks of a folder, of its input and of its output (own).
 use Rattle.std.specs.Prelude.{◌≡◌, ◌⊎◌, ℕ, ◌+◌, ◌^◌, ◌<◌, ◌≤◌, max, IsTrue, List, [], ◌∷◌, length}
-use Rattle.std.specs.Prelude.{Option, map, slice_set}
+use Rattle.std.specs.Prelude.{Option, map, slice_set, ◌++◌, Some, slice_get}
 use Rattle.std.specs.List.{AllZip}
-use Rattle.disk_model.specs.Disk.{EachImage, LeavesOnly}
+use Rattle.disk_model.specs.Disk.{EachImage, LeavesOnly, OnlyLooks}
 use Rattle.gate_journal.specs.declared.entry.Entry.{Entry as JournalEntry}
 use Rattle.gate_journal.specs.declared.row.Row.{Row}
 use Rattle.gate_journal.specs.declared.fault.JournalFault.{JournalFault}
-use Rattle.gate_journal.specs.Faults.{HasCause, Explains}
+use Rattle.gate_journal.specs.Faults.{HasCause, Explains, IsNoFault}
 use Rattle.gate_journal.specs.Log.{IsBetween, MayOpen, MaySpell, ReachesGate, Rises, rows_of}
 use Rattle.gate_journal.specs.Rows.{SpellsRows, IsJournal, commands_of, journal_bytes}
 use Rattle.host_serve.specs.Ending.{AreAgreedDisks}
@@ -14,16 +14,21 @@ use Rattle.host_serve.specs.Opening.{AreAgreed, histories_in_rows}
 use Rattle.host_serve.specs.Serves.{AnsweredLine}
 use Rattle.host_serve.specs.Told.{AnsweredOf, WritesReplies}
 use Rattle.host_serve.specs.declared.served.Served.{Served}
-use Rattle.session_core.specs.Hosts.{AreMet, entries_of, histories_met, replies_met, session_on}
-use Rattle.session_core.specs.Turning.{MayMeet, Turned, commands_in, decision_in, turn_in}
+use Rattle.host_serve.specs.Alone.{AreMet, histories_met, replies_met}
+use Rattle.host_serve.specs.Said.{said_in, turn_said_in}
+use Rattle.session_core.specs.Hosts.{entries_of, session_on}
+use Rattle.session_core.specs.Turning.{MayMeet, Turned, commands_in}
 use Rattle.session_core.specs.declared.decision.Decision.{Decision}
 use Rattle.session_core.specs.declared.entry.Entry.{Entry}
 use Rattle.session_desk.specs.Turn.{history_in}
+use Rattle.session_saves.specs.Agreement.{AgreesWithBeginning, last_row, opens_of}
+use Rattle.session_saves.specs.Saves.{HasOpenSince}
 use Rattle.story_run.specs.declared.story.Story.{Story}
 use Rattle.disk_model.specs.declared.disk.Disk.{Ghosts as DiskWords}
 use Rattle.host_top.specs.Folder.{LetsGo, StoreFails}
 use Rattle.host_top.specs.declared.folder.Back.{Back}
 use Rattle.host_top.specs.declared.folder.Back.TheVariants.{All, Journal, Snap, Nothing}
+use Rattle.host_top.specs.JournalBack.{JournalBack}
 use Rattle.host_top.specs.Said.{SaysFault}
 use Rattle.host_top.specs.Status.{status_of_served}
 use Rattle.line_talk.specs.Streams.{SourceState, SinkState, Gave, Wrote}
@@ -43,13 +48,13 @@ HasEntries journal histories =
 -- host held of that session
 abbrev pub turn_held : List Story → ℕ → List (List Entry) → AnsweredLine → Turned
 turn_held stories budget histories t =
-    turn_in stories budget (entries_of histories (session_on t.line)) t.world 0 t.line t.outcome
+    turn_said_in stories budget (entries_of histories (session_on t.line)) t.world 0 t.line
+    t.outcome
 
--- and what the session decides on it
+-- and what the session says to it
 abbrev pub decision_held : List Story → ℕ → List (List Entry) → AnsweredLine → Decision
 decision_held stories budget histories t =
-    decision_in stories budget (commands_in (entries_of histories (session_on t.line))) t.world
-    t.line
+    said_in stories budget (commands_in (entries_of histories (session_on t.line))) t.world t.line
 
 -- the turns of lines, one after the other, lead from these histories to those
 abbrev pub Lead : List Story → ℕ → List (List Entry) → List AnsweredLine → List (List Entry)
@@ -81,13 +86,32 @@ pub record IsStoreBack {D : Type 0} (disks : DiskWords D) (given back : D) : Typ
   pub counts : disks.faults given ≤ disks.faults back
   pub reaches : disks.reach back ≤ max (disks.reach given) 16781344
 
--- and so do those of all stores; where they were sound, each image agrees with these rows
+-- A session's snapshot file, from the disk handed in to the one handed back. Each image that a stop
+-- may leave since then agrees with the first of the rows put back. While no OPEN of the session
+-- comes, an open area of its last game is never lost.
+pub record StaysSound {D : Type 0} (disks : DiskWords D) (stories : List Story)
+    (rows after : List Row) (s : ℕ) (given back : D) : Type 0 where
+  pub agreed :
+      LeavesOnly disks.moment disks.left_since given back (AgreesWithBeginning stories after s)
+  pub newest :
+      opens_of after s ≡ opens_of rows s
+      → (place least : ℕ) → last_row (opens_of after s) ≡ Some place
+      → EachImage disks.tells disks.may_leave given (HasOpenSince place least)
+      → LeavesOnly disks.moment disks.left_since given back (HasOpenSince place least)
+
+-- The disks of all stores come back. Where they were sound, each image of them agrees with the rows
+-- of the journal put back; and where each image handed in agreed, the files stay sound meanwhile.
 pub record StoresBack {D : Type 0} (disks : DiskWords D) (stories : List Story)
     (rows after : List Row) (givens backs : List D) : Type 0 where
   pub each : AllZip (IsStoreBack disks) givens backs
   pub agreed :
       AreAgreed disks.tells disks.seen stories rows givens
       → AreAgreedDisks disks.tells disks.may_leave stories after backs
+  pub meanwhile :
+      AreAgreed disks.tells disks.seen stories rows givens
+      → AreAgreedDisks disks.tells disks.may_leave stories rows givens
+      → (s : ℕ) (given back : D) → slice_get givens s ≡ Some given → slice_get backs s ≡ Some back
+      → StaysSound disks stories rows after s given back
 
 -- The lines that were answered, from the sessions of the journal handed in, each by what its turn
 -- met; what was written; and what a stop leaves of the disks handed back.
@@ -118,10 +142,14 @@ pub record Conversed {D : Type 0} (disks : DiskWords D) (stories : List Story) (
   pub entries : HasEntries journal histories
   pub faults : Rises (disks.faults given) journal (disks.faults back)
   pub accepted : HaveCommands (rows_of journal) histories
+  -- its rows are those handed in, and more behind them
+  pub more : List Row
+  pub grows : rows_of journal ≡ rows ++ more
   -- each image spells these rows, or these and the one row whose gate is uncertain
   pub uncertain : Option Row
   pub images :
       EachImage disks.tells disks.may_leave back (MaySpell (rows_of journal) uncertain)
+  pub left : JournalBack disks rows journal uncertain back
   -- meanwhile an image is one that the opening may meet, or spells the rows handed in and the first
   -- of those that were accepted since, or these and one row more
   pub meanwhile :
@@ -141,6 +169,12 @@ pub record NotOpened {D : Type 0} (disks : DiskWords D) (given back : D)
   pub fault : JournalFault
   pub explains : IsTrue (disks.tells given) → Explains (disks.seen given) fault
   pub cause : HasCause (disks.faults given) (disks.faults back) fault
+  -- unless the disk failed it was only looked at
+  pub looked :
+      IsNoFault fault
+      → OnlyLooks disks.tells disks.may_leave disks.moment disks.left_since disks.reach disks.room
+      disks.label given back
+      × (IsTrue (disks.tells given) → disks.seen back ≡ disks.seen given)
   pub gave : Gave input now []
   pub says : SaysFault fault output new status
   pub images :

@@ -50,7 +50,7 @@ AreSound {D} disks stories disk folder rows =
     (IsAgreedFile stories (opens_of rows s) (game_of (commands_of rows s))))
 
 -- each of these lines has one reply, by what its turn met, from the sessions of the journal's rows;
--- where the folder's stores are sound, that of `turn_of`
+-- where the folder's stores are sound, that of `turn_said_on`
 pub record WritesTurns {D : Type 0} (disks : DiskWords D) (stories : List Story) (budget : ℕ)
     (disk : List ℕ → Told D) (folder input written : List ℕ) (how : Served) : Type 0 where
   pub rows : List Row

@@ -12,7 +12,7 @@ use Rattle.host_top.specs.StoryFile.{bad_line}
 use Rattle.host_top.specs.declared.stories.Refusal.{Refusal}
 use Rattle.command_words.specs.declared.words.Action.{Action}
 use Rattle.command_words.specs.declared.words.Action.TheVariants.{Run, Check, Pipe, Init, Help}
-use Rattle.command_words.specs.declared.words.Action.TheVariants.{Serve, Drill, Version}
+use Rattle.command_words.specs.declared.words.Action.TheVariants.{Serve, Replay, Drill, Version}
 use Rattle.command_words.specs.declared.words.Serving.{Serving}
 use Rattle.host_top.specs.declared.door_call.DoorCall.{DoorCall}
 
@@ -39,12 +39,14 @@ abbrev pub door_call : Serving → DoorCall
 door_call serving = record { port = serving.port; links = serving.links }
 
 -- what a command does: it says a text, serves these stories with this budget from a folder to its
--- input, or to the links of a door, or makes the stores of a folder and begins its journal
+-- input, or to the links of a door, or makes the stores of a folder and begins its journal, or says
+-- what the players of a folder were shown
 pub data Task : Type 0 where
   Says : Speech → Task
   Serves : List Story → ℕ → List ℕ → Task
   ServesLinks : List Story → ℕ → List ℕ → Serving → Task
   Begins : List ℕ → Task
+  Replays : List Story → List ℕ → Task
 
 -- what a command does over its stories, with a budget, on a folder
 abbrev pub task_of : Action → List Story → ℕ → List ℕ → Task
@@ -53,6 +55,7 @@ task_of Check stories budget folder = Says (check_speech (slice_get stories 0))
 task_of Pipe stories budget folder = Serves stories budget folder
 task_of (Serve serving) stories budget folder = ServesLinks stories budget folder serving
 task_of Init stories budget folder = Begins folder
+task_of Replay stories budget folder = Replays stories folder
 task_of (Drill number) stories budget folder = Says (said_once (drill_text number))
 task_of (Help topic) stories budget folder = Says (said_once (help_text topic))
 task_of Version stories budget folder = Says (said_once version_text)

@@ -17,6 +17,7 @@ mod pipe;
 mod player;
 mod program;
 mod refuse;
+mod replay;
 mod run;
 mod say;
 mod serve;

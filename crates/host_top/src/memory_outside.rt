@@ -272,6 +272,10 @@ impl Outside for MemoryOutside {
         Ok(MemoryDoor::new())
     }
 
+    fn only_look(&mut self) {}
+
+    fn progress(&mut self, _left: usize, _all: usize) {}
+
     fn closed(&mut self, how: Worked<MemoryDoor>)
         ensures value { Closes how (memory_state self.old) (memory_state self.new) }
         ensures others { (loads_due self.new ≡ loads_due self.old)

@@ -104,6 +104,20 @@ pub trait Outside {
         ensures files { KeepsFiles (outside self.old) (outside self.new) }
         ensures disks { KeepsDisks (outside self.old) (outside self.new) };
 
+    /// Is told that the disks that it lends from now on are only looked at.
+    fn only_look(&mut self)
+        ensures value { outside self.new ≡ outside self.old }
+        ensures others { (failing_loads self.new ≡ failing_loads self.old)
+            × (failing_loans self.new ≡ failing_loans self.old)
+            × (failing_doors self.new ≡ failing_doors self.old) };
+
+    /// Is told how many of all games are left to be played.
+    fn progress(&mut self, left: usize, all: usize)
+        ensures value { outside self.new ≡ outside self.old }
+        ensures others { (failing_loads self.new ≡ failing_loads self.old)
+            × (failing_loans self.new ≡ failing_loans self.old)
+            × (failing_doors self.new ≡ failing_doors self.old) };
+
     /// Is told how the work at a door ended.
     fn closed(&mut self, how: Worked<Self::Door>)
         ensures value { Closes how (outside self.old) (outside self.new) }

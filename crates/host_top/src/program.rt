@@ -9,6 +9,11 @@ ghost use Rattle.command_words.specs.Words.{command_asked, asked_by};
 ghost use Rattle.host_top.specs.Speech.{tasked};
 ghost use Rattle.host_top.specs.Stories.{stories_of};
 ghost use Rattle.host_top.specs.Follows.{DoesTask, FollowsCommand, TellsCaller};
+ghost use Rattle.host_top.specs.Calls.{AreThere, NoneIsListed};
+ghost use Rattle.host_top.specs.Causes.{HasCause};
+ghost use Rattle.host_top.specs.Complete.{IsInOrder, NoneRose};
+ghost use Rattle.host_top.specs.Scene.{scene};
+ghost use Rattle.host_top.specs.Writes.{WritesAll};
 
 use crate::check::check;
 use crate::drill::drill;
@@ -17,6 +22,7 @@ use crate::once::say_once;
 use crate::outside::{Fetch, Outside};
 use crate::pipe::pipe;
 use crate::refuse::refuse;
+use crate::replay::replay;
 use crate::run::run;
 use crate::serve::serve;
 use crate::status::Status;
@@ -75,6 +81,7 @@ fn act<R: Threads + Wait + Sync, O: Outside, S: Source, K: Sink>(
                 rt, alloc, &stories, budget, folder, serving, outside, output,
             )
         }
+        Action::Replay => replay(rt, alloc, &stories, command.folder, outside, output),
         Action::Drill(number) => drill(rt, alloc, number, output),
         Action::Help(topic) => say_once(help_text(topic).as_bytes(), output),
         Action::Version => say_once(VERSION_TEXT.as_bytes(), output),
@@ -96,6 +103,10 @@ fn follow<R: Threads + Wait + Sync, O: Outside, S: Source, K: Sink>(
         (O.outside outside.old) (O.outside outside.new) (S.source input.old) (S.source input.new)
         (K.sink output.old) (K.sink output.new) }
     ensures bad_words { ¬ (result ≡ Status.BadWords) }
+    ensures unprovoked { NoneIsListed (O.failing_loads outside.old)
+        → AreThere (O.outside outside.old).file (command_asked command.entry).names
+        → result ≡ Status.ReadFault
+        → Rose (S.source input.old).faults (S.source input.new).faults }
     ensures read_fault { result ≡ Status.ReadFault
         → Rose (O.outside outside.old).faults (O.outside outside.new).faults
         ⊎ Rose (S.source input.old).faults (S.source input.new).faults }
@@ -121,27 +132,29 @@ pub fn top<R: Threads + Wait + Sync, O: Outside, S: Source, K: Sink>(
     output: &mut K,
 ) -> u8
     // 2 comes exactly where the words aren't taken, unless memory was wanted before that was known,
-    // and nothing is read or written then
+    // and nothing is read, written, loaded or lent then, and no door opened
     ensures bad_words { result ≡ 2 → asked_by (map string_bytes words.now) ≡ None }
     ensures untaken { asked_by (map string_bytes words.now) ≡ None
         → (result ≡ 2) ⊎ (result ≡ 7) }
     ensures nothing { asked_by (map string_bytes words.now) ≡ None
-        → Gave (S.source input.old) (S.source input.new) []
+        → (O.outside outside.new ≡ O.outside outside.old)
+        × Gave (S.source input.old) (S.source input.new) []
         × Wrote (K.sink output.old) (K.sink output.new) [] }
 
-    // what was asked is done as far as the status says
-    ensures done { IfSome (asked_by (map string_bytes words.now)) (λ asked.
-        IsSomeAnd (status_of result) (λ status. FollowsCommand O.Disk.Disk
-        (HostServes O.Door.Door O.Door.Conn.source O.Door.Conn.sink O.Door.Conn.lent O.Disk.Disk)
-        asked status (O.outside outside.old) (O.outside outside.new) (S.source input.old)
-        (S.source input.new) (K.sink output.old) (K.sink output.new))) }
+    // where it ends with 0, what each command writes, for a caller who is told the files, the input
+    // and what the output holds: of `pipe` the replies of stories that are run alone
+    ensures writes { IfSome (asked_by (map string_bytes words.now)) (λ asked. result ≡ 0
+        → WritesAll O.Disk.Disk asked
+        (scene (O.outside outside.old) (S.source input.old) (K.sink output.old))
+        (scene (O.outside outside.new) (S.source input.new) (K.sink output.new))) }
 
-    // and in plain words, for a caller who is told the files, the input and what the output holds
-    ensures told { IfSome (asked_by (map string_bytes words.now)) (λ asked.
-        IsSomeAnd (status_of result) (λ status. TellsCaller O.Disk.Disk asked status
-        (O.outside outside.old) (S.source input.old) (K.sink output.old) (K.sink output.new))) }
+    // each status has its cause, for such a caller
+    ensures causes { IfSome (asked_by (map string_bytes words.now)) (λ asked.
+        IsSomeAnd (status_of result) (HasCause O.Disk.Disk asked
+        (scene (O.outside outside.old) (S.source input.old) (K.sink output.old))
+        (scene (O.outside outside.new) (S.source input.new) (K.sink output.new)))) }
 
-    // the causes of faults, and no file changes; nothing is written where a disk failed
+    // the causes of faults, told or not, and no file changes; nothing is written where a disk failed
     ensures read_fault { result ≡ 4
         → Rose (O.outside outside.old).faults (O.outside outside.new).faults
         ⊎ Rose (S.source input.old).faults (S.source input.new).faults }
@@ -153,6 +166,35 @@ pub fn top<R: Threads + Wait + Sync, O: Outside, S: Source, K: Sink>(
     ensures door_fault { result ≡ 9
         → Rose (O.outside outside.old).door_faults (O.outside outside.new).door_faults }
     ensures kept { (O.outside outside.new).file ≡ (O.outside outside.old).file }
+
+    // where all is in order and no fault is counted, it ends with 0, or with 7 for want of memory
+    ensures complete { IfSome (asked_by (map string_bytes words.now)) (λ asked.
+        IsInOrder O.Disk.Disk asked (O.outside outside.old) (S.source input.old)
+        (K.sink output.old)
+        → ¬ (Rose (O.outside outside.old).faults (O.outside outside.new).faults)
+        → NoneRose (O.outside outside.old) (O.outside outside.new) (S.source input.old)
+        (S.source input.new) (K.sink output.old) (K.sink output.new)
+        → (result ≡ 0) ⊎ (result ≡ 7)) }
+    // and so it does where no load is to fail: it makes none of its own that does
+    ensures unprovoked { IfSome (asked_by (map string_bytes words.now)) (λ asked.
+        IsInOrder O.Disk.Disk asked (O.outside outside.old) (S.source input.old)
+        (K.sink output.old)
+        → NoneIsListed (O.failing_loads outside.old)
+        → NoneRose (O.outside outside.old) (O.outside outside.new) (S.source input.old)
+        (S.source input.new) (K.sink output.old) (K.sink output.new)
+        → (result ≡ 0) ⊎ (result ≡ 7)) }
+
+    // what was asked is done as far as the status says, in plain words for such a caller
+    ensures told { IfSome (asked_by (map string_bytes words.now)) (λ asked.
+        IsSomeAnd (status_of result) (λ status. TellsCaller O.Disk.Disk asked status
+        (O.outside outside.old) (S.source input.old) (K.sink output.old) (K.sink output.new))) }
+
+    // and the same of what is read, written, lent and left, told or not
+    ensures done { IfSome (asked_by (map string_bytes words.now)) (λ asked.
+        IsSomeAnd (status_of result) (λ status. FollowsCommand O.Disk.Disk
+        (HostServes O.Door.Door O.Door.Conn.source O.Door.Conn.sink O.Door.Conn.lent O.Disk.Disk)
+        asked status (O.outside outside.old) (O.outside outside.new) (S.source input.old)
+        (S.source input.new) (K.sink output.old) (K.sink output.new))) }
 {
     let command = match command_of(alloc, words) {
         Ok(Some(command)) => command,

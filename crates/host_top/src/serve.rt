@@ -1,5 +1,5 @@
 //! The command `serve`, which answers the numbered requests of many connections.
-ghost use Rattle.std.specs.Prelude.{◌≡◌, ◌⊎◌, ◌<◌, ◌≤◌, IfOk, length};
+ghost use Rattle.std.specs.Prelude.{◌≡◌, ◌⊎◌, ◌<◌, ◌≤◌, ◌∷◌, [], ℕ, IfErr, IfOk, length};
 ghost use Rattle.gate_journal.specs.Command.{IsBudget};
 ghost use Rattle.host_serve.specs.Holders.{holders, seens};
 ghost use Rattle.host_serve.specs.Hosts.{AreOf, IsSound};
@@ -7,10 +7,13 @@ ghost use Rattle.host_serve.specs.Joining.{ArePartsOf, HasNoRoot};
 ghost use Rattle.host_serve.specs.Splitting.{AreRoots};
 ghost use Rattle.line_talk.specs.Causes.{Rose};
 ghost use Rattle.line_talk.specs.Streams.{SourceState};
-ghost use Rattle.host_top.specs.DoorServed.{CrewServes, HaveSeen, HostServes, WorkersServe};
+ghost use Rattle.host_top.specs.DoorServed.{AreAllShut, AtDoor, CrewRejoins, HostServes};
+ghost use Rattle.host_top.specs.DoorServed.{WorkersServe};
 ghost use Rattle.host_top.specs.Files.{KeepsDisks, KeepsFiles};
 ghost use Rattle.host_top.specs.Folder.{FitsNames, IsSameBack, UsesFolder};
 ghost use Rattle.host_top.specs.LinksServed.{DoorsBy, ServesOver};
+ghost use Rattle.host_top.specs.Rejoining.{AreAllHeld, HaveSeen, IsHeldByOne, JoinsAll};
+ghost use Rattle.host_top.specs.Rejoining.{SeeNoMore, SplitsFrom};
 ghost use Rattle.host_top.specs.Speech.{door_call};
 ghost use Rattle.turn_cell.specs.History.{Each};
 
@@ -29,7 +32,7 @@ use std::thread::Threads;
 use story_run::Story;
 
 /// Passes for each of so many workers, split off those of a host that was just opened, which have
-/// seen as much.
+/// seen as much. Where memory runs out, those that were split off by then are joined again.
 fn split_among<'i, D: Disk + Drop>(
     alloc: Global,
     host: &Host<'i, D>,
@@ -38,17 +41,28 @@ fn split_among<'i, D: Disk + Drop>(
 ) -> Result<Vec<Passes<'i, D>>, AllocError>
     requires passes { AreOf host.now roots.old }
     requires roots { AreRoots 0 (holders roots.old.desks.items) }
+    requires held { AreAllHeld roots.old (roots.old ∷ []) }
     ensures ok { IfOk result (λ passes. (length passes.items ≡ workers)
         × Each (AreOf host.now) passes.items) }
+    ensures split { IfOk result (λ passes. SplitsFrom roots.old roots.new
+        × AreAllHeld roots.new (roots.new ∷ passes.items)) }
+    ensures err { IfErr result (λ _. AreAllHeld roots.new (roots.new ∷ [])
+        × SeeNoMore roots.old roots.new) }
     ensures begin { IfOk result
         (λ passes. Each (HaveSeen (seens roots.old.desks.items)) passes.items) }
     ensures no_root { IfOk result (λ passes. Each HasNoRoot passes.items) }
     ensures kept { AreOf host.now roots.new }
 {
-    let mut passes = Vec::new(alloc);
+    let mut passes = Vec::with_capacity(alloc, usize::from(workers))?;
     for _ in 0..workers {
-        let more = roots.split(alloc, host)?;
-        passes.push(more)?;
+        let more = match roots.split(alloc, host) {
+            Ok(more) => more,
+            Err(error) => {
+                join_all(host, roots, passes);
+                return Err(error);
+            }
+        };
+        passes.push_reserved(more);
     }
     Ok(passes)
 }
@@ -62,7 +76,9 @@ fn join_all<'i, D: Disk + Drop>(
     requires roots { AreOf host.now roots.old }
     requires passes { Each (AreOf host.now) workers.items }
     requires no_root { Each HasNoRoot workers.items }
-    ensures parts { Each (ArePartsOf roots.new) workers.entry.items }
+    ensures joined { JoinsAll roots.old workers.entry.items roots.new }
+    ensures held { AreAllHeld roots.old (roots.old ∷ workers.entry.items)
+        → AreAllHeld roots.new (roots.new ∷ []) }
     ensures kept { AreOf host.now roots.new }
 {
     while let Some(passes) = workers.pop() {
@@ -82,11 +98,14 @@ fn serve_door<'i, R: Threads + Wait + Sync, O: Outside>(
     requires workers { (0 < length workers.old) × (length workers.old ≤ 16) }
     requires passes { Each (AreOf host.now) workers.old }
     ensures value { result ≡ Status.Done ⊎ (result ≡ Status.DoorFault) }
-    ensures served { result ≡ Status.Done
-        → WorkersServe O.Door.Door O.Door.Conn.source O.Door.Conn.sink O.Door.Conn.lent
-        (IsSound O.Disk.tells O.Disk.seen) host.now workers.old workers.new }
+    ensures served { AtDoor result
+        (WorkersServe O.Door.Door O.Door.Conn.source O.Door.Conn.sink O.Door.Conn.lent
+        (IsSound O.Disk.tells O.Disk.seen) host.now workers.old workers.new)
+        (AreAllShut O.Door.Door O.Door.Conn.source O.Door.Conn.sink O.Door.Conn.lent)
+        (workers.new ≡ workers.old) }
     ensures kept { Each (AreOf host.now) workers.new }
     ensures no_root { Each HasNoRoot workers.old → Each HasNoRoot workers.new }
+    ensures held { (s n : ℕ) → IsHeldByOne s n workers.old → IsHeldByOne s n workers.new }
     ensures doors { DoorsBy (door_call serving) (O.outside outside.old) (O.outside outside.new)
         result }
     ensures files { KeepsFiles (O.outside outside.old) (O.outside outside.new) }
@@ -103,7 +122,8 @@ fn serve_door<'i, R: Threads + Wait + Sync, O: Outside>(
 }
 
 /// Serves links by workers, to each of which passes are split off those of a host that was just
-/// opened. What the workers had seen last is then part of what these have.
+/// opened, and joined again at every status. What the workers had seen last is then part of what
+/// these have, which hold all numbers again.
 fn serve_links<'i, R: Threads + Wait + Sync, O: Outside>(
     rt: &R,
     alloc: Global,
@@ -114,13 +134,16 @@ fn serve_links<'i, R: Threads + Wait + Sync, O: Outside>(
 ) -> Status
     requires passes { AreOf host.now roots.old }
     requires roots { AreRoots 0 (holders roots.old.desks.items) }
+    requires held { AreAllHeld roots.old (roots.old ∷ []) }
     requires workers { (0 < serving.workers) × (serving.workers ≤ 16) }
     ensures value { result ≡ Status.Done ⊎ (result ≡ Status.DoorFault)
         ⊎ (result ≡ Status.NoMemory) }
-    ensures served { result ≡ Status.Done
-        → CrewServes O.Door.Door O.Door.Conn.source O.Door.Conn.sink O.Door.Conn.lent
-        (IsSound O.Disk.tells O.Disk.seen) host.now serving.workers
-        (seens roots.old.desks.items) (ArePartsOf roots.new) }
+    ensures whole { AreAllHeld roots.new (roots.new ∷ []) }
+    ensures served { AtDoor result
+        (CrewRejoins O.Door.Door O.Door.Conn.source O.Door.Conn.sink O.Door.Conn.lent
+        (IsSound O.Disk.tells O.Disk.seen) host.now serving.workers roots.old roots.new)
+        (λ crew. AreAllShut O.Door.Door O.Door.Conn.source O.Door.Conn.sink O.Door.Conn.lent
+        crew.0.serve) (SeeNoMore roots.old roots.new) }
     ensures kept { AreOf host.now roots.new }
     ensures doors { DoorsBy (door_call serving) (O.outside outside.old) (O.outside outside.new)
         result }

@@ -1,6 +1,7 @@
 //! The stories that a command names.
 ghost use Rattle.std.specs.Prelude.{◌≡◌, ◌≤◌, map, Ok, IfOk, IfErr, IsErrOf};
 ghost use Rattle.line_talk.specs.Causes.{Rose};
+ghost use Rattle.host_top.specs.Calls.{AreThere, NoneIsListed};
 ghost use Rattle.host_top.specs.Files.{KeepsDisks, KeepsDoors};
 ghost use Rattle.host_top.specs.Stories.{AreFiles, IsLoadSettled, RefusesStories, LoadStopsBehind};
 ghost use Rattle.host_top.specs.Stories.{stories_of};
@@ -38,6 +39,10 @@ pub fn load_files<O: Outside>(
         (map (λ n. n.now) names.now) (why ≡ Fetch.Failed)) }
     ensures cause { IsErrOf result Fetch.Failed
         → Rose (O.outside outside.old).faults (O.outside outside.new).faults }
+    // where the files are told to be there and no load is to fail, none does
+    ensures unlisted { NoneIsListed (O.failing_loads outside.old)
+        → AreThere (O.outside outside.old).file (map (λ n. n.now) names.now)
+        → ¬ (IsErrOf result Fetch.Failed) }
     ensures kept { (O.outside outside.new).file ≡ (O.outside outside.old).file }
     ensures disks { KeepsDisks (O.outside outside.old) (O.outside outside.new) }
     ensures doors { KeepsDoors (O.outside outside.old) (O.outside outside.new) }

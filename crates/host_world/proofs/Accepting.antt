@@ -169,26 +169,26 @@ follows stories xs (Line s key n win text term) c a none fresh e =
     let g = game_of xs in
     let used =
     knows (nat_le 64 s) (has_key g key) (is_in_use g)
-    (all_fail (plain_checks stories g (Line s key n win text term)) none).0 in
+    (all_fail (plain_checks stories g (Line s key n win text term)) none).1.0 in
     rw (sym (some_is _ c e)) (one_follows xs a used)
 follows stories xs (Char s key n win code) c a none fresh e =
     let g = game_of xs in
     let used =
     knows (nat_le 64 s) (has_key g key) (is_in_use g)
-    (all_fail (plain_checks stories g (Char s key n win code)) none).0 in
+    (all_fail (plain_checks stories g (Char s key n win code)) none).1.0 in
     rw (sym (some_is _ c e)) (one_follows xs a used)
 follows stories xs (File s key n name) c a none fresh e =
     let g = game_of xs in
     let used =
     knows (nat_le 64 s) (has_key g key) (is_in_use g)
-    (all_fail (plain_checks stories g (File s key n name)) none).0 in
+    (all_fail (plain_checks stories g (File s key n name)) none).1.0 in
     rw (sym (some_is _ c e)) (one_follows xs a used)
 follows stories xs (Last s key) c a none fresh e = absurd cc
 follows stories xs (Close s key n) c a none fresh e =
     let g = game_of xs in
     let used =
     closes (nat_le 64 s) (has_key g key) (is_in_use g) (n == command_count g)
-    (all_fail (plain_checks stories g (Close s key n)) none).0
+    (all_fail (plain_checks stories g (Close s key n)) none).1.0
     (not_last n (command_count g) fresh) in
     rw (sym (some_is _ c e)) (one_follows xs a used)
 

@@ -1,3 +1,4 @@
 pub mod WordLaws
 pub mod ReaderLaws
+pub mod CrLaws
 pub mod RequestLaws

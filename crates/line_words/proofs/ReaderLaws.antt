@@ -15,7 +15,8 @@ use Rattle.line_words.specs.Reading.{Reader, ◌>>=◌, ◌then◌, at_end, whol
 use Rattle.line_words.specs.Field.{word_at, is_letter, are_letters, is_key, checked}
 use Rattle.line_words.specs.Field.{number_between, key_at, text_at, code_at, terminator_at}
 use Rattle.line_words.specs.Spelling.{field, number_field, terminator, IsTerminator}
-use Rattle.line_words.specs.Field.{number_spelled}
+use Rattle.line_words.specs.Field.{number_spelled, is_watch_digit, are_watch_digits, is_watch_word}
+use Rattle.line_words.specs.Field.{watch_word_at}
 use Rattle.line_words.proofs.WordLaws.{bind_some, both, some_is, if_some, Lacks, visible_lacks}
 use Rattle.line_words.proofs.WordLaws.{IsEnd, word_at_again, word_at_only, decimal_again}
 use Rattle.line_words.proofs.WordLaws.{decimal_only, digits_visible, digits-decimal}
@@ -172,8 +173,15 @@ made-only f None y e = absurd cc
 abbrev pub NumberIs : ℕ → ℕ → List ℕ → ℕ → Type 0
 NumberIs low high front n = (front ≡ number_field n) × (low ≤ n) × (n ≤ high)
 
+-- a word that passes a test
+abbrev pub PassedIs : (List ℕ → Bool) → List ℕ → List ℕ → Type 0
+PassedIs test front word = (front ≡ field word) × (test word ≡ true)
+
 abbrev pub KeyIs : List ℕ → List ℕ → Type 0
-KeyIs front key = (front ≡ field key) × (is_key key ≡ true)
+KeyIs = PassedIs is_key
+
+abbrev pub WatchWordIs : List ℕ → List ℕ → Type 0
+WatchWordIs = PassedIs is_watch_word
 
 abbrev pub TextIs : List ℕ → List ℕ → Type 0
 TextIs front text = (word : List ℕ) × (front ≡ field word) × texts.WordSpells word text
@@ -210,15 +218,34 @@ letters key h =
     let p = both (nat_lt 0 (length key)) (nat_le (length key) 32 && are_letters key) h in
     (both (nat_le (length key) 32) (are_letters key) p.1).1
 
+-- a word that passes a test, where what passes it is visible
+passed_reads : (test : List ℕ → Bool)
+    → ((word : List ℕ) → test word ≡ true → AreVisible word)
+    → IsReader (List ℕ) IsEnd (PassedIs test)
+    (λ bytes. word_at bytes >>= λ word. checked (test word.0) word)
+passed_reads test visible =
+    word_reads {S = PassedIs test} (λ word rest. checked (test word) (word, rest))
+    (λ front rest passed h. (passed, h.0, visible passed h.1, rw h.1 refl))
+    (λ word rest r e.
+    let h = if_some (test word) (Some (word, rest)) r e in
+    subst (λ (p : List ℕ × List ℕ). (rest ≡ p.1) × PassedIs test (field word) p.0)
+    (some_is (word, rest) r h.1) (refl, (refl, h.0)))
+
 pub key_reads : IsReader (List ℕ) IsEnd KeyIs key_at
 unfolding key_at
-key_reads =
-    word_reads (λ word rest. checked (is_key word) (word, rest))
-    (λ front rest key h. (key, h.0, letters_visible key (letters key h.1), rw h.1 refl))
-    (λ word rest r e.
-    let h = if_some (is_key word) (Some (word, rest)) r e in
-    subst (λ (p : List ℕ × List ℕ). (rest ≡ p.1) × KeyIs (field word) p.0)
-    (some_is (word, rest) r h.1) (refl, (refl, h.0)))
+key_reads = passed_reads is_key (λ key h. letters_visible key (letters key h))
+
+watch_digits_visible : (bs : List ℕ) → are_watch_digits bs ≡ true → AreVisible bs
+watch_digits_visible [] h = tt
+watch_digits_visible (b ∷ bs) h =
+    let p = both (is_watch_digit b) (are_watch_digits bs) h in
+    (grind (arith, nat_tests, p.0), watch_digits_visible bs p.1)
+
+pub watch_word_reads : IsReader (List ℕ) IsEnd WatchWordIs watch_word_at
+unfolding watch_word_at
+watch_word_reads =
+    passed_reads is_watch_word (λ digits h.
+    watch_digits_visible digits (both (length digits == 16) (are_watch_digits digits) h).1)
 
 pub text_reads : IsReader (List ℕ) IsEnd TextIs text_at
 unfolding text_at

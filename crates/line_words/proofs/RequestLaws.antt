@@ -1,15 +1,13 @@
 -- Each spelling of a request and of an input of `run` is read, and what is read is spelled so.
-use Rattle.std.proofs.Common.{◌≡◌, ℕ, zero, suc, ◌-◌, ◌+◌, ◌<◌, ◌≤◌, ◌⊎◌, inl, inr, Bool, true}
-use Rattle.std.proofs.Common.{false, ◌==◌, cond, nat_lt, List, [], ◌∷◌, ◌++◌, length, get_or}
-use Rattle.std.proofs.Common.{take, Option, Some, None, refl, ap, sym, subst, ◌∙◌, arith, codes}
+use Rattle.std.proofs.Common.{◌≡◌, ℕ, ◌≤◌, true, ◌==◌, List, [], ◌∷◌, ◌++◌, Option, Some, None}
+use Rattle.std.proofs.Common.{refl, ap, subst, arith, codes}
 use Rattle.std.proofs.lemmas.Bool.Decides.{nat_tests}
-use Rattle.std.proofs.lemmas.List.{length-append, take_at, take_all, take_more}
 use Rattle.story_text.specs.Escape.{escaped}
 use Rattle.story_text.specs.Escape as texts
 use Rattle.story_text.proofs.TextLaws.{text_again, spells_only}
 use Rattle.line_words.specs.declared.request.Request.{Request}
 use Rattle.line_words.specs.declared.request.Request.TheVariants.{Open, Line, Char}
-use Rattle.line_words.specs.declared.request.Request.TheVariants.{File, Last, Close}
+use Rattle.line_words.specs.declared.request.Request.TheVariants.{File, Last, Close, Watch}
 use Rattle.glk_input.specs.declared.input.Input.{Input}
 use Rattle.glk_input.specs.declared.input.Input.TheVariants as plays
 use Rattle.line_words.specs.Keycode.{is_code}
@@ -17,23 +15,24 @@ use Rattle.line_words.specs.Reading.{Reader, whole, made_if_read}
 use Rattle.line_words.specs.Field.{behind_name, fields_or, fields_named}
 use Rattle.line_words.specs.Play.{line_at, window_and_code_at, line_play}
 use Rattle.line_words.specs.Play.{char_play, file_play, spelled_play, play_of}
-use Rattle.line_words.specs.Play.{ends_in_cr, without_cr, is_long, unless_long}
 use Rattle.line_words.specs.Play as play
 use Rattle.line_words.specs.Request.{session_at, numbered_at, setup_fields_at, open_of}
 use Rattle.line_words.specs.Request.{line_request, char_request, file_request, last_request}
+use Rattle.line_words.specs.Request.{watched_at, watch_of, made_watch}
 use Rattle.line_words.specs.Request.{close_of, made_open, made_line, made_char, made_file}
 use Rattle.line_words.specs.Request.{made_last, made_close, spelled_request, request_of}
-use Rattle.line_words.specs.Spelling.{number_field, session, numbered_fields}
+use Rattle.line_words.specs.Spelling.{number_field, session, numbered_fields, watched_fields}
 use Rattle.line_words.specs.Spelling.{typed_fields, IsSession, IsNumbered, IsTerminator, IsRequest}
 use Rattle.line_words.specs.Spelling.{SpellsRequest, print_request, SpellsPlay, IsLineOf}
-use Rattle.line_words.proofs.WordLaws.{both, some_is, if_some, else_some, IsEnd}
+use Rattle.line_words.proofs.CrLaws.{line_again, line_only}
+use Rattle.line_words.proofs.WordLaws.{some_is, if_some, IsEnd}
 use Rattle.line_words.proofs.ReaderLaws.{NoCr, NoCr-append, IsNil, IsReader, Both, then_reads}
 use Rattle.line_words.proofs.ReaderLaws.{whole-again, whole-only, made-only, NumberIs}
 use Rattle.line_words.proofs.ReaderLaws.{KeyIs, TextIs, CodeIs, TerminatorIs, number_reads}
-use Rattle.std.proofs.Math.Seq.{get_or-append_seam}
 use Rattle.line_words.specs.Field.{are_letters}
 use Rattle.line_words.proofs.WordLaws.{visible_lacks}
 use Rattle.line_words.proofs.ReaderLaws.{letters_visible, u32_reads}
+use Rattle.line_words.proofs.ReaderLaws.{WatchWordIs, watch_word_reads}
 use Rattle.line_words.proofs.ReaderLaws.{key_reads, text_reads, code_reads, terminator_reads}
 
 -- ---- the fields of each kind of line
@@ -43,6 +42,9 @@ Session = Both (NumberIs 0 4294967295) KeyIs
 
 abbrev Numbered : List ℕ → ℕ × (List ℕ × ℕ) → Type 0
 Numbered = Both (NumberIs 0 4294967295) (Both KeyIs (NumberIs 1 4294967295))
+
+abbrev Watched : List ℕ → ℕ × (List ℕ × ℕ) → Type 0
+Watched = Both (NumberIs 0 4294967295) (Both WatchWordIs (NumberIs 0 4294967295))
 
 abbrev Setup : List ℕ → ℕ × (ℕ × (ℕ × ℕ)) → Type 0
 Setup =
@@ -63,6 +65,10 @@ numbered_reads : IsReader (ℕ × (List ℕ × ℕ)) IsEnd Numbered numbered_at
 unfolding numbered_at
 numbered_reads =
     then_reads u32_reads (then_reads key_reads (number_reads 1 4294967295 (omega arith)))
+
+watched_reads : IsReader (ℕ × (List ℕ × ℕ)) IsEnd Watched watched_at
+unfolding watched_at
+watched_reads = then_reads u32_reads (then_reads watch_word_reads u32_reads)
 
 setup_reads : IsReader (ℕ × (ℕ × (ℕ × ℕ))) IsEnd Setup setup_fields_at
 unfolding setup_fields_at
@@ -134,6 +140,12 @@ close_behind : (rest : List ℕ) (x : ℕ × (List ℕ × ℕ))
 close_behind rest (s, (key, n)) (a, b, e, hs, (c, d, e2, hk, hn)) =
     ((hs.2, hk.1, hn.1, hn.2), [], refl, rw (e, hs.0, e2, hk.0, hn.0) refl)
 
+watch_behind : (rest : List ℕ) (x : ℕ × (List ℕ × ℕ))
+    → Watched rest x
+    → SpellsRequest (codes "WATCH" ++ rest) (made_watch x)
+watch_behind rest (s, (digits, from)) (a, b, e, hs, (c, d, e2, hw, hf)) =
+    ((hs.2, hw.1, hf.2), [], refl, rw (e, hs.0, e2, hw.0, hf.0) refl)
+
 after_only : (name line rest : List ℕ) → behind_name name line ≡ Some rest → line ≡ name ++ rest
 after_only [] line rest e = some_is line rest e
 after_only (n ∷ ns) [] rest e = absurd cc
@@ -166,6 +178,7 @@ spelled_only : (line : List ℕ) (request : Request)
     → spelled_request line ≡ Some request
     → SpellsRequest line request
 unfolding spelled_request open_of line_request char_request file_request last_request close_of
+    watch_of
 spelled_only line request =
     kind_only SpellsRequest (codes "OPEN") line made_open _ request
     (then_reads session_reads setup_reads) open_behind
@@ -177,7 +190,8 @@ spelled_only line request =
     (then_reads numbered_reads text_reads) file_behind
     (kind_only SpellsRequest (codes "LAST") line made_last _ request session_reads last_behind
     (kind_only SpellsRequest (codes "CLOSE") line made_close _ request numbered_reads close_behind
-    (λ e. absurd cc))))))
+    (kind_only SpellsRequest (codes "WATCH") line made_watch _ request watched_reads watch_behind
+    (λ e. absurd cc)))))))
 
 -- ---- from the spelling to what is read
 
@@ -200,6 +214,12 @@ numbered_spelling : (s : ℕ) (key : List ℕ) (n : ℕ)
     → Numbered (numbered_fields s key n) (s, (key, n))
 numbered_spelling s key n h =
     (_, _, refl, (refl, omega arith, h.0), (_, _, refl, (refl, h.1), (refl, h.2, h.3)))
+
+watched_spelling : (s : ℕ) (digits : List ℕ) (from : ℕ)
+    → IsRequest (Watch s digits from)
+    → Watched (watched_fields s digits from) (s, (digits, from))
+watched_spelling s digits from h =
+    (_, _, refl, (refl, omega arith, h.0), (_, _, refl, (refl, h.1), (refl, omega arith, h.2)))
 
 typed_spelling : (win : ℕ) (word text : List ℕ) (term : ℕ)
     → win ≤ 4294967295 → texts.WordSpells word text
@@ -232,6 +252,7 @@ spelled_again : (bytes : List ℕ) (request : Request)
     → SpellsRequest bytes request
     → (spelled_request bytes ≡ Some request) × NoCr bytes
 unfolding spelled_request open_of line_request char_request file_request last_request close_of
+    watch_of
 spelled_again bytes (Open s key story seed cols rows budget) (h, word, text, e) =
     rw (e, h.7) (kind_again (codes "OPEN") _ made_open ((s, key), (story, (seed, (cols, rows))))
     (then_reads session_reads setup_reads) tt refl (
@@ -259,6 +280,9 @@ spelled_again bytes (Last s key) (h, word, t, e) =
 spelled_again bytes (Close s key n) (h, word, t, e) =
     rw e (kind_again (codes "CLOSE") _ made_close (s, (key, n)) numbered_reads tt refl
     (numbered_spelling s key n h))
+spelled_again bytes (Watch s digits from) (h, word, t, e) =
+    rw e (kind_again (codes "WATCH") _ made_watch (s, (digits, from)) watched_reads tt refl
+    (watched_spelling s digits from h))
 
 pub prints : (request : Request) → IsRequest request → SpellsRequest (print_request request) request
 prints (Open s key story seed cols rows budget) h = (h, [], refl, refl)
@@ -269,6 +293,7 @@ prints (File s key n name) h =
     (h, escaped name, spells_only (escaped name) name (text_again name h.1), refl)
 prints (Last s key) h = (h, [], refl, refl)
 prints (Close s key n) h = (h, [], refl, refl)
+prints (Watch s digits from) h = (h, [], refl, refl)
 
 -- ---- inputs of `run`
 
@@ -305,80 +330,7 @@ play_again bytes (plays.File name) (word, t, e) =
     rw e (kind_again (codes "FILE") _ (λ name. plays.File name) name text_reads tt refl
     (word, refl, t))
 
--- ---- lines: a spelling, with a CR or without
-
-no_cr_at : (bs : List ℕ) (i : ℕ) → NoCr bs → i < length bs → (get_or bs i 0 == 13) ≡ false
-no_cr_at [] i h lt = absurd (omega (arith, lt))
-no_cr_at (b ∷ bs) zero h lt = h.0
-no_cr_at (b ∷ bs) (suc i) h lt = no_cr_at bs i h.1 (omega (arith, lt))
-
--- a line without a CR stands as it is
-stays : (line : List ℕ) → NoCr line → without_cr line ≡ line
-unfolding without_cr
-stays [] h = refl
-stays (b ∷ bs) h =
-    let last = no_cr_at (b ∷ bs) (length (b ∷ bs) - 1) h (omega arith) in
-    let some : nat_lt 0 (length (b ∷ bs)) ≡ true = grind (arith, nat_tests) in
-    rw (some, last) refl
-
--- a CR at the end is dropped
-drops_cr : (line : List ℕ) → without_cr (line ++ 13 ∷ []) ≡ line
-unfolding without_cr
-drops_cr line =
-    let len : length (line ++ (13 ∷ [])) ≡ length line + 1 =
-    omega (arith, length-append line (13 ∷ [])) in
-    let less : length line + 1 - 1 ≡ length line = omega arith in
-    let some : nat_lt 0 (length line + 1) ≡ true = grind (arith, nat_tests) in
-    let last : get_or (line ++ (13 ∷ [])) (length line) 0 ≡ 13 = get_or-append_seam line 13 [] 0 in
-    rw (len, less, some, last, take_at line (13 ∷ []) (length line) refl) refl
-
--- a list that isn't empty is all but its last item, and that item
-last_apart : (line : List ℕ)
-    → 0 < length line
-    → line ≡ take (length line - 1) line ++ (get_or line (length line - 1) 0 ∷ [])
-last_apart line more =
-    let within : length line - 1 < length line = omega (arith, more) in
-    let all : length line - 1 + 1 ≡ length line = omega (arith, more) in
-    sym (take_all (length line) line (omega arith))
-    ∙ ap (λ (n : ℕ). take n line) (sym all)
-    ∙ take_more line (length line - 1) 0 within
-
--- what stands before the CR that may end a line
-cr_parts : (line : List ℕ) → (line ≡ without_cr line) ⊎ (line ≡ without_cr line ++ 13 ∷ [])
-unfolding without_cr
-cr_parts line = by (ends_in_cr line) refl where
-  by : (ends : Bool)
-      → ends_in_cr line ≡ ends
-      → (line ≡ cond ends (take (length line - 1) line) line)
-      ⊎ (line ≡ cond ends (take (length line - 1) line) line ++ 13 ∷ [])
-  by false e = inl refl
-  by true e =
-      let h = both (nat_lt 0 (length line)) (get_or line (length line - 1) 0 == 13) e in
-      let more : 0 < length line = grind (arith, nat_tests, h.0) in
-      let last : get_or line (length line - 1) 0 ≡ 13 = grind (arith, nat_tests, h.1) in
-      inr (last_apart line more ∙ ap (λ (x : ℕ). take (length line - 1) line ++ (x ∷ [])) last)
-
-line_again : {A : Type 0} (Spells : List ℕ → A → Type 0) (read : List ℕ → Option A)
-    → ((bytes : List ℕ) (x : A) → Spells bytes x → (read bytes ≡ Some x) × NoCr bytes)
-    → (line : List ℕ) (x : A) → IsLineOf Spells line x
-    → unless_long line (read (without_cr line)) ≡ Some x
-line_again Spells read again line x (spelling, h, stands, short) =
-    let fits : is_long line ≡ false = grind (arith, nat_tests, short) in
-    let bare : without_cr line ≡ spelling =
-    elim stands [
-      | inl same ↦ ap without_cr same ∙ stays spelling (again spelling x h).1
-      | inr cr ↦ ap without_cr cr ∙ drops_cr spelling
-    ] in
-    rw (fits, bare) (again spelling x h).0
-
-line_only : {A : Type 0} (Spells : List ℕ → A → Type 0) (read : List ℕ → Option A)
-    → ((bytes : List ℕ) (x : A) → read bytes ≡ Some x → Spells bytes x)
-    → (line : List ℕ) (x : A)
-    → unless_long line (read (without_cr line)) ≡ Some x
-    → IsLineOf Spells line x
-line_only Spells read only line x e =
-    let h = else_some (is_long line) (read (without_cr line)) x e in
-    (without_cr line, only (without_cr line) x h.1, cr_parts line, grind (arith, nat_tests, h.0))
+-- ---- lines
 
 pub request_again : (line : List ℕ) (request : Request)
     → IsLineOf SpellsRequest line request

@@ -70,6 +70,25 @@ key_at bytes = do
   word ← word_at bytes
   checked (is_key word.0) word
 
+-- a digit from 0 to 9 or a to f
+abbrev pub is_watch_digit : ℕ → Bool
+is_watch_digit b = is_digit b || (nat_le 97 b && nat_le b 102)
+
+-- each byte is such a one
+abbrev pub are_watch_digits : List ℕ → Bool
+are_watch_digits [] = true
+are_watch_digits (b ∷ bs) = is_watch_digit b && are_watch_digits bs
+
+-- a session's word for spectators: 16 of them
+abbrev pub is_watch_word : List ℕ → Bool
+is_watch_word word = length word == 16 && are_watch_digits word
+
+-- such a word
+unfoldable pub watch_word_at : Reader (List ℕ)
+watch_word_at bytes = do
+  word ← word_at bytes
+  checked (is_watch_word word.0) word
+
 -- a text with its escapes
 unfoldable pub text_at : Reader (List ℕ)
 text_at bytes = do

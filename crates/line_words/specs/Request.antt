@@ -2,9 +2,10 @@
 use Rattle.std.specs.Prelude.{ℕ, List, Option, None, codes}
 use Rattle.line_words.specs.declared.request.Request.{Request}
 use Rattle.line_words.specs.declared.request.Request.TheVariants.{Open, Line, Char, File, Last}
-use Rattle.line_words.specs.declared.request.Request.TheVariants.{Close}
+use Rattle.line_words.specs.declared.request.Request.TheVariants.{Close, Watch}
 use Rattle.line_words.specs.Reading.{Reader, ◌then◌, whole, made_if_read}
-use Rattle.line_words.specs.Field.{number_between, key_at, text_at, fields_named}
+use Rattle.line_words.specs.Field.{number_between, key_at, text_at}
+use Rattle.line_words.specs.Field.{watch_word_at, fields_named}
 use Rattle.line_words.specs.Play.{line_at, window_and_code_at, without_cr, unless_long}
 
 -- a session and its key
@@ -21,6 +22,11 @@ setup_fields_at =
     number_between 0 65535
     then (number_between 0 18446744073709551615
     then (number_between 1 255 then number_between 1 255))
+
+-- a session, its word for spectators and the number of a show
+unfoldable pub watched_at : Reader (ℕ × (List ℕ × ℕ))
+watched_at =
+    number_between 0 4294967295 then (watch_word_at then number_between 0 4294967295)
 
 -- a request to open a session has the budget of 50,000,000 ticks until the host sets its own
 abbrev pub made_open : (ℕ × List ℕ) × (ℕ × (ℕ × (ℕ × ℕ))) → Request
@@ -41,6 +47,9 @@ made_last (s, key) = Last s key
 abbrev pub made_close : ℕ × (List ℕ × ℕ) → Request
 made_close (s, (key, n)) = Close s key n
 
+abbrev pub made_watch : ℕ × (List ℕ × ℕ) → Request
+made_watch (s, (word, from)) = Watch s word from
+
 unfoldable pub open_of : List ℕ → Option Request
 open_of bytes = made_if_read made_open (whole (session_at then setup_fields_at) bytes)
 
@@ -59,6 +68,9 @@ last_request bytes = made_if_read made_last (whole session_at bytes)
 unfoldable pub close_of : List ℕ → Option Request
 close_of bytes = made_if_read made_close (whole numbered_at bytes)
 
+unfoldable pub watch_of : List ℕ → Option Request
+watch_of bytes = made_if_read made_watch (whole watched_at bytes)
+
 -- the request that a line without its CR spells
 unfoldable pub spelled_request : List ℕ → Option Request
 spelled_request line =
@@ -67,7 +79,8 @@ spelled_request line =
     (fields_named (codes "CHAR") line char_request
     (fields_named (codes "FILE") line file_request
     (fields_named (codes "LAST") line last_request
-    (fields_named (codes "CLOSE") line close_of None)))))
+    (fields_named (codes "CLOSE") line close_of
+    (fields_named (codes "WATCH") line watch_of None))))))
 
 -- the request that a line spells, if it spells one
 abbrev pub request_of : List ℕ → Option Request

@@ -7,12 +7,12 @@ use Rattle.story_text.specs.Escape.{escaped}
 use Rattle.story_text.specs.Escape as texts
 use Rattle.line_words.specs.declared.request.Request.{Request}
 use Rattle.line_words.specs.declared.request.Request.TheVariants.{Open, Line, Char, File, Last}
-use Rattle.line_words.specs.declared.request.Request.TheVariants.{Close}
+use Rattle.line_words.specs.declared.request.Request.TheVariants.{Close, Watch}
 use Rattle.glk_input.specs.declared.input.Input.{Input}
 use Rattle.glk_input.specs.declared.input.Input.TheVariants as plays
 use Rattle.glk_input.specs.Keycode.{is_terminator}
 use Rattle.line_words.specs.Keycode.{is_code}
-use Rattle.line_words.specs.Field.{is_key}
+use Rattle.line_words.specs.Field.{is_key, is_watch_word}
 
 -- one space and the word
 abbrev pub field : List ℕ → List ℕ
@@ -34,6 +34,10 @@ session s key = number_field s ++ field key
 abbrev pub numbered_fields : ℕ → List ℕ → ℕ → List ℕ
 numbered_fields s key n = number_field s ++ (field key ++ number_field n)
 
+-- a session's number, its word for spectators and the number of a show
+abbrev pub watched_fields : ℕ → List ℕ → ℕ → List ℕ
+watched_fields s digits from = number_field s ++ (field digits ++ number_field from)
+
 -- a window, a text's word and a terminator
 abbrev pub typed_fields : ℕ → List ℕ → ℕ → List ℕ
 typed_fields win word term = number_field win ++ (field word ++ terminator term)
@@ -50,6 +54,7 @@ line_with (Char s key n win code) word =
 line_with (File s key n name) word = codes "FILE" ++ (numbered_fields s key n ++ field word)
 line_with (Last s key) word = codes "LAST" ++ session s key
 line_with (Close s key n) word = codes "CLOSE" ++ numbered_fields s key n
+line_with (Watch s digits from) word = codes "WATCH" ++ watched_fields s digits from
 
 -- the word spells the request's text, or is empty where it has none
 abbrev pub SpellsText : Request → List ℕ → Type 0
@@ -81,6 +86,8 @@ IsRequest (Char s key n win code) =
 IsRequest (File s key n name) = IsNumbered s key n × IsText name
 IsRequest (Last s key) = IsSession s key
 IsRequest (Close s key n) = IsNumbered s key n
+IsRequest (Watch s digits from) =
+    (s ≤ 4294967295) × (is_watch_word digits ≡ true) × (from ≤ 4294967295)
 
 -- bytes spell a request: its text may be spelled in any way
 abbrev pub SpellsRequest : List ℕ → Request → Type 0

@@ -3,12 +3,12 @@
 ghost use Rattle.std.specs.Prelude.{◌≡◌, ◌≤◌, IfOk, IfSome, MatchOption, None, Some};
 ghost use Rattle.line_words.specs.Keycode.{is_scalar, is_code};
 ghost use Rattle.line_words.specs.Field.{word_of, rest_from_space, word_at, number_between, key_at};
-ghost use Rattle.line_words.specs.Field.{text_at};
+ghost use Rattle.line_words.specs.Field.{text_at, watch_word_at};
 ghost use Rattle.line_words.specs.Field.{code_at, terminator_at, behind_name};
 ghost use Rattle.line_words.specs.Reading.{GivesLineReading, at_end};
 
 use crate::fault::LineFault;
-use crate::key::{Key, is_key};
+use crate::key::{Key, is_key, is_watch_word};
 use crate::number::number_of;
 use glk_input::keycode::{is_keycode, is_terminator};
 use std::alloc::Global;
@@ -78,6 +78,20 @@ pub fn key_at(alloc: Global, bytes: &[u8]) -> Result<(Key, &[u8]), LineFault>
         return Err(LineFault::BadLine);
     }
     Ok((Key::of(alloc, word)?, rest))
+}
+
+/// A session's word for spectators.
+#[tactic(auto, unfolding(crate::specs::Field::watch_word_at))]
+pub fn watch_word_at(bytes: &[u8]) -> Result<([u8; 16], &[u8]), LineFault>
+    ensures { GivesLineReading (λ x. (x.0, x.1.now)) result (watch_word_at bytes.now) }
+{
+    let (digits, rest) = word_at(bytes)?;
+    if !is_watch_word(digits) {
+        return Err(LineFault::BadLine);
+    }
+    let mut word = [0; 16];
+    word.copy_from_slice(digits);
+    Ok((word, rest))
 }
 
 #[tactic(auto, unfolding(crate::specs::Field::text_at))]

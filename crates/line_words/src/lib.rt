@@ -15,11 +15,11 @@ pub use fault::LineFault;
 pub use field::is_code;
 pub use glk_input::Input as Play;
 pub use glk_input::keycode::is_terminator;
-pub use key::{Key, is_key};
+pub use key::{Key, is_key, is_watch_word};
 pub use laws::{
     prints_spellings, reads_each_play, reads_each_request, reads_plays_only, reads_requests_only,
 };
 pub use play::read_play;
 pub use read::read_request;
-pub use reply::{No, Reply, write_reply};
+pub use reply::{No, Reply, push_show, write_reply};
 pub use request::Request;

@@ -6,11 +6,12 @@ ghost use Rattle.line_words.specs.Play.{RefusesLine};
 ghost use Rattle.line_words.specs.Request.{session_at, numbered_at, setup_fields_at, open_of};
 ghost use Rattle.line_words.specs.Request.{line_request};
 ghost use Rattle.line_words.specs.Request.{char_request, file_request, last_request, close_of};
+ghost use Rattle.line_words.specs.Request.{watched_at, watch_of};
 ghost use Rattle.line_words.specs.Request.{spelled_request};
 ghost use Rattle.line_words.specs.Request.{request_of};
 
 use crate::fault::LineFault;
-use crate::field::{after, at_end, key_at, number_at, text_at, u8_at, u32_at};
+use crate::field::{after, at_end, key_at, number_at, text_at, u8_at, u32_at, watch_word_at};
 use crate::key::Key;
 use crate::play::{MAX_LINE, char_at, line_at, without_cr};
 use crate::request::Request;
@@ -148,6 +149,26 @@ fn close_of(alloc: Global, rest: &[u8]) -> Result<Request, LineFault>
     Ok(Request::Close { s, key, n })
 }
 
+#[tactic(auto, unfolding(crate::specs::Request::watched_at))]
+fn watched_at(rest: &[u8]) -> Result<((u32, [u8; 16], u32), &[u8]), LineFault>
+    ensures { GivesLineReading (λ x. ((x.0.0, (x.0.1, x.0.2)), x.1.now)) result
+        (watched_at rest.now) }
+{
+    let (s, rest) = u32_at(0, rest)?;
+    let (word, rest) = watch_word_at(rest)?;
+    let (from, rest) = u32_at(0, rest)?;
+    Ok(((s, word, from), rest))
+}
+
+#[tactic(auto, unfolding(crate::specs::Request::watch_of))]
+fn watch_of(rest: &[u8]) -> Result<Request, LineFault>
+    ensures { GivesLineReading (λ x. x) result (watch_of rest.now) }
+{
+    let ((s, word, from), rest) = watched_at(rest)?;
+    at_end(rest)?;
+    Ok(Request::Watch { s, word, from })
+}
+
 #[tactic(auto, unfolding(crate::specs::Request::spelled_request))]
 fn spelled_request(alloc: Global, line: &[u8]) -> Result<Request, LineFault>
     ensures { GivesLineReading (λ x. x) result (spelled_request line.now) }
@@ -169,6 +190,9 @@ fn spelled_request(alloc: Global, line: &[u8]) -> Result<Request, LineFault>
     }
     if let Some(rest) = after(b"CLOSE", line) {
         return close_of(alloc, rest);
+    }
+    if let Some(rest) = after(b"WATCH", line) {
+        return watch_of(rest);
     }
     Err(LineFault::BadLine)
 }

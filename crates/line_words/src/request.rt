@@ -53,4 +53,11 @@ pub enum Request {
         key: Key,
         n: u32,
     },
+    /// `WATCH s word from`: a spectator asks for the shows from this number on. The word has 16
+    /// hexadecimal digits in lower case.
+    Watch {
+        s: u32,
+        word: [u8; 16],
+        from: u32,
+    },
 }

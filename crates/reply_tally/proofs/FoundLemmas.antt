@@ -3,7 +3,7 @@ use Rattle.std.proofs.Common.{◌≡◌, ◌≢◌, ℕ, Bool, true, false, ◌=
 use Rattle.std.proofs.Common.{List, [], ◌∷◌, ◌++◌, map, filter, refl, sym, ap, ◌∙◌, arith}
 use Rattle.std.proofs.Common.{append_assoc, take, drop, subst, inl, inr}
 use Rattle.std.specs.Prelude.{codes}
-use Rattle.std.specs.List.{All, AllByRecursion as Each, list_any, starts_with}
+use Rattle.std.specs.List.{All, AllByRecursion as Each, flat_map, list_any, starts_with}
 use Rattle.std.specs.Fmt.{digits}
 use Rattle.std.specs.Str.{bytes_eq}
 use Rattle.std.proofs.lemmas.Bool.Decides.{nat_tests}
@@ -11,7 +11,8 @@ use Rattle.std.proofs.lemmas.Bool.{or_cases}
 use Rattle.std.proofs.lemmas.List.{take-append-drop}
 use Rattle.std.proofs.lemmas.Slice.Eq.{bytes_eq-Decides}
 use Rattle.std.proofs.lemmas.List.Elements.{recursion_from_All, filter-append}
-use Rattle.line_words.specs.Reply.{number_of_no, numbers_of_no, print_no, print_show, print_reply}
+use Rattle.line_words.specs.Reply.{number_of_no, numbers_of_no, print_no, print_seen, print_show}
+use Rattle.line_words.specs.Reply.{print_reply}
 use Rattle.line_words.specs.Spelling.{number_field}
 use Rattle.line_words.specs.declared.reply.No.{No}
 use Rattle.line_words.specs.declared.reply.No.TheVariants as no
@@ -19,7 +20,8 @@ use Rattle.line_words.specs.declared.reply.Reply.{Reply}
 use Rattle.line_words.specs.declared.reply.Reply.TheVariants as replies
 use Rattle.line_talk.specs.Conversation.{texts_joined}
 use Rattle.line_talk.specs.Lines.{lines}
-use Rattle.reply_tally.specs.ShowLines.{IsShowLine, AreShowLines, HasShowLines}
+use Rattle.reply_tally.specs.ShowLines.{IsShowLine, AreShowLines, HasShowLines, NumberedShow}
+use Rattle.reply_tally.specs.ShowLines.{print_numbered}
 use Rattle.reply_tally.specs.Refusals.{refusals_in, is_failure, line_of_no, begins_refusal}
 use Rattle.reply_tally.specs.Refusals.{says_failure}
 use Rattle.reply_tally.proofs.LineLemmas.{NoLf, NoLf-append, checked_no_lf, letter_no_lf}
@@ -93,6 +95,46 @@ none_in_show s n ls more h =
     filter-append begins_refusal ls ((46 ∷ []) ∷ more)
     ∙ ap (λ (front : List (List ℕ)). front ++ filter begins_refusal more) none
 
+none_in_shows : (shows : List NumberedShow) (rest : List ℕ)
+    → Each (λ (show : NumberedShow). AreShowLines show.body) shows
+    → filter begins_refusal (lines (flat_map print_numbered shows ++ rest))
+    ≡ filter begins_refusal (lines rest)
+none_in_shows [] rest h = refl
+none_in_shows (x ∷ xs) rest h =
+    let more = flat_map print_numbered xs ++ rest in
+    ap (λ (bytes : List ℕ). filter begins_refusal (lines bytes))
+    (append_assoc (print_numbered x) (flat_map print_numbered xs) rest)
+    ∙ ap (filter begins_refusal) (lines_of_show x.session x.number x.body more h.0)
+    ∙ none_in_show x.session x.number h.0.lines (lines more)
+    (recursion_from_All IsShowLine h.0.lines h.0.each)
+    ∙ none_in_shows xs rest h.1
+
+head_of_seen : ℕ → ℕ → ℕ → List ℕ
+head_of_seen s from to = codes "SEEN" ++ (number_field s ++ (number_field from ++ number_field to))
+
+parts_of_seen : (a b c d text rest : List ℕ)
+    → (a ++ (b ++ (c ++ (d ++ 10 ∷ text)))) ++ rest
+    ≡ (a ++ (b ++ (c ++ d))) ++ 10 ∷ (text ++ rest)
+parts_of_seen a b c d text rest = simp append_assoc
+
+head_of_seen_whole : (s from to : ℕ) → NoLf (head_of_seen s from to)
+unfolding head_of_seen
+head_of_seen_whole s from to =
+    NoLf-append (codes "SEEN") (number_field s ++ (number_field from ++ number_field to))
+    (checked_no_lf (codes "SEEN") refl)
+    (NoLf-append (number_field s) (number_field from ++ number_field to) (number_no_lf s)
+    (NoLf-append (number_field from) (number_field to) (number_no_lf from) (number_no_lf to)))
+
+none_in_seen : (s from to : ℕ) (text rest : List ℕ)
+    → filter begins_refusal (lines (print_seen s from to text ++ rest))
+    ≡ filter begins_refusal (lines (text ++ rest))
+unfolding head_of_seen
+none_in_seen s from to text rest =
+    ap (λ (bytes : List ℕ). filter begins_refusal (lines bytes))
+    (parts_of_seen (codes "SEEN") (number_field s) (number_field from) (number_field to) text rest)
+    ∙ ap (filter begins_refusal)
+    (first_line (head_of_seen s from to) (text ++ rest) (head_of_seen_whole s from to))
+
 parts_of_no : (a b c rest : List ℕ)
     → (a ++ (b ++ (c ++ 10 ∷ []))) ++ rest ≡ (a ++ (b ++ c)) ++ 10 ∷ rest
 parts_of_no a b c rest = simp append_assoc
@@ -144,6 +186,13 @@ found_each (replies.Show s n body ∷ rs) h =
 found_each (replies.No why ∷ rs) h =
     ap (filter begins_refusal) (lines_of_no why (texts_joined (map print_reply rs)))
     ∙ ap (λ (more : List (List ℕ)). line_of_no why ∷ more) (found_each rs h.1)
+found_each (replies.Seen s from to text ∷ rs) h =
+    let more = texts_joined (map print_reply rs) in
+    none_in_seen s from to text more
+    ∙ ap (λ (bytes : List ℕ). filter begins_refusal (lines (bytes ++ more))) h.0.spelled
+    ∙ none_in_shows h.0.shows more
+    (recursion_from_All (λ (show : NumberedShow). AreShowLines show.body) h.0.shows h.0.each)
+    ∙ found_each rs h.1
 
 pub found : (rs : List Reply) → All HasShowLines rs
     → filter begins_refusal (written rs) ≡ map line_of_no (refusals_in rs)

@@ -14,6 +14,7 @@ use Rattle.line_words.specs.declared.reply.Reply.TheVariants as replies
 abbrev pub refusal_of_reply : Reply → Option No
 refusal_of_reply (replies.Show s n body) = None
 refusal_of_reply (replies.No why) = Some why
+refusal_of_reply (replies.Seen s from to text) = None
 
 -- the refusals among replies, in their order
 abbrev pub refusals_in : List Reply → List No

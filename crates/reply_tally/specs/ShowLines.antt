@@ -1,8 +1,9 @@
 -- The lines of a show (own: docs/FORMATS.md, "Shows").
 use Rattle.std.specs.Prelude.{◌≡◌, ◌≢◌, ℕ, Bool, true, false, ◌==◌, List, [], ◌∷◌, ◌++◌, codes}
 use Rattle.std.specs.List.{All, flat_map, list_any}
+use Rattle.line_words.specs.Reply.{print_show}
 use Rattle.line_words.specs.declared.reply.Reply.{Reply}
-use Rattle.line_words.specs.declared.reply.Reply.TheVariants.{Show, No}
+use Rattle.line_words.specs.declared.reply.Reply.TheVariants.{Show, No, Seen}
 
 -- a line begins with one of the letters of a show
 abbrev pub begins_show : List ℕ → Bool
@@ -24,7 +25,24 @@ pub record AreShowLines (bytes : List ℕ) : Type 0 where
   pub each : All IsShowLine lines
   pub spelled : bytes ≡ with_lf lines
 
--- a reply that is a show has show lines
+-- a show among others: its session, its number and its lines
+pub record NumberedShow : Type 0 where
+  pub session : ℕ
+  pub number : ℕ
+  pub body : List ℕ
+
+-- it as it is written
+abbrev pub print_numbered : NumberedShow → List ℕ
+print_numbered show = print_show show.session show.number show.body
+
+-- bytes are shows as they are written, one behind the other, each with show lines
+pub record AreShows (bytes : List ℕ) : Type 0 where
+  pub shows : List NumberedShow
+  pub each : All (λ (show : NumberedShow). AreShowLines show.body) shows
+  pub spelled : bytes ≡ flat_map print_numbered shows
+
+-- a reply that is a show, or shows, has show lines
 abbrev pub HasShowLines : Reply → Type 0
 HasShowLines (Show s n body) = AreShowLines body
 HasShowLines (No why) = Unit {0}
+HasShowLines (Seen s from to text) = AreShows text

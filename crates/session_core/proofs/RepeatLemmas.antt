@@ -13,7 +13,7 @@ use Rattle.gate_journal.specs.declared.command.Command.{Command}
 use Rattle.gate_journal.specs.declared.command.Command.TheVariants as commands
 use Rattle.line_words.specs.declared.request.Request.{Request}
 use Rattle.line_words.specs.declared.request.Request.TheVariants.{Open, Line, Char, File, Last}
-use Rattle.line_words.specs.declared.request.Request.TheVariants.{Close}
+use Rattle.line_words.specs.declared.request.Request.TheVariants.{Close, Watch}
 use Rattle.line_words.specs.declared.reply.No.{No}
 use Rattle.line_words.specs.declared.reply.No.TheVariants.{Full}
 use Rattle.story_run.specs.declared.story.Story.{Story}
@@ -78,7 +78,7 @@ all_fail [] e = tt
 all_fail ((true, why) ∷ more) e = absurd cc
 all_fail ((false, why) ∷ more) e = (refl, all_fail more e)
 
-accepted_none : (stories : List Story) (game : List Command) (show : Option Command → List ℕ)
+pub accepted_none : (stories : List Story) (game : List Command) (show : Option Command → List ℕ)
     (request : Request) (refusal : Option No) (command : Command)
     → (decided stories game show request refusal).accepted ≡ Some command
     → (refusal ≡ None) × (accepted_by stories game request ≡ Some command)
@@ -136,7 +136,7 @@ same_list : (xs : List ℕ) → bytes_eq xs xs ≡ true
 same_list xs = (bytes_eq-Decides xs xs).1 refl
 
 -- a game opened with this key, once a command has joined it whose number was the next one
-record Joins (stories : List Story) (g : List Command) (key : List ℕ) (n : ℕ) (x : Command)
+pub record Joins (stories : List Story) (g : List Command) (key : List ℕ) (n : ℕ) (x : Command)
     : Type 0 where
   pub keyed : has_key (joined g x) key ≡ true
   pub last : last_of (joined g x) ≡ Some x
@@ -169,7 +169,7 @@ joins stories (commands.File name ∷ cs) key n x keyed next = absurd cc
 joins stories (commands.Close ∷ cs) key n x keyed next = absurd cc
 
 -- the number is one of a session, and the command that comes next joins the game
-known_joins : (stories : List Story) (g : List Command) (far used : Bool) (key : List ℕ) (n : ℕ)
+pub known_joins : (stories : List Story) (g : List Command) (far used : Bool) (key : List ℕ) (n : ℕ)
     (x : Command)
     → (far || not (has_key g key && used)) ≡ false → (n == command_count g + 1) ≡ true
     → (far ≡ false) × Joins stories g key n x
@@ -265,6 +265,7 @@ passes_again stories history (Close s key n) x a u f e =
       rw (j.0, j.1.keyed, j.1.last, j.1.early, j.1.same, j.1.ahead) refl,
       j.1.stale,
     )
+passes_again stories history (Watch s word from) x a u f e = absurd cc
 
 -- the number that a new command shows is its own, whatever the game is
 same_shown_number : (g h : List Command) (request : Request)
@@ -276,6 +277,7 @@ same_shown_number g h (Char s key n win code) f = refl
 same_shown_number g h (File s key n name) f = refl
 same_shown_number g h (Last s key) f = absurd cc
 same_shown_number g h (Close s key n) f = refl
+same_shown_number g h (Watch s word from) f = absurd cc
 
 pub repeats : (stories : List Story) (history : List Command) (request : Request)
     (command : Command)
@@ -291,7 +293,7 @@ repeats stories history request command e =
     (refusal_of stories history game request) command e in
     let taken = chosen (is_fresh game request) (command_of stories request) command by.1 in
     let fails = all_fail (checks (world_of stories game) stories history game request) by.0 in
-    let p = passes_again stories history request command fails.0 fails.1.1.1.0 taken.0 taken.1 in
+    let p = passes_again stories history request command fails.1.0 fails.1.1.1.1.0 taken.0 taken.1 in
     rw (
       by.0,
       none_holds stories (history ++ command ∷ []) grown request p,

@@ -2,17 +2,15 @@
 use Rattle.std.proofs.Common.{ℕ, List, Option, Some, None, refl, inl, inr}
 use Rattle.gate_journal.specs.declared.command.Command.{Command}
 use Rattle.line_words.specs.declared.reply.Reply.{Reply}
-use Rattle.story_run.specs.declared.story.Story.{Story}
-use Rattle.story_run.specs.World.{WorldState}
 use Rattle.session_core.specs.declared.entry.Entry.{Entry}
 use Rattle.session_core.specs.declared.entry.Entry.TheVariants.{Accepted, Faulted}
 use Rattle.session_core.specs.declared.entry.Outcome.{Outcome}
 use Rattle.session_core.specs.declared.entry.Outcome.TheVariants.{Answered, DiskFailed, OutOfMemory}
 use Rattle.session_core.specs.declared.entry.Outcome.TheVariants.{Forgotten}
-use Rattle.session_core.specs.Turning.{AddsTo, commands_in, decision_in, turn_in, turn_met}
+use Rattle.session_core.specs.Turning.{AddsTo, turn_met}
 
 -- whatever is decided and met, a turn adds nothing, or one entry of its number
-met_adds : (h : List Entry) (by : ℕ) (reply : Reply) (accepted : Option Command)
+pub met_adds : (h : List Entry) (by : ℕ) (reply : Reply) (accepted : Option Command)
     (outcome : Outcome)
     → AddsTo h by (turn_met h by reply accepted outcome).history
 met_adds h by reply None Answered = inl refl
@@ -23,11 +21,3 @@ met_adds h by reply (Some c) Answered = inr (Accepted by c, refl, refl)
 met_adds h by reply (Some c) (DiskFailed from to) = inr (Faulted by from to, refl, refl)
 met_adds h by reply (Some c) OutOfMemory = inl refl
 met_adds h by reply (Some c) Forgotten = inr (Accepted by c, refl, refl)
-
-pub turn_in_adds : (stories : List Story) (budget : ℕ) (h : List Entry)
-    (now : Option WorldState) (by : ℕ) (line : List ℕ) (outcome : Outcome)
-    → AddsTo h by (turn_in stories budget h now by line outcome).history
-unfolding turn_in
-turn_in_adds stories budget h now by line outcome =
-    met_adds h by (decision_in stories budget (commands_in h) now line).reply
-    (decision_in stories budget (commands_in h) now line).accepted outcome

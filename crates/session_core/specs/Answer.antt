@@ -1,12 +1,12 @@
 -- The reply to a request, and the command that it makes a session accept (own).
-use Rattle.std.specs.Prelude.{ℕ, Bool, true, false, if◌then◌else◌, List, [], ◌∷◌, ◌++◌, Option}
-use Rattle.std.specs.Prelude.{Some, None, codes}
+use Rattle.std.specs.Prelude.{ℕ, ◌+◌, Bool, true, false, if◌then◌else◌, List, [], ◌∷◌, ◌++◌}
+use Rattle.std.specs.Prelude.{take, Option, Some, None, codes}
 use Rattle.glk_input.specs.declared.input.Input.{Input}
 use Rattle.gate_journal.specs.declared.command.Command.{Command}
 use Rattle.gate_journal.specs.declared.command.Command.TheVariants as commands
 use Rattle.line_words.specs.declared.request.Request.{Request}
 use Rattle.line_words.specs.declared.request.Request.TheVariants.{Open, Line, Char, File, Last}
-use Rattle.line_words.specs.declared.request.Request.TheVariants.{Close}
+use Rattle.line_words.specs.declared.request.Request.TheVariants.{Close, Watch}
 use Rattle.line_words.specs.declared.reply.No.{No}
 use Rattle.line_words.specs.declared.reply.No.TheVariants as no
 use Rattle.line_words.specs.declared.reply.Reply.{Reply}
@@ -17,7 +17,8 @@ use Rattle.story_run.specs.Solo.{last_lines}
 use Rattle.session_core.specs.declared.decision.Decision.{Decision}
 use Rattle.session_core.specs.History.{game_of, command_count, input_of, is_in_use, turned_on}
 use Rattle.session_core.specs.History.{world_of}
-use Rattle.session_core.specs.Checks.{session_of, command_of, is_fresh, is_absent, is_taken}
+use Rattle.session_core.specs.Checks.{session_of, command_of, is_fresh, is_watch, is_absent}
+use Rattle.session_core.specs.Checks.{is_taken}
 use Rattle.session_core.specs.Checks.{is_story_missing, is_changed, is_early, is_different}
 use Rattle.session_core.specs.Checks.{is_ahead}
 use Rattle.session_core.specs.Checks.{comes_late, is_unwanted, is_full}
@@ -30,7 +31,8 @@ first_refusal ((holds, why) ∷ more) = if holds then Some why else first_refusa
 -- the checks that need no world, in their order
 abbrev pub plain_checks : List Story → List Command → Request → List (Bool × No)
 plain_checks stories game request =
-    (is_absent game request, no.NoSession)
+    (is_watch request, no.BadLine)
+    ∷ (is_absent game request, no.NoSession)
     ∷ (is_taken game request, no.InUse)
     ∷ (is_story_missing stories game request, no.NoStory)
     ∷ (is_changed stories game request, no.Changed)
@@ -91,6 +93,10 @@ show_while false now = codes "E closed" ++ 10 ∷ []
 unfoldable pub game_show : List Story → List Command → List ℕ
 game_show stories game = show_while (is_in_use game) (world_of stories game)
 
+-- the n-th show of a game, by its story run alone: the opening has the number 0
+abbrev pub solo_show : List Story → List Command → ℕ → List ℕ
+solo_show stories game n = show_in (world_of stories (take (n + 1) game))
+
 -- a session's world, if there is one, after what a command gives its story
 abbrev pub turned_in : Option WorldState → Option Input → Option WorldState
 turned_in (Some world) input = Some (turned_on world input)
@@ -124,6 +130,7 @@ shown_number game (Char s key n win code) = n
 shown_number game (File s key n name) = n
 shown_number game (Last s key) = command_count game
 shown_number game (Close s key n) = n
+shown_number game (Watch s word from) = from
 
 -- the reply to a request that isn't refused
 abbrev pub show_reply : List Command → List ℕ → Request → Reply

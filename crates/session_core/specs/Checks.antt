@@ -8,7 +8,7 @@ use Rattle.gate_journal.specs.declared.command.Command.{Command}
 use Rattle.gate_journal.specs.declared.command.Command.TheVariants as commands
 use Rattle.line_words.specs.declared.request.Request.{Request}
 use Rattle.line_words.specs.declared.request.Request.TheVariants.{Open, Line, Char, File, Last}
-use Rattle.line_words.specs.declared.request.Request.TheVariants.{Close}
+use Rattle.line_words.specs.declared.request.Request.TheVariants.{Close, Watch}
 use Rattle.story_run.specs.declared.story.Story.{Story}
 use Rattle.story_run.specs.World.{WorldState}
 use Rattle.story_run.specs.Solo.{is_over, is_wanted}
@@ -23,8 +23,9 @@ session_of (Char s key n win code) = s
 session_of (File s key n name) = s
 session_of (Last s key) = s
 session_of (Close s key n) = s
+session_of (Watch s word from) = s
 
--- a request's key
+-- a request's key; WATCH has none
 abbrev pub request_key : Request → List ℕ
 request_key (Open s key story seed cols rows budget) = key
 request_key (Line s key n win text term) = key
@@ -32,8 +33,9 @@ request_key (Char s key n win code) = key
 request_key (File s key n name) = key
 request_key (Last s key) = key
 request_key (Close s key n) = key
+request_key (Watch s word from) = []
 
--- the number of a request's command; OPEN and LAST have none
+-- the number of a request's command; OPEN, LAST and WATCH have none
 abbrev pub command_number : Request → Option ℕ
 command_number (Open s key story seed cols rows budget) = None
 command_number (Line s key n win text term) = Some n
@@ -41,6 +43,7 @@ command_number (Char s key n win code) = Some n
 command_number (File s key n name) = Some n
 command_number (Last s key) = None
 command_number (Close s key n) = Some n
+command_number (Watch s word from) = None
 
 -- there is a number, and it passes the test
 abbrev pub passes : (ℕ → Bool) → Option ℕ → Bool
@@ -52,7 +55,7 @@ abbrev pub opening_command : Option Story → (List ℕ → Command) → Option 
 opening_command (Some story) command = Some (command story.digest)
 opening_command None command = None
 
--- the command that a request asks to be accepted; LAST asks for none
+-- the command that a request asks to be accepted; LAST and WATCH ask for none
 abbrev pub command_of : List Story → Request → Option Command
 command_of stories (Open s key story seed cols rows budget) =
     opening_command (story_at stories story)
@@ -62,6 +65,7 @@ command_of stories (Char s key n win code) = Some (commands.Char win code)
 command_of stories (File s key n name) = Some (commands.File name)
 command_of stories (Last s key) = None
 command_of stories (Close s key n) = Some commands.Close
+command_of stories (Watch s word from) = None
 
 -- the command is the one that the request asks for, compared after decoding
 abbrev pub is_asked_by : Request → Command → Bool
@@ -81,6 +85,11 @@ is_last None request = false
 abbrev pub is_fresh : List Command → Request → Bool
 is_fresh game (Open s key story seed cols rows budget) = not (is_in_use game)
 is_fresh game request = passes (λ n. n == command_count game + 1) (command_number request)
+
+-- NO 1: a spectator's request, which a session doesn't answer by itself
+abbrev pub is_watch : Request → Bool
+is_watch (Watch s word from) = true
+is_watch request = false
 
 -- NO 2: no such session number; or, but for OPEN, the session is free or has another key. The CLOSE
 -- that freed it, given again, passes.

@@ -1,6 +1,7 @@
 -- A turn of a session: its reply, and what its history takes (own).
 use Rattle.std.specs.Prelude.{◌≡◌, ◌⊎◌, ℕ, if◌then◌else◌, List, [], ◌∷◌, ◌++◌, Option}
 use Rattle.std.specs.Prelude.{Some, None}
+use Rattle.disk_model.specs.Disk.{Rose}
 use Rattle.gate_journal.specs.declared.command.Command.{Command}
 use Rattle.line_words.specs.Play.{is_long}
 use Rattle.line_words.specs.Request.{request_of}
@@ -83,10 +84,14 @@ turn_in stories budget history now by line outcome =
     turn_met history by (decision_in stories budget (commands_in history) now line).reply
     (decision_in stories budget (commands_in history) now line).accepted outcome
 
--- what a turn may meet: where no command is accepted, nothing is written, so no disk fails in it
+-- What a turn may meet: where no command is accepted, nothing is written, so no disk fails in it;
+-- and where a disk fails its count rises.
 abbrev pub MayMeet : Option Command → Outcome → Type 0
 MayMeet None Answered = Unit {0}
 MayMeet None OutOfMemory = Unit {0}
 MayMeet None (DiskFailed from to) = ⊥
 MayMeet None Forgotten = ⊥
-MayMeet (Some command) outcome = Unit {0}
+MayMeet (Some command) Answered = Unit {0}
+MayMeet (Some command) OutOfMemory = Unit {0}
+MayMeet (Some command) (DiskFailed from to) = Rose from to
+MayMeet (Some command) Forgotten = Unit {0}

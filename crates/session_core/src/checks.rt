@@ -3,7 +3,7 @@
 ghost use Rattle.std.specs.Prelude.{◌≡◌, ◌≤◌, length, IfOk, Some, None, MatchOption};
 ghost use Rattle.session_core.specs.History.{game_of, command_count, is_in_use, has_key, last_of};
 ghost use Rattle.session_core.specs.Checks.{session_of, request_key, command_number, is_fresh};
-ghost use Rattle.session_core.specs.Checks.{is_known};
+ghost use Rattle.session_core.specs.Checks.{is_known, is_watch};
 ghost use Rattle.session_core.specs.Checks.{is_absent, is_own_open, is_taken, is_story_missing};
 ghost use Rattle.session_core.specs.Checks.{is_other_story, is_changed, is_early, is_different};
 ghost use Rattle.session_core.specs.Checks.{is_ahead};
@@ -11,7 +11,7 @@ ghost use Rattle.session_core.specs.Checks.{is_ahead};
 use crate::history::{count, is_in_use, story_at};
 use crate::same::is_last;
 use gate_journal::Command;
-use line_words::{Key, Request};
+use line_words::Request;
 use story_run::Story;
 
 /// The session numbers are below this.
@@ -27,11 +27,13 @@ pub fn session_of(request: &Request) -> u32
         | Request::Char { s, .. }
         | Request::File { s, .. }
         | Request::Last { s, .. }
-        | Request::Close { s, .. } => *s,
+        | Request::Close { s, .. }
+        | Request::Watch { s, .. } => *s,
     }
 }
 
-fn key_of(request: &Request) -> &Key
+/// The letters and digits of its key; WATCH has none.
+fn key_of(request: &Request) -> &[u8]
     ensures { result.now ≡ request_key request.now }
 {
     match request {
@@ -40,16 +42,17 @@ fn key_of(request: &Request) -> &Key
         | Request::Char { key, .. }
         | Request::File { key, .. }
         | Request::Last { key, .. }
-        | Request::Close { key, .. } => key,
+        | Request::Close { key, .. } => key.as_slice(),
+        Request::Watch { .. } => &[],
     }
 }
 
-/// The number of the request's command; OPEN and LAST have none.
+/// The number of the request's command; OPEN, LAST and WATCH have none.
 pub fn number_of(request: &Request) -> Option<u32>
     ensures { result ≡ command_number request.now }
 {
     match request {
-        Request::Open { .. } | Request::Last { .. } => None,
+        Request::Open { .. } | Request::Last { .. } | Request::Watch { .. } => None,
         Request::Line { n, .. }
         | Request::Char { n, .. }
         | Request::File { n, .. }
@@ -57,11 +60,11 @@ pub fn number_of(request: &Request) -> Option<u32>
     }
 }
 
-fn has_key(game: &[Command], other: &Key) -> bool
+fn has_key(game: &[Command], other: &[u8]) -> bool
     ensures { result ≡ has_key game.now other.now }
 {
     match game {
-        [Command::Open { key, .. }, ..] => key.as_slice() == other.as_slice(),
+        [Command::Open { key, .. }, ..] => key.as_slice() == other,
         _ => false,
     }
 }
@@ -91,6 +94,13 @@ fn is_known(game: &[Command], request: &Request) -> bool
         }
         _ => has_key(game, key_of(request)) && is_in_use(game),
     }
+}
+
+/// A spectator's request, which a session doesn't answer by itself.
+pub fn is_watch(request: &Request) -> bool
+    ensures { result ≡ is_watch request.now }
+{
+    matches!(request, Request::Watch { .. })
 }
 
 /// No such session number; or, but for OPEN, the session is free or has another key.

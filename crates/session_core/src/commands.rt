@@ -1,10 +1,21 @@
 //! A session's history as a list (own).
 
-ghost use Rattle.std.specs.Prelude.{◌≡◌, ◌++◌, ◌∷◌, [], OnOk, OnErr};
+ghost use Rattle.std.specs.Prelude.{◌≡◌, ◌++◌, ◌∷◌, [], IfOk, OnOk, OnErr};
 
 use gate_journal::Command;
 use std::alloc::{AllocError, Global};
 use std::marker::Model;
+
+/// Equal commands, in their order; an error where memory runs out.
+pub fn copies_of(alloc: Global, commands: &[Command]) -> Result<Vec<Command>, AllocError>
+    ensures { IfOk result (λ copies. copies.items ≡ commands.now) }
+{
+    let mut copies = Vec::new(alloc);
+    for at in 0..commands.len() {
+        copies.push(commands[at].copy_of(alloc)?)?;
+    }
+    Ok(copies)
+}
 
 /// Commands, oldest first.
 #[derive(Debug, Drop)]

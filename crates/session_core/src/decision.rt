@@ -9,8 +9,9 @@ ghost use Rattle.session_core.specs.Answer.{shown_number};
 
 use crate::checks::{
     is_absent, is_ahead, is_changed, is_different, is_early, is_fresh, is_missing, is_taken,
-    session_of,
+    is_watch, session_of,
 };
+use crate::commands::copies_of;
 use crate::history::{count, game_of, is_in_use, story_at};
 use crate::world::{input_of, world_of};
 use gate_journal::Command;
@@ -30,7 +31,7 @@ pub struct Decision {
     pub accepted: Option<Command>,
 }
 
-/// The command that a request asks to be accepted; LAST asks for none.
+/// The command that a request asks to be accepted; LAST and WATCH ask for none.
 pub fn command_of(
     alloc: Global,
     stories: &[Story],
@@ -77,7 +78,7 @@ pub fn command_of(
             name: name.copy_of(alloc)?,
         },
         Request::Close { .. } => Command::Close,
-        Request::Last { .. } => return Ok(None),
+        Request::Last { .. } | Request::Watch { .. } => return Ok(None),
     }))
 }
 
@@ -119,6 +120,9 @@ pub fn plain_refusal(stories: &[Story], game: &[Command], request: &Request) -> 
     requires { length game.now ≤ 8192 }
     ensures { result ≡ first_refusal (plain_checks stories.now game.now request.now) }
 {
+    if is_watch(request) {
+        return Some(No::BadLine);
+    }
     if is_absent(game, request) {
         return Some(No::NoSession);
     }
@@ -198,6 +202,7 @@ pub fn shown_number(game: &[Command], request: &Request) -> u32
         | Request::Char { n, .. }
         | Request::File { n, .. }
         | Request::Close { n, .. } => *n,
+        Request::Watch { from, .. } => *from,
     }
 }
 
@@ -223,10 +228,7 @@ fn extended(
 ) -> Result<Vec<Command>, AllocError>
     ensures { IfOk result (λ commands. commands.items ≡ history_extended history.now accepted.now) }
 {
-    let mut commands = Vec::new(alloc);
-    for at in 0..history.len() {
-        commands.push(history[at].copy_of(alloc)?)?;
-    }
+    let mut commands = copies_of(alloc, history)?;
     if let Some(command) = accepted {
         commands.push(command.copy_of(alloc)?)?;
     }

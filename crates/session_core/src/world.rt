@@ -59,6 +59,33 @@ pub fn turn_on<'i, L: Ledger>(
     }
 }
 
+/// The same with a count of its own, which begins with this blank.
+fn turn_uncounted<'i, L: Ledger>(
+    alloc: Global,
+    world: World<'i>,
+    command: &Command,
+    blank: Blank,
+) -> Result<World<'i>, AllocError>
+    requires name { blank.name ≡ L.name }
+    requires parts { blank.parts ≡ L.parts }
+    requires one { L.parts ≡ 1 }
+    ensures { IfOk result (λ after. after ≡ turned_on world.entry (input_of command.now)) }
+{
+    let mut steps = Steps::<L>::new(blank);
+    turn_on(alloc, world, command, &mut steps)
+}
+
+/// The world after what a command gives the story.
+pub fn turned<'i>(
+    alloc: Global,
+    world: World<'i>,
+    command: &Command,
+) -> Result<World<'i>, AllocError>
+    ensures { IfOk result (λ after. after ≡ turned_on world.entry (input_of command.now)) }
+{
+    turn_uncounted::<Brand>(alloc, world, command, Blank::new(1))
+}
+
 /// The world after what these commands give the story, one after the other. Each turn is one step.
 pub fn play_on<'i, L: Ledger>(
     alloc: Global,

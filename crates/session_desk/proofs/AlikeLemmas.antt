@@ -7,10 +7,9 @@ use Rattle.gate_journal.specs.declared.command.Command.{Command}
 use Rattle.gate_journal.specs.declared.command.Command.TheVariants as commands
 use Rattle.line_words.specs.declared.request.Request.{Request}
 use Rattle.line_words.specs.declared.request.Request.TheVariants.{Open, Line, Char, File, Last}
-use Rattle.line_words.specs.declared.request.Request.TheVariants.{Close}
+use Rattle.line_words.specs.declared.request.Request.TheVariants.{Close, Watch}
 use Rattle.line_words.specs.declared.reply.No.{No}
 use Rattle.line_words.specs.declared.reply.No.TheVariants as no
-use Rattle.line_words.specs.declared.reply.Reply.{Reply}
 use Rattle.line_words.specs.declared.reply.Reply.TheVariants as replies
 use Rattle.story_run.specs.declared.story.Story.{Story}
 use Rattle.session_core.specs.declared.decision.Decision.{Decision}
@@ -18,9 +17,8 @@ use Rattle.story_run.specs.World.{WorldState}
 use Rattle.session_core.specs.History.{command_count, game_of, is_in_use, story_at}
 use Rattle.session_core.specs.Checks.{command_of, is_absent, is_fresh, is_full, opening_command}
 use Rattle.session_core.specs.Checks.{session_of}
-use Rattle.session_core.specs.Answer.{accepted_by, answer_in, decided, first_refusal, plain_checks}
-use Rattle.session_core.specs.Answer.{refusal_in, story_checks, shown_number, show_reply}
-use Rattle.session_core.specs.Answer.{show_while, show_with}
+use Rattle.session_core.specs.Answer.{accepted_by, answer_in, first_refusal, plain_checks}
+use Rattle.session_core.specs.Answer.{refusal_in, story_checks, shown_number, show_while}
 use Rattle.session_core.proofs.AnswerLemmas.{accepted_has_room_in}
 use Rattle.session_core.proofs.RepeatLemmas.{all_fail, answer_in-none, chosen, known, some_is}
 use Rattle.session_desk.proofs.VerdictLemmas.{asks, finds_use}
@@ -28,36 +26,37 @@ use Rattle.session_desk.specs.declared.verdict.Verdict.{Verdict}
 use Rattle.session_desk.specs.declared.verdict.Verdict.TheVariants.{Refuse, Again, Fresh, Cold}
 use Rattle.session_desk.specs.Desk.{DeskState, game, show_at, world_now}
 use Rattle.session_desk.specs.Verdict.{foretold, is_to_story, lacks_world, needs_world}
-use Rattle.session_desk.specs.Verdict.{verdict_told, verdict_by, verdict}
+use Rattle.session_desk.specs.Verdict.{verdict_by, verdict}
 use Rattle.session_desk.specs.Laws.{RefusesAlike, ShowsAgain}
 
 -- ---- what was told
 
-told-refuse : (reply : Reply) (accepted : Option Command) (why : No)
-    → verdict_by reply accepted ≡ Refuse why
-    → reply ≡ replies.No why
-told-refuse (replies.No x) accepted why e = cc
-told-refuse (replies.Show s n body) (Some command) why e = absurd cc
-told-refuse (replies.Show s n body) None why e = absurd cc
+told-refuse : (refusal : Option No) (accepted : Option Command) (why : No)
+    → verdict_by refusal accepted ≡ Refuse why
+    → refusal ≡ Some why
+told-refuse (Some x) accepted why e = cc
+told-refuse None (Some command) why e = absurd cc
+told-refuse None None why e = absurd cc
 
-told-again : (reply : Reply) (accepted : Option Command)
-    → verdict_by reply accepted ≡ Again → accepted ≡ None
-told-again (replies.No x) accepted e = absurd cc
-told-again (replies.Show s n body) (Some command) e = absurd cc
-told-again (replies.Show s n body) None e = refl
+told-again : (refusal : Option No) (accepted : Option Command)
+    → verdict_by refusal accepted ≡ Again
+    → (refusal ≡ None) × (accepted ≡ None)
+told-again (Some x) accepted e = absurd cc
+told-again None (Some command) e = absurd cc
+told-again None None e = (refl, refl)
 
-told-fresh : (reply : Reply) (accepted : Option Command)
-    → verdict_by reply accepted ≡ Fresh
-    → (c : Command) × (accepted ≡ Some c)
-told-fresh (replies.No x) accepted e = absurd cc
-told-fresh (replies.Show s n body) (Some command) e = (command, refl)
-told-fresh (replies.Show s n body) None e = absurd cc
+told-fresh : (refusal : Option No) (accepted : Option Command)
+    → verdict_by refusal accepted ≡ Fresh
+    → (refusal ≡ None) × ((c : Command) × (accepted ≡ Some c))
+told-fresh (Some x) accepted e = absurd cc
+told-fresh None (Some command) e = (refl, (command, refl))
+told-fresh None None e = absurd cc
 
-pub told-cold : (reply : Reply) (accepted : Option Command)
-    → verdict_by reply accepted ≡ Cold → true ≡ false
-told-cold (replies.No x) accepted e = absurd cc
-told-cold (replies.Show s n body) (Some command) e = absurd cc
-told-cold (replies.Show s n body) None e = absurd cc
+pub told-cold : (refusal : Option No) (accepted : Option Command)
+    → verdict_by refusal accepted ≡ Cold → true ≡ false
+told-cold (Some x) accepted e = absurd cc
+told-cold None (Some command) e = absurd cc
+told-cold None None e = absurd cc
 
 -- where the verdict isn't Cold the world isn't lacking, and the answer told it
 abbrev is_cold : Verdict → Bool
@@ -90,52 +89,21 @@ held_now desk request e none asks =
 
 -- ---- a refusal
 
-refused : (stories : List Story) (game : List Command) (show : Option Command → List ℕ)
-    (request : Request) (refusal : Option No) (why : No)
-    → verdict_told (decided stories game show request refusal) ≡ Refuse why
-    → decided stories game show request refusal ≡ record { reply = replies.No why; accepted = None }
-refused stories game show request (Some x) why e = rw (told-refuse (replies.No x) None why e) refl
-refused stories game show request None why e =
-    absurd (let is =
-    told-refuse (show_reply game (show (accepted_by stories game request)) request)
-    (accepted_by stories game request) why e in
-    cc)
-
 pub refuses : RefusesAlike
 unfolding answer_in
 refuses desk request why e =
     let now = world_now desk.held in
-    refused desk.stories (game_of desk.commands) (show_with desk.stories desk.commands now) request
-    (refusal_in now desk.stories desk.commands (game_of desk.commands) request) why
+    let is =
+    told-refuse (refusal_in now desk.stories desk.commands (game_of desk.commands) request)
+    (accepted_by desk.stories (game_of desk.commands) request) why
     (warm (lacks_world desk request) (foretold desk.stories desk.commands now request)
-    (Refuse why) e refl).1
+    (Refuse why) e refl).1 in
+    rw is refl
 
 -- ---- a show
 
 abbrev as_again : ℕ → ℕ → List ℕ → Decision
 as_again s n show = record { reply = replies.Show s n show; accepted = None }
-
-again_by : (stories : List Story) (game : List Command) (show : Option Command → List ℕ)
-    (request : Request) (refusal : Option No)
-    → verdict_told (decided stories game show request refusal) ≡ Again
-    → (refusal ≡ None) × (accepted_by stories game request ≡ None)
-again_by stories game show request (Some why) e = absurd cc
-again_by stories game show request None e = (
-  refl,
-  told-again (show_reply game (show (accepted_by stories game request)) request)
-      (accepted_by stories game request) e,
-)
-
-fresh_by : (stories : List Story) (game : List Command) (show : Option Command → List ℕ)
-    (request : Request) (refusal : Option No)
-    → verdict_told (decided stories game show request refusal) ≡ Fresh
-    → (refusal ≡ None) × ((c : Command) × (accepted_by stories game request ≡ Some c))
-fresh_by stories game show request (Some why) e = absurd cc
-fresh_by stories game show request None e = (
-  refl,
-  told-fresh (show_reply game (show (accepted_by stories game request)) request)
-      (accepted_by stories game request) e,
-)
 
 first_of-front : (xs ys : List (Bool × No))
     → first_refusal (xs ++ ys) ≡ None → first_refusal xs ≡ None
@@ -156,7 +124,8 @@ plain now stories history game request e =
 first_is_fresh : (stories : List Story) (request : Request)
     → first_refusal (plain_checks stories [] request) ≡ None
     → is_fresh [] request ≡ true
-first_is_fresh stories request none = by request (all_fail (plain_checks stories [] request) none).0
+first_is_fresh stories request none =
+    by request (all_fail (plain_checks stories [] request) none).1.0
   where
     by : (request : Request) → is_absent [] request ≡ false → is_fresh [] request ≡ true
     by (Open s key story seed cols rows budget) a = refl
@@ -165,6 +134,7 @@ first_is_fresh stories request none = by request (all_fail (plain_checks stories
     by (File s key n name) a = absurd (let k = known (nat_le 64 s) false a in cc)
     by (Last s key) a = absurd (let k = known (nat_le 64 s) false a in cc)
     by (Close s key n) a = absurd (let k = known (nat_le 64 s) false a in cc)
+    by (Watch s word from) a = absurd (let k = known (nat_le 64 s) false a in cc)
 
 taken : (fresh : Bool) (asked : Option Command) (c : Command)
     → cond fresh asked None ≡ None → fresh ≡ true
@@ -193,7 +163,6 @@ pub record Repeats (desk : DeskState) (request : Request) : Type 0 where
 
 pub repeats : (desk : DeskState) (request : Request)
     → verdict desk request ≡ Again → Repeats desk request
-unfolding answer_in
 repeats desk request e =
     let history = desk.commands in
     let now = world_now desk.held in
@@ -201,8 +170,8 @@ repeats desk request e =
     let said =
     warm (lacks_world desk request) (foretold desk.stories history now request) Again e refl in
     let by =
-    again_by desk.stories g (show_with desk.stories history now) request
-    (refusal_in now desk.stories history g request) said.1 in
+    told-again (refusal_in now desk.stories history g request) (accepted_by desk.stories g request)
+    said.1 in
     record {
       told = by.0;
       none = plain now desk.stories history g request by.0;
@@ -237,14 +206,13 @@ has_room None c n h e = absurd cc
 
 pub accepts : (desk : DeskState) (request : Request)
     → verdict desk request ≡ Fresh → Accepts desk request
-unfolding answer_in accepted_by
+unfolding accepted_by
 accepts desk request e =
     let history = desk.commands in
     let now = world_now desk.held in
     let g = game_of history in
     let by =
-    fresh_by desk.stories g (show_with desk.stories history now) request
-    (refusal_in now desk.stories history g request)
+    told-fresh (refusal_in now desk.stories history g request) (accepted_by desk.stories g request)
     (warm (lacks_world desk request) (foretold desk.stories history now request) Fresh e refl).1 in
     let taken = chosen (is_fresh g request) (command_of desk.stories request) by.1.0 by.1.1 in
     record {
@@ -297,6 +265,7 @@ ready desk (File s key n name) c v e =
     let used = finds_use desk.stories (game desk) (File s key n name) none in
     rw (sym (some_is _ c e)) (used, held_now desk (File s key n name) v none (rw used refl))
 ready desk (Last s key) c v e = absurd cc
+ready desk (Watch s word from) c v e = absurd cc
 ready desk (Close s key n) c v e =
     let a = accepts desk (Close s key n) v in
     rw (sym (some_is _ c e)) (finds_use desk.stories (game desk) (Close s key n) a.none

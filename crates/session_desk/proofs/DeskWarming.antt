@@ -55,10 +55,11 @@ warms_tell_ok tells seen_of faults request old new before after (Ok x) w =
     warms_tell tells seen_of faults request old new before after w
 warms_tell_ok tells seen_of faults request old new before after (Err e) w = tt
 
-module _ {D : Type 0} (tells : D → Bool) (seen_of : D → List ℕ)
-    (room label faults reach : D → ℕ) where
+module _ {D : Type 0} (tells : D → Bool) (seen_of : D → List ℕ) (moment : D → ℕ)
+    (left_since : D → ℕ → List ℕ → Type 0) (room label faults reach : D → ℕ) where
   abbrev Whole : List Mark → Option ℕ → SharedState D → Type 0
-  Whole l place state = IsWhole tells seen_of room label faults reach l place state
+  Whole l place state =
+      IsWhole tells seen_of moment left_since room label faults reach l place state
 
   -- a session in use has an OPEN row
   pub has_place : (l : List Mark) (place : Option ℕ) (old : SharedState D)
@@ -138,8 +139,9 @@ module _ {D : Type 0} (tells : D → Bool) (seen_of : D → List ℕ)
       (rw (same, game_is) (w.own sound).agreed) in
       rw (same, game_is, is) at taken
 
-  pub whole_warmed : (may_leave : D → List ℕ → Type 0) (moment : D → ℕ)
-      (left_since : D → ℕ → List ℕ → Type 0)
+  pub whole_warmed : (may_leave : D → List ℕ → Type 0)
+      (counts_now : (d : D) (t : ℕ) (c : List ℕ) → t ≤ moment d → may_leave d c
+      → left_since d t c)
       (l : List Mark) (place : Option ℕ) (old : SharedState D) (desk : DeskState)
       (saves : SavesState D) (world : WorldState)
       → Whole l place old
@@ -157,17 +159,18 @@ module _ {D : Type 0} (tells : D → Bool) (seen_of : D → List ℕ)
       → HoldsOwnWorld old.desk.stories (game old.desk) (Current world))
       → Whole l place
       (record old { desk = desk; history = commands_woven l desk.commands; saves = saves })
-  whole_warmed may_leave moment left_since l place old desk saves world w weaves is
+  whole_warmed may_leave counts_now l place old desk saves world w weaves is
       looks counts areas slots holds =
       rw is (subst (λ (h : List Entry).
       Whole l place (record old { desk = warmed old.desk world; history = h; saves = saves }))
       weaves
-      (whole-looked tells seen_of room label faults reach may_leave moment left_since l place old
-      (Current world) saves w looks counts areas slots.0 slots.1 slots.2 holds))
+      (whole-looked tells seen_of moment left_since room label faults reach may_leave counts_now l
+      place old (Current world) saves w looks counts areas slots.0 slots.1 slots.2 holds))
 
   -- where memory ran out
-  pub whole_cold : (may_leave : D → List ℕ → Type 0) (moment : D → ℕ)
-      (left_since : D → ℕ → List ℕ → Type 0)
+  pub whole_cold : (may_leave : D → List ℕ → Type 0)
+      (counts_now : (d : D) (t : ℕ) (c : List ℕ) → t ≤ moment d → may_leave d c
+      → left_since d t c)
       (l : List Mark) (place : Option ℕ) (old : SharedState D) (saves : SavesState D)
       → Whole l place old
       → OnlyLooks tells may_leave moment left_since reach room label old.saves.store.disk
@@ -180,7 +183,7 @@ module _ {D : Type 0} (tells : D → Bool) (seen_of : D → List ℕ)
       × (saves.missed ≡ old.saves.missed)
       × (saves.last ≡ old.saves.last)
       → Whole l place (record old { saves = saves })
-  whole_cold may_leave moment left_since l place old saves w looks counts areas slots =
-      whole-looked tells seen_of room label faults reach may_leave moment left_since l place
-      old old.desk.held saves w looks counts areas slots.0 slots.1 slots.2
+  whole_cold may_leave counts_now l place old saves w looks counts areas slots =
+      whole-looked tells seen_of moment left_since room label faults reach may_leave counts_now l
+      place old old.desk.held saves w looks counts areas slots.0 slots.1 slots.2
       (λ sound. (w.own sound).holds)

@@ -1,6 +1,6 @@
 -- The history in a journal's entries, with what a turn adds to it.
 use Rattle.std.proofs.Common.{◌≡◌, ℕ, ◌+◌, ◌==◌, Bool, true, false, cond, List, [], ◌∷◌, ◌++◌}
-use Rattle.std.proofs.Common.{Option, Some, None, refl, ap, ◌∙◌, arith}
+use Rattle.std.proofs.Common.{Some, refl, ap, ◌∙◌, arith}
 use Rattle.std.proofs.lemmas.Bool.Decides.{nat_tests}
 use Rattle.std.proofs.lemmas.List.{append-nil}
 use Rattle.gate_journal.specs.Log.{next_row, rows_of}
@@ -15,7 +15,7 @@ use Rattle.session_core.specs.declared.entry.Entry.TheVariants as entries
 use Rattle.session_core.specs.declared.entry.Outcome.{Outcome}
 use Rattle.session_core.specs.declared.entry.Outcome.TheVariants.{Answered, DiskFailed, OutOfMemory}
 use Rattle.session_core.specs.declared.entry.Outcome.TheVariants.{Forgotten}
-use Rattle.session_core.specs.Turning.{commands_in, MayMeet, turn_met}
+use Rattle.session_core.specs.Turning.{commands_in, turn_met}
 use Rattle.session_desk.specs.Turn.{entries_added, history_in}
 
 -- ---- entries behind entries
@@ -31,9 +31,9 @@ history_in-append [] ys s = refl
 history_in-append (Kept r ∷ xs) ys s =
     rw (history_in-append xs ys s)
     (front (r.session == s) (entries.Accepted 0 r.command) (history_in xs s) (history_in ys s))
-history_in-append (Faulted by from to ∷ xs) ys s =
+history_in-append (Faulted r from to ∷ xs) ys s =
     rw (history_in-append xs ys s)
-    (front (by == s + 1) (entries.Faulted 0 from to) (history_in xs s) (history_in ys s))
+    (front (r.by == s + 1) (entries.Faulted 0 from to) (history_in xs s) (history_in ys s))
 
 -- ---- what a turn adds
 
@@ -48,26 +48,21 @@ one_row : (es : List JournalEntry) (rows : List Row) (s : ℕ) (c : Command)
     ≡ history_in es s ++ entries.Accepted 0 c ∷ []
 one_row es rows s c = history_in-append es (Kept (next_row rows s c) ∷ []) s ∙ rw (same s) refl
 
-one_fault : (es : List JournalEntry) (s from to : ℕ)
-    → history_in (es ++ Faulted (s + 1) from to ∷ []) s
+one_fault : (es : List JournalEntry) (rows : List Row) (s : ℕ) (c : Command) (from to : ℕ)
+    → history_in (es ++ Faulted (next_row rows s c) from to ∷ []) s
     ≡ history_in es s ++ entries.Faulted 0 from to ∷ []
-one_fault es s from to =
-    history_in-append es (Faulted (s + 1) from to ∷ []) s ∙ rw (same (s + 1)) refl
+one_fault es rows s c from to =
+    history_in-append es (Faulted (next_row rows s c) from to ∷ []) s ∙ rw (same (s + 1)) refl
 
--- the session's history takes what its turn adds
-pub history_in-added : (es : List JournalEntry) (rows : List Row) (s : ℕ) (reply : Reply)
-    (accepted : Option Command) (outcome : Outcome)
-    → MayMeet accepted outcome
-    → history_in (es ++ entries_added rows s accepted outcome) s
-    ≡ (turn_met (history_in es s) 0 reply accepted outcome).history
-history_in-added es rows s reply None Answered may = no_more es s
-history_in-added es rows s reply None (DiskFailed from to) may = absurd may
-history_in-added es rows s reply None OutOfMemory may = no_more es s
-history_in-added es rows s reply None Forgotten may = absurd may
-history_in-added es rows s reply (Some c) Answered may = one_row es rows s c
-history_in-added es rows s reply (Some c) (DiskFailed from to) may = one_fault es s from to
-history_in-added es rows s reply (Some c) OutOfMemory may = no_more es s
-history_in-added es rows s reply (Some c) Forgotten may = one_row es rows s c
+-- the session's history takes what a turn of its command adds
+pub history_in-taken : (es : List JournalEntry) (rows : List Row) (s : ℕ) (reply : Reply)
+    (c : Command) (outcome : Outcome)
+    → history_in (es ++ entries_added rows s (Some c) outcome) s
+    ≡ (turn_met (history_in es s) 0 reply (Some c) outcome).history
+history_in-taken es rows s reply c Answered = one_row es rows s c
+history_in-taken es rows s reply c (DiskFailed from to) = one_fault es rows s c from to
+history_in-taken es rows s reply c OutOfMemory = no_more es s
+history_in-taken es rows s reply c Forgotten = one_row es rows s c
 
 -- ---- commands
 
@@ -89,5 +84,5 @@ commands_in-history [] s = refl
 commands_in-history (Kept r ∷ es) s =
     kept_or (r.session == s) r.command (history_in es s)
     ∙ ap (λ (x : List Command). cond (r.session == s) (r.command ∷ x) x) (commands_in-history es s)
-commands_in-history (Faulted by from to ∷ es) s =
-    faulted_or (by == s + 1) from to (history_in es s) ∙ commands_in-history es s
+commands_in-history (Faulted r from to ∷ es) s =
+    faulted_or (r.by == s + 1) from to (history_in es s) ∙ commands_in-history es s

@@ -12,7 +12,7 @@ use Rattle.gate_journal.specs.declared.command.Command.TheVariants as commands
 use Rattle.gate_journal.specs.declared.row.Row.{Row}
 use Rattle.line_words.specs.declared.request.Request.{Request}
 use Rattle.line_words.specs.declared.request.Request.TheVariants.{Open, Line, Char, File, Last}
-use Rattle.line_words.specs.declared.request.Request.TheVariants.{Close}
+use Rattle.line_words.specs.declared.request.Request.TheVariants.{Close, Watch}
 use Rattle.line_words.specs.Spelling.{IsRequest}
 use Rattle.line_words.proofs.RequestLaws.{request_only}
 use Rattle.story_run.specs.declared.story.Story.{Story}
@@ -179,6 +179,7 @@ in_range stories (Char s key n win code) c range e digest = rw (sym (some_is _ c
 in_range stories (File s key n name) c range e digest = rw (sym (some_is _ c e)) range
 in_range stories (Last s key) c range e digest = absurd cc
 in_range stories (Close s key n) c range e digest = rw (sym (some_is _ c e)) tt
+in_range stories (Watch s word from) c range e digest = absurd cc
 
 digest_range : (request : Request) (budget : ℕ)
     → IsRequest request → IsBudget budget
@@ -190,6 +191,7 @@ digest_range (Char s key n win code) b r is = (r.1, r.2)
 digest_range (File s key n name) b r is = r.1
 digest_range (Last s key) b r is = tt
 digest_range (Close s key n) b r is = tt
+digest_range (Watch s word from) b r is = tt
 
 as_read : (request : Request) → IsRequest request → with_budget 50000000 request ≡ request
 as_read (Open s key story seed cols rows budget) r =
@@ -199,6 +201,7 @@ as_read (Char s key n win code) r = refl
 as_read (File s key n name) r = refl
 as_read (Last s key) r = refl
 as_read (Close s key n) r = refl
+as_read (Watch s word from) r = refl
 
 pub read_in_range : ReadsInRange
 read_in_range line request budget e is =

@@ -13,8 +13,9 @@ use Rattle.story_run.specs.declared.story.Story.{Story}
 use Rattle.story_run.specs.World.{WorldState}
 use Rattle.session_core.specs.History.{game_of, input_of}
 use Rattle.session_core.proofs.RepeatLemmas.{joined, game_of-append, game_of-append-open}
+use Rattle.snap_store.specs.File.{Stored}
 use Rattle.snap_store.specs.Store.{Snapshots}
-use Rattle.session_saves.specs.Agreement.{IsAgreed, last_row}
+use Rattle.session_saves.specs.Agreement.{Agrees, IsAgreed, last_row}
 use Rattle.session_saves.specs.Game.{inputs_of}
 use Rattle.session_saves.specs.Saves.{IsMissCounted, IsKeptUp, SavesState, is_due}
 use Rattle.session_saves.proofs.AgreementLemmas.{more_commands, new_opens}
@@ -25,14 +26,26 @@ use Rattle.session_desk.proofs.AlikeLemmas.{IsReadyFor}
 
 -- ---- the areas behind a command
 
-agreed-joined : {D : Type 0} (seen_of : D → List ℕ) (stories : List Story) (places : List ℕ)
-    (g : List Command) (c : Command) (store : Snapshots D)
+agrees-joined : (stories : List Story) (places : List ℕ) (g : List Command) (c : Command)
+    (area : Stored)
     → is_open c ≡ false
-    → IsAgreed seen_of stories places g store
-    → IsAgreed seen_of stories places (joined g c) store
-agreed-joined seen_of stories places [] c store shut agreed = agreed
-agreed-joined seen_of stories places (d ∷ ds) c store shut agreed =
-    λ side area e. more_commands stories places (d ∷ ds) c area shut (agreed side area e)
+    → Agrees stories places g area
+    → Agrees stories places (joined g c) area
+agrees-joined stories places [] c area shut agrees = agrees
+agrees-joined stories places (d ∷ ds) c area shut agrees =
+    more_commands stories places (d ∷ ds) c area shut agrees
+
+pub agrees-behind : (stories : List Story) (places : List ℕ) (history : List Command)
+    (c : Command) (row : ℕ) (opens : Bool) (area : Stored)
+    → is_open c ≡ opens
+    → ((p : ℕ) → Contains places p → p < row)
+    → Agrees stories places (game_of history) area
+    → Agrees stories (cond opens (places ++ row ∷ []) places) (game_of (history ++ c ∷ [])) area
+agrees-behind stories places history c row true area opens before agrees =
+    new_opens stories places (game_of history) (game_of (history ++ c ∷ [])) area row before agrees
+agrees-behind stories places history c row false area shut before agrees =
+    rw (game_of-append history c shut)
+    (agrees-joined stories places (game_of history) c area shut agrees)
 
 pub agreed-behind : {D : Type 0} (seen_of : D → List ℕ) (stories : List Story) (places : List ℕ)
     (history : List Command) (c : Command) (row : ℕ) (opens : Bool) (store : Snapshots D)
@@ -41,12 +54,8 @@ pub agreed-behind : {D : Type 0} (seen_of : D → List ℕ) (stories : List Stor
     → IsAgreed seen_of stories places (game_of history) store
     → IsAgreed seen_of stories (cond opens (places ++ row ∷ []) places)
     (game_of (history ++ c ∷ [])) store
-agreed-behind seen_of stories places history c row true store opens before agreed =
-    λ side area e. new_opens stories places (game_of history) (game_of (history ++ c ∷ [])) area row
-    before (agreed side area e)
-agreed-behind seen_of stories places history c row false store shut before agreed =
-    rw (game_of-append history c shut)
-    (agreed-joined seen_of stories places (game_of history) c store shut agreed)
+agreed-behind seen_of stories places history c row opens store is before agreed side area e =
+    agrees-behind stories places history c row opens area is before (agreed side area e)
 
 -- ---- what is kept up behind a command
 

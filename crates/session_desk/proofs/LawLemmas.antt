@@ -6,12 +6,13 @@ use Rattle.gate_journal.specs.declared.command.Command.{Command}
 use Rattle.gate_journal.specs.declared.command.Command.TheVariants as commands
 use Rattle.line_words.specs.declared.request.Request.{Request}
 use Rattle.line_words.specs.declared.request.Request.TheVariants.{Open, Line, Char, File, Last}
-use Rattle.line_words.specs.declared.request.Request.TheVariants.{Close}
-use Rattle.line_words.specs.declared.reply.Reply.{Reply}
+use Rattle.line_words.specs.declared.request.Request.TheVariants.{Close, Watch}
+use Rattle.line_words.specs.declared.reply.No.{No}
 use Rattle.story_run.specs.declared.story.Story.{Story}
 use Rattle.story_run.specs.World.{WorldState}
 use Rattle.session_core.specs.History.{game_of, input_of, is_in_use, last_of, turned_on, world_of}
 use Rattle.session_core.specs.Checks.{input_given, is_fresh}
+use Rattle.session_core.specs.Answer.{accepted_by, refusal_in}
 use Rattle.session_core.specs.Answer.{show_in, show_while, show_with, shown_number, world_with}
 use Rattle.session_core.proofs.RepeatLemmas.{answer_in-none, game_of-append, game_of-append-open}
 use Rattle.session_core.proofs.RepeatLemmas.{joined, last_of-joined}
@@ -21,7 +22,7 @@ use Rattle.session_desk.specs.declared.held.Held.TheVariants.{Nothing, Current, 
 use Rattle.session_desk.specs.Desk.{DeskState, aside, game, held_then, world_held, show_at}
 use Rattle.session_desk.specs.Desk.{world_now}
 use Rattle.session_desk.specs.Verdict.{lacks_world, needs_world, verdict_by, verdict}
-use Rattle.session_desk.specs.Laws.{decision_by_desk, ShowsFresh, IsColdAlone}
+use Rattle.session_desk.specs.Laws.{ShowsFresh, IsColdAlone}
 use Rattle.session_desk.proofs.AlikeLemmas.{accepts, IsReadyFor, ready, told-cold}
 
 -- ---- a show of a new command
@@ -35,6 +36,7 @@ same_number g h (Char s key n win code) f = refl
 same_number g h (File s key n name) f = refl
 same_number g h (Last s key) f = absurd cc
 same_number g h (Close s key n) f = refl
+same_number g h (Watch s word from) f = absurd cc
 
 -- the session's game with a command more
 abbrev behind : List Command → Command → List Command
@@ -103,16 +105,17 @@ shows_fresh desk request e =
 
 -- ---- cold
 
-cold_lacks : (lacks : Bool) (reply : Reply) (accepted : Option Command)
-    → cond lacks Cold (verdict_by reply accepted) ≡ Cold
+cold_lacks : (lacks : Bool) (refusal : Option No) (accepted : Option Command)
+    → cond lacks Cold (verdict_by refusal accepted) ≡ Cold
     → lacks ≡ true
-cold_lacks true reply accepted e = refl
-cold_lacks false reply accepted e = absurd (let x = told-cold reply accepted e in cc)
+cold_lacks true refusal accepted e = refl
+cold_lacks false refusal accepted e = absurd (let x = told-cold refusal accepted e in cc)
 
 pub cold_alone : IsColdAlone
 cold_alone desk request = (
-  λ e. cold_lacks (lacks_world desk request) (decision_by_desk desk request).reply
-      (decision_by_desk desk request).accepted e,
+  λ e. cold_lacks (lacks_world desk request)
+      (refusal_in (world_now desk.held) desk.stories desk.commands (game desk) request)
+      (accepted_by desk.stories (game desk) request) e,
   λ lacks. rw lacks refl,
 )
 

@@ -7,6 +7,7 @@ pub mod JournalLemmas
 pub mod RunLemmas
 pub mod WarmLemmas
 pub mod NowLemmas
+pub mod NeedLemmas
 pub mod HistoryLemmas
 pub mod CommitLemmas
 pub mod TurnLemmas
@@ -16,6 +17,8 @@ pub mod SharedLemmas
 pub mod SharedTurnLemmas
 pub mod StoryLemmas
 pub mod KeptUpLemmas
+pub mod FileLemmas
+pub mod BeginningLemmas
 pub mod SoundLemmas
 pub mod DeskWarming
 pub mod SharingLemmas

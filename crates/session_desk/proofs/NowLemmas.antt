@@ -5,7 +5,7 @@ use Rattle.gate_journal.specs.declared.command.Command.{Command}
 use Rattle.gate_journal.specs.declared.command.Command.TheVariants as commands
 use Rattle.line_words.specs.declared.request.Request.{Request}
 use Rattle.line_words.specs.declared.request.Request.TheVariants.{Open, Line, Char, File, Last}
-use Rattle.line_words.specs.declared.request.Request.TheVariants.{Close}
+use Rattle.line_words.specs.declared.request.Request.TheVariants.{Close, Watch}
 use Rattle.line_words.specs.declared.reply.No.{No}
 use Rattle.line_words.specs.declared.reply.Reply.TheVariants as replies
 use Rattle.story_run.specs.declared.story.Story.{Story}
@@ -98,6 +98,7 @@ show_free stories history now other (Close s key n) none free =
     (λ stale.
     closed_again stories g s key n none
     (none_taken (n == command_count g + 1) commands.Close stale))
+show_free stories history now other (Watch s word from) none free = absurd cc
 
 -- ---- the same answer
 

@@ -1,10 +1,11 @@
 -- The places of a session's OPEN rows in a journal.
-use Rattle.std.proofs.Common.{◌≡◌, inl, ⊎_elim, ℕ, zero, suc, ◌+◌, ◌<◌, ◌==◌, ◌&&◌, Bool, true}
+use Rattle.std.proofs.Common.{◌≡◌, inl, ⊎_elim, ℕ, zero, suc, ◌+◌, ◌<◌, ◌≤◌, ◌==◌, ◌&&◌, Bool, true}
 use Rattle.std.proofs.Common.{false, cond, List, [], ◌∷◌, ◌++◌, length, Option, Some, None, Result}
 use Rattle.std.proofs.Common.{Ok, Err, refl, sym, ap, subst, ◌∙◌, ne_eqb, append_assoc, arith}
 use Rattle.std.specs.Prelude.{IfOk}
 use Rattle.std.specs.List.{Contains, last_or}
 use Rattle.std.proofs.lemmas.Bool.Decides.{nat_tests}
+use Rattle.std.proofs.lemmas.Option.{same_Some}
 use Rattle.std.proofs.lemmas.List.{append-nil, length-append}
 use Rattle.std.proofs.lemmas.List.Elements.{Contains-append_cases}
 use Rattle.turn_cell.specs.History.{Continues, Each, IsForeign}
@@ -19,7 +20,7 @@ use Rattle.gate_journal.specs.declared.entry.Entry.TheVariants.{Kept, Faulted}
 use Rattle.gate_journal.proofs.RowLemmas.{spelled-push}
 use Rattle.line_words.specs.declared.request.Request.{Request}
 use Rattle.line_words.specs.declared.request.Request.TheVariants.{Open, Line, Char, File, Last}
-use Rattle.line_words.specs.declared.request.Request.TheVariants.{Close}
+use Rattle.line_words.specs.declared.request.Request.TheVariants.{Close, Watch}
 use Rattle.story_run.specs.declared.story.Story.{Story}
 use Rattle.session_core.specs.Checks.{command_of, opening_command}
 use Rattle.session_core.specs.History.{game_of, is_in_use, later, story_at}
@@ -46,7 +47,7 @@ opens_of-append (r ∷ xs) ys s =
 pub rows_of-append : (xs ys : List JournalEntry) → rows_of (xs ++ ys) ≡ rows_of xs ++ rows_of ys
 rows_of-append [] ys = refl
 rows_of-append (Kept r ∷ xs) ys = ap (λ (rows : List Row). r ∷ rows) (rows_of-append xs ys)
-rows_of-append (Faulted by from to ∷ xs) ys = rows_of-append xs ys
+rows_of-append (Faulted r from to ∷ xs) ys = rows_of-append xs ys
 
 -- ---- entries of other sessions
 
@@ -63,7 +64,7 @@ pub later_numbered : (seen rest : List JournalEntry)
     → Each IsNumbered (rows_of rest)
 later_numbered [] rest each = each
 later_numbered (Kept r ∷ seen) rest each = later_numbered seen rest each.1
-later_numbered (Faulted by from to ∷ seen) rest each = later_numbered seen rest each
+later_numbered (Faulted r from to ∷ seen) rest each = later_numbered seen rest each
 
 abbrev pub Others : ℕ → List JournalEntry → Type 0
 Others s rest = Each (IsForeign entry_number ((s + 1) ∷ [])) rest
@@ -90,8 +91,8 @@ foreign_none s (Kept r ∷ rest) n f =
     let differ : (r.session == s) ≡ false =
     ne_eqb r.session s (λ e. f.0 (inl (sym (n.0 ∙ ap (λ (k : ℕ). k + 1) e)))) in
     rw differ (foreign_none s rest n.1 f.1)
-foreign_none s (Faulted by from to ∷ rest) n f =
-    let differ : (by == s + 1) ≡ false = ne_eqb by (s + 1) (λ e. f.0 (inl (sym e))) in
+foreign_none s (Faulted r from to ∷ rest) n f =
+    let differ : (r.by == s + 1) ≡ false = ne_eqb r.by (s + 1) (λ e. f.0 (inl (sym e))) in
     rw differ (foreign_none s rest n f.1)
 
 -- nor an OPEN row
@@ -126,10 +127,10 @@ if_one true p x c = contains_one p x c
 if_one false p x c = absurd (contains_none x c)
 
 -- each of these places is before the end
-abbrev AreBelow : List ℕ → ℕ → Type 0
+abbrev pub AreBelow : List ℕ → ℕ → Type 0
 AreBelow places end = (x : ℕ) → Contains places x → x < end
 
-below_next : (s : ℕ) (rows : List Row) (r : Row)
+pub below_next : (s : ℕ) (rows : List Row) (r : Row)
     → IsNext rows r
     → AreBelow (opens_of rows s) (length (journal_bytes rows))
     → AreBelow (opens_of (rows ++ r ∷ []) s) (length (journal_bytes (rows ++ r ∷ [])))
@@ -162,12 +163,49 @@ opens_below s rows journal =
     behind_each (λ (all : List Row). AreBelow (opens_of all s) (length (journal_bytes all))) [] rows
     (below_next s) journal (λ x has. absurd (contains_none x has))
 
+-- and the last one is the greatest
+abbrev AreUpToLast : List ℕ → Type 0
+AreUpToLast places =
+    (last : ℕ) → last_row places ≡ Some last → (x : ℕ) → Contains places x → x ≤ last
+
+up_to_last : (opens : Bool) (places : List ℕ) (p : ℕ) → AreBelow places p → AreUpToLast places
+    → AreUpToLast (places ++ cond opens (p ∷ []) [])
+up_to_last true places p below up last is x has =
+    let at : p ≡ last = same_Some p last (sym (last-append None places p) ∙ is) in
+    ⊎_elim (λ old. let lt = below x old in omega (arith, lt, at))
+    (λ new. let same = contains_one p x new in omega (arith, same, at))
+    (Contains-append_cases places (p ∷ []) x has)
+up_to_last false places p below up last is x has =
+    subst AreUpToLast (sym (append-nil places)) up last is x has
+
+last_next : (s : ℕ) (rows : List Row) (r : Row)
+    → IsNext rows r
+    → AreBelow (opens_of rows s) (length (journal_bytes rows)) × AreUpToLast (opens_of rows s)
+    → AreBelow (opens_of (rows ++ r ∷ []) s) (length (journal_bytes (rows ++ r ∷ [])))
+    × AreUpToLast (opens_of (rows ++ r ∷ []) s)
+last_next s rows r next both = (
+  below_next s rows r next both.0,
+  subst AreUpToLast (sym (opens_of-append rows (r ∷ []) s))
+      (up_to_last (r.session == s && is_open r.command) (opens_of rows s) r.place
+      (subst (AreBelow (opens_of rows s)) (sym next.place) both.0) both.1),
+)
+
+-- a session's last place is the greatest of them
+pub opens_last : (s : ℕ) (rows : List Row)
+    → IsJournal rows → (last : ℕ) → last_row (opens_of rows s) ≡ Some last
+    → (x : ℕ) → Contains (opens_of rows s) x
+    → x ≤ last
+opens_last s rows journal =
+    (behind_each (λ (all : List Row). AreBelow (opens_of all s) (length (journal_bytes all))
+    × AreUpToLast (opens_of all s)) [] rows (last_next s) journal
+    (λ x has. absurd (contains_none x has), λ last is x has. absurd (contains_none x has))).1
+
 -- ---- behind a commit
 
 same_session : (s : ℕ) → (s == s) ≡ true
 same_session s = grind (arith, nat_tests)
 
-one_open : (opens : Bool) (places : List ℕ) (p q : ℕ)
+pub one_open : (opens : Bool) (places : List ℕ) (p q : ℕ)
     → p ≡ q
     → places ++ cond opens (p ∷ []) [] ≡ cond opens (places ++ q ∷ []) places
 one_open true places p q e = ap (λ (x : ℕ). places ++ x ∷ []) e
@@ -191,7 +229,8 @@ opens_added s log c (Ok place) at =
     (length (journal_bytes (rows_of log))) place (sym at)
 opens_added s log c (Err (DiskFault fault)) at =
     ap (λ (rows : List Row). opens_of rows s)
-    (rows_of-append log (Faulted (s + 1) fault.from fault.to ∷ []) ∙ append-nil (rows_of log))
+    (rows_of-append log (Faulted (next_row (rows_of log) s c) fault.from fault.to ∷ [])
+    ∙ append-nil (rows_of log))
 opens_added s log c (Err NoMemory) at =
     ap (λ (es : List JournalEntry). opens_of (rows_of es) s) (append-nil log)
 
@@ -250,6 +289,7 @@ to_open stories (Char s key n win code) c e = rw (sym (some_is _ c e)) refl
 to_open stories (File s key n name) c e = rw (sym (some_is _ c e)) refl
 to_open stories (Last s key) c e = absurd cc
 to_open stories (Close s key n) c e = rw (sym (some_is _ c e)) refl
+to_open stories (Watch s word from) c e = absurd cc
 
 -- the place of the last OPEN row behind a commit
 pub row_by : (stories : List Story) (s : ℕ) (old new : List JournalEntry) (place : Option ℕ)

@@ -37,14 +37,14 @@ use Rattle.session_desk.specs.Desk.{committed, DeskState, cold_desk}
 use Rattle.session_desk.specs.Marks.{count_commands, marks_by, commands_woven}
 use Rattle.session_desk.specs.Shared.{desk_tag, DeskTag, history_met, IsMarked, IsPassOf}
 use Rattle.session_desk.specs.Shared.{LeavesHistory, met_by, SharedState, TakesEntry, unnumbered}
-use Rattle.session_desk.specs.Shared.{unplaced}
+use Rattle.session_desk.specs.Shared.{HasRisen, unplaced}
 use Rattle.session_desk.specs.Turn.{entries_added, history_in}
 use Rattle.session_desk.proofs.OpensLemmas.{foreign_none, later_numbered, next_numbered}
 use Rattle.snap_store.specs.Store.{Snapshots}
 use Rattle.session_saves.specs.Saves.{SavesState}
 use Rattle.session_desk.proofs.MarkLemmas.{commands_in-woven, count-all, count-by, woven-all}
 use Rattle.session_desk.proofs.MarkLemmas.{woven-by}
-use Rattle.session_desk.proofs.HistoryLemmas.{commands_in-history, history_in-added}
+use Rattle.session_desk.proofs.HistoryLemmas.{commands_in-history, history_in-taken}
 use Rattle.session_desk.proofs.HistoryLemmas.{history_in-append}
 
 -- the state of a desk with these fields
@@ -118,7 +118,7 @@ pub appended : {D T : Type 0} (faults : D → ℕ) (request : Request) (desk new
     (old new : Log D) (c : Command) (done : Result T Refused)
     → command_of desk.stories request ≡ Some c
     → OnOk done (Commits request desk old new_desk new)
-    → IfErr done (λ why. RefusalLeaves faults desk.session old new why)
+    → IfErr done (λ why. RefusalLeaves faults desk.session c old new why)
     → new.entries
     ≡ old.entries ++ entries_added (rows_of old.entries) desk.session (Some c) (met_by done)
 appended faults request desk new_desk old new c (Ok x) asked ok err =
@@ -140,7 +140,7 @@ at_most_one s rows None OutOfMemory old new is = inl (is ∙ append-nil old)
 at_most_one s rows None Forgotten old new is = inl (is ∙ append-nil old)
 at_most_one s rows (Some c) Answered old new is = inr (Kept (next_row rows s c), is, refl)
 at_most_one s rows (Some c) (DiskFailed from to) old new is =
-    inr (Faulted (s + 1) from to, is, refl)
+    inr (Faulted (next_row rows s c) from to, is, refl)
 at_most_one s rows (Some c) OutOfMemory old new is = inl (is ∙ append-nil old)
 at_most_one s rows (Some c) Forgotten old new is = inr (Kept (next_row rows s c), is, refl)
 
@@ -152,7 +152,7 @@ pub history_in-behind : (s : ℕ) (log seen new : List JournalEntry) (c : Comman
     → history_in new s ≡ history_met (history_in seen s) 0 (Some c) outcome
 history_in-behind s log seen new c outcome journal on is =
     ap (λ (es : List JournalEntry). history_in es s) is
-    ∙ history_in-added log (rows_of log) s (replies.No no.NoMemory) (Some c) outcome tt
+    ∙ history_in-taken log (rows_of log) s (replies.No no.NoMemory) c outcome
     ∙ ap (λ (h : List Entry). history_met h 0 (Some c) outcome)
     (history_in-since s log seen journal on)
 
@@ -345,6 +345,14 @@ pub why_unplaced : (done : Result ℕ Refused) (P : Refused → Type 0)
     → IfErr done P → IfErr (unplaced done) P
 why_unplaced (Ok place) P p = tt
 why_unplaced (Err why) P p = p
+
+pub has_risen : {D : Type 0} (faults : D → ℕ) (session : ℕ) (command : Command) (old new : Log D)
+    (done : Result ℕ Refused)
+    → IfErr done (λ why. RefusalLeaves faults session command old new why) → IfErr done HasRisen
+has_risen faults session command old new (Ok place) left = tt
+has_risen faults session command old new (Err (DiskFault fault)) left =
+    rw (left.0.at_start, left.0.at_end) left.0.rose
+has_risen faults session command old new (Err NoMemory) left = tt
 
 pub met_unplaced : (done : Result ℕ Refused) → met_by done ≡ met_by (unplaced done)
 met_unplaced (Ok place) = refl

@@ -1,6 +1,6 @@
 -- Turns of a shared desk, by what they met.
 use Rattle.std.proofs.Common.{◌≡◌, ◌≢◌, inl, inr, ℕ, ◌+◌, Bool, true, false, List, [], ◌∷◌, ◌++◌}
-use Rattle.std.proofs.Common.{Option, Some, refl, sym, ap, subst, ◌∙◌}
+use Rattle.std.proofs.Common.{Option, Some, None, refl, sym, ap, subst, ◌∙◌}
 use Rattle.std.proofs.lemmas.List.{append-nil}
 use Rattle.turn_cell.specs.History.{Continues, IsForeign}
 use Rattle.gate_journal.specs.Log.{entry_number}
@@ -20,7 +20,8 @@ use Rattle.turn_cell.specs.Passes.{seen}
 use Rattle.session_desk.specs.declared.held.Held.{Held}
 use Rattle.session_desk.specs.declared.turned.Turned.{Turned}
 use Rattle.session_desk.specs.declared.verdict.Verdict.TheVariants.{Cold}
-use Rattle.session_desk.specs.Desk.{committed, DeskState, game, HoldsOwnWorld, ran, shown_to}
+use Rattle.session_desk.specs.Desk.{committed, desk_emptied, DeskState, game, HoldsOwnWorld, ran}
+use Rattle.session_desk.specs.Desk.{shown_to}
 use Rattle.session_desk.specs.Laws.{decision_by_desk}
 use Rattle.session_desk.specs.Shared.{desk_tag, DeskTag, GoesOn, Rests, SharedState, TakesEntry}
 use Rattle.session_desk.specs.Shared.{TurnsTo}
@@ -30,6 +31,16 @@ use Rattle.session_desk.proofs.LawLemmas.{cold_alone}
 use Rattle.session_desk.proofs.NowLemmas.{is_by}
 use Rattle.session_desk.specs.Turn.{AcceptsNothing, IsShown}
 use Rattle.session_desk.proofs.TurnLemmas.{may_forget}
+
+-- as the world is let go
+pub rests-emptied : {D : Type 0} (old mid : SharedState D) → Rests old mid
+    → Rests old (record mid { desk = desk_emptied mid.desk })
+rests-emptied old mid r = record {
+  desk = ap (λ (d : DeskState). desk_emptied d) r.desk;
+  history = r.history;
+  pass = r.pass;
+  tag = r.tag;
+}
 
 -- ---- the reply and the history
 
@@ -127,14 +138,16 @@ pub turns-by : {D : Type 0} (tells : D → Bool) (seen_of : D → List ℕ) (req
     (by : ℕ) (old new : SharedState D) (t : Turned) (d : Decision)
     → Decides tells seen_of request old d → TurnsTo d by old.history t new.history
     → GoesOn old.desk.session d.accepted t.outcome (seen old.pass) (seen new.pass)
+    → (d.accepted ≡ None → new.pass ≡ old.pass)
     → TurnsBy tells seen_of request by old t new
-turns-by tells seen_of request by old new t d decides turns goes = record {
+turns-by tells seen_of request by old new t d decides turns goes idle = record {
   now = decides.now;
   own = decides.own;
   met = rw decides.decides at turns.met;
   reply = rw decides.decides at turns.reply;
   history = rw decides.decides at turns.history;
   journal = rw decides.decides at goes;
+  idle = rw decides.decides at idle;
 }
 
 -- a turn that makes the session accept nothing
@@ -146,7 +159,18 @@ pub turns-by-quiet : {D : Type 0} (tells : D → Bool) (seen_of : D → List ℕ
 turns-by-quiet tells seen_of request by old new t rests (d, decides, quiet) =
     turns-by tells seen_of request by old new t d decides
     (rw rests.history (turns-quiet d by old.history t quiet))
-    (rw rests.pass (goes-quiet d old.desk.session (seen old.pass) t quiet))
+    (rw rests.pass (goes-quiet d old.desk.session (seen old.pass) t quiet)) (λ e. rests.pass)
+
+-- what a fresh request is answered, by the desk that has run its command
+abbrev pub AnswersFresh : DeskState → Request → Type 0
+AnswersFresh desk request =
+    (c : Command) × (command_of desk.stories request ≡ Some c)
+    × (decision_by_desk desk request
+    ≡ record { reply = shown_to (ran (committed desk c)) request; accepted = Some c })
+
+-- a decision that accepts a command doesn't accept nothing
+accepts_some : {P : Type 0} (d : Decision) (c : Command) → d.accepted ≡ Some c → d.accepted ≡ None → P
+accepts_some d c is e = absurd (let both = sym is ∙ e in cc)
 
 -- a turn of a command, behind the steps that leave the session
 pub turns-by-fresh : {D : Type 0} (tells : D → Bool) (seen_of : D → List ℕ)
@@ -155,21 +179,16 @@ pub turns-by-fresh : {D : Type 0} (tells : D → Bool) (seen_of : D → List ℕ
     → TurnsTo (decision_by_desk mid.desk request) by mid.history t new.history
     → GoesOn mid.desk.session (decision_by_desk mid.desk request).accepted t.outcome
     (seen mid.pass) (seen new.pass)
+    → AnswersFresh mid.desk request
     → TurnsBy tells seen_of request by old t new
-turns-by-fresh tells seen_of request by old mid new t rests decides turns goes =
+turns-by-fresh tells seen_of request by old mid new t rests decides turns goes fresh =
     let session : mid.desk.session ≡ old.desk.session =
     ap (λ (d : DeskState). d.session) rests.desk in
     turns-by tells seen_of request by old new t (decision_by_desk mid.desk request) decides
     (rw rests.history at turns) (rw (rests.pass, session) at goes)
+    (accepts_some (decision_by_desk mid.desk request) fresh.0 (ap (λ (d : Decision). d.accepted) fresh.2))
 
 -- ---- a command that was committed
-
--- what a fresh request is answered, by the desk that has run its command
-abbrev pub AnswersFresh : DeskState → Request → Type 0
-AnswersFresh desk request =
-    (c : Command) × (command_of desk.stories request ≡ Some c)
-    × (decision_by_desk desk request
-    ≡ record { reply = shown_to (ran (committed desk c)) request; accepted = Some c })
 
 pub fresh-shown : {D : Type 0} (request : Request) (by : ℕ) (old mid new : SharedState D)
     (t : Turned)

@@ -12,9 +12,12 @@ use Rattle.std.proofs.vec.Vec.TheSendSync as vec
 use Rattle.turn_cell.proofs.pass.Pass.TheSendSync as pass_shares
 use Rattle.disk_model.specs.declared.disk.Disk.{Ghosts}
 use Rattle.gate_journal.specs.contracts.journal.Journal as journal
-use Rattle.gate_journal.proofs.history.History.TheSendSync as history
+use Rattle.gate_journal.specs.contracts.history.History as history
+use Rattle.gate_journal.specs.contracts.mark.Mark as entry_mark
+use Rattle.gate_journal.specs.contracts.moments.Moments as moments
 use Rattle.gate_journal.proofs.room.Room.TheSendSync as room
 use Rattle.gate_journal.proofs.row.Row.TheSendSync as row
+use Rattle.gate_journal.specs.contracts.row.Row as row_type
 use Rattle.snap_store.specs.contracts.store.Store as store
 use Rattle.session_saves.specs.contracts.saves.Saves as saves
 use Rattle.session_saves.proofs.saves.Point.TheSendSync as point
@@ -24,9 +27,27 @@ use Rattle.session_desk.specs.contracts.shared_desk.mark.Mark as mark_type
 use Rattle.session_desk.proofs.desk.Desk.TheSendSync as desk
 use Rattle.session_desk.proofs.shared_desk.mark.Mark.TheSendSync as mark
 
+entry_mark_send : IsSend entry_mark.the_row
+entry_mark_send = search (sendable, view_send, row.the_send) depth 30
+
+entry_marks_send :
+    IsSend (vec_type.the_field entry_mark.the_row global_type.the_row heap_type.ghosts).row
+entry_marks_send =
+    search (sendable, entry_mark_send, vec.the_send, global.the_send, heap.the_frees) depth 20
+
+rows_send : IsSend (vec_type.the_field row_type.the_row global_type.the_row heap_type.ghosts).row
+rows_send = search (sendable, row.the_send, vec.the_send, global.the_send, heap.the_frees) depth 20
+
+history_send : IsSend history.the_row
+history_send = search (sendable, view_send, rows_send, entry_marks_send) depth 30
+
+moments_send : (T : RattleType) → IsSend T → IsSend (moments.the_row T)
+moments_send T s =
+    search (sendable, view_send, vec.the_send, global.the_send, heap.the_frees) depth 40
+
 pub journal_send : (T : RattleType) (g : Ghosts T.Denot) → IsSend T → IsSend (journal.the_row T g)
 journal_send T g s =
-    search (sendable, view_send, history.the_send, room.the_send, row.the_send) depth 30
+    search (sendable, view_send, history_send, moments_send, room.the_send, row.the_send) depth 30
 
 marks_send : IsSend (vec_type.the_field mark_type.the_row global_type.the_row heap_type.ghosts).row
 marks_send =

@@ -1,9 +1,11 @@
 -- What holds of a desk, its snapshots and its world, behind each of its steps.
 use Rattle.std.proofs.Common.{◌≡◌, ℕ, ◌≤◌, max, Bool, false, IsTrue, List, [], ◌∷◌, length}
-use Rattle.std.proofs.Common.{replicate, Option, Some, Result, Ok, Err, refl, sym, ap, subst, ◌∙◌}
-use Rattle.std.proofs.Common.{arith}
+use Rattle.std.proofs.Common.{◌++◌, replicate, Option, Some, Result, Ok, Err, refl, sym, ap}
+use Rattle.std.proofs.Common.{subst, ◌∙◌, append_assoc, arith}
 use Rattle.std.specs.Prelude.{OnErr, OnOk}
-use Rattle.disk_model.specs.Disk.{EachImage, OnlyLooks, SameDisk}
+use Rattle.std.specs.List.{Contains}
+use Rattle.std.proofs.lemmas.List.{append-nil}
+use Rattle.disk_model.specs.Disk.{EachImage, LeavesOnly, OnlyLooks, SameDisk}
 use Rattle.turn_cell.specs.declared.pass.Pass.{Pass}
 use Rattle.turn_cell.specs.Passes.{seen}
 use Rattle.gate_journal.specs.Rows.{is_open, commands_of}
@@ -21,8 +23,9 @@ use Rattle.snap_store.specs.Store.{IsImageOf, Snapshots, store_area}
 use Rattle.snap_store.specs.declared.side.Side.{Side}
 use Rattle.session_saves.specs.Agreement.{IsAgreed, last_row, opens_of}
 use Rattle.session_saves.specs.Game.{inputs_of}
+use Rattle.session_saves.specs.Keeping.{KeepsOpen, MayStandMeanwhile}
 use Rattle.session_saves.specs.Saves as own
-use Rattle.session_saves.specs.Saves.{IsMissCounted, IsKeptUp, SavesState}
+use Rattle.session_saves.specs.Saves.{HasSince, IsMissCounted, IsKeptUp, SavesState}
 use Rattle.session_desk.specs.declared.held.Held.{Held}
 use Rattle.session_desk.specs.declared.held.Held.TheVariants.{Nothing, Current}
 use Rattle.session_desk.specs.declared.refused.Refused.{Refused}
@@ -36,12 +39,13 @@ use Rattle.session_desk.specs.Marks.{commands_woven}
 use Rattle.session_desk.specs.Opens.{opens_behind, OpensBy, row_behind}
 use Rattle.session_desk.specs.Shared.{as_opened, desk_tag, IsMarked, IsPassOf, SharedState}
 use Rattle.session_desk.specs.Sound.{AreKeptUp, EndsStore, IsSameStore, IsSoundDesk, IsWhole}
-use Rattle.session_desk.specs.Sound.{open_rows}
+use Rattle.session_desk.specs.Sound.{KeepsFile, open_rows}
 use Rattle.session_desk.specs.Verdict.{verdict}
 use Rattle.session_desk.proofs.HeldLemmas.{holds-aside, holds-then}
 use Rattle.session_desk.proofs.AlikeLemmas.{ready}
 use Rattle.session_desk.proofs.OpensLemmas.{no_rows, row_by}
-use Rattle.session_desk.proofs.SharedLemmas.{marked-opened, state_of}
+use Rattle.session_desk.proofs.FileLemmas.{file-behind, file-kept, file-looked, file-opened}
+use Rattle.session_desk.proofs.SharedLemmas.{marked-opened, rows-seen, state_of}
 use Rattle.session_desk.proofs.KeptUpLemmas.{agreed-behind, kept-behind, is_done}
 
 rows_of-kept : (rows : List Row) → rows_of (rows_kept rows) ≡ rows
@@ -82,10 +86,11 @@ module _ {D : Type 0} (tells : D → Bool) (room label faults reach : D → ℕ)
 
 -- ---- what holds of the fields
 
-module _ {D : Type 0} (tells : D → Bool) (seen_of : D → List ℕ)
-    (room label faults reach : D → ℕ) where
+module _ {D : Type 0} (tells : D → Bool) (seen_of : D → List ℕ) (moment : D → ℕ)
+    (left_since : D → ℕ → List ℕ → Type 0) (room label faults reach : D → ℕ) where
   abbrev Whole : List Mark → Option ℕ → SharedState D → Type 0
-  Whole l place state = IsWhole tells seen_of room label faults reach l place state
+  Whole l place state =
+      IsWhole tells seen_of moment left_since room label faults reach l place state
 
   -- the state with another world held and other snapshots
   abbrev rested : SharedState D → Held → SavesState D → SharedState D
@@ -100,8 +105,10 @@ module _ {D : Type 0} (tells : D → Bool) (seen_of : D → List ℕ)
       → (IsSoundDesk tells seen_of (desk_tag old)
       → IsAgreed seen_of old.desk.stories (open_rows old) (game old.desk) saves.store)
       → AreKeptUp (rested old held saves)
+      → (IsSoundDesk tells seen_of (desk_tag old)
+      → KeepsFile moment left_since (rested old held saves))
       → Whole l place (rested old held saves)
-  whole-rested l place old held saves w store holds agreed kept = record {
+  whole-rested l place old held saves w store holds agreed kept file = record {
     marked = record {
       counted = w.marked.counted;
       of_session = w.marked.of_session;
@@ -112,6 +119,8 @@ module _ {D : Type 0} (tells : D → Bool) (seen_of : D → List ℕ)
     store = store;
     own = λ sound. record { holds = holds sound; agreed = agreed sound };
     kept_up = kept;
+    rows = w.rows;
+    file = file;
   }
 
   -- as the last command is run
@@ -127,7 +136,17 @@ module _ {D : Type 0} (tells : D → Bool) (seen_of : D → List ℕ)
       rw is (subst (λ (h : List Entry).
       Whole l place (record old { desk = record old.desk { held = held }; history = h })) weaves
       (whole-rested l place old held old.saves w w.store holds
-      (λ sound. (w.own sound).agreed) w.kept_up))
+      (λ sound. (w.own sound).agreed) w.kept_up
+      (λ sound. let f = w.file sound in record { agreed = f.agreed; newest = f.newest })))
+
+  -- as the world is let go
+  pub whole-emptied : (l : List Mark) (place : Option ℕ) (old : SharedState D) (desk : DeskState)
+      → Whole l place old
+      → old.history ≡ commands_woven l old.desk.commands
+      → desk ≡ desk_emptied old.desk
+      → Whole l place (record old { desk = desk; history = commands_woven l desk.commands })
+  whole-emptied l place old desk w weaves is =
+      whole-held l place old desk Nothing w weaves is (λ sound. tt)
 
   pub whole-run : {T E : Type 0} (l : List Mark) (place : Option ℕ) (old : SharedState D)
       (desk : DeskState) (done : Result T E)
@@ -140,7 +159,19 @@ module _ {D : Type 0} (tells : D → Bool) (seen_of : D → List ℕ)
       whole-held l place old desk (ran old.desk).held w weaves ok
       (λ sound. holds-then old.desk.stories (game old.desk) old.desk.held (w.own sound).holds)
   whole-run l place old desk (Err e) w weaves ok err =
-      whole-held l place old desk Nothing w weaves err (λ sound. tt)
+      whole-emptied l place old desk w weaves err
+
+  -- the rows that came before a commit, and then its own
+  more_behind : {l : List Mark} {place : Option ℕ} (old : SharedState D)
+      (pass : Pass (Log D) JournalEntry)
+      → Whole l place old
+      → (more : List Row) × (rows_of (seen pass) ≡ rows_of (seen old.pass) ++ more)
+      → (more : List Row) × (rows_of (seen pass) ≡ old.rows ++ more)
+  more_behind old pass w behind = (
+    w.rows.0 ++ behind.0,
+    behind.1 ∙ ap (λ (rows : List Row). rows ++ behind.0) w.rows.1
+        ∙ append_assoc old.rows w.rows.0 behind.0,
+  )
 
   -- behind a commit
   pub whole-committed : (l m : List Mark) (place : Option ℕ) (old : SharedState D)
@@ -148,6 +179,7 @@ module _ {D : Type 0} (tells : D → Bool) (seen_of : D → List ℕ)
       (done : Result ℕ Refused) → Whole l place old → IsMarked m desk pass
       → OnOk done (desk ≡ committed old.desk c) → OnErr done (desk ≡ old.desk)
       → OpensBy old.desk.session c done (seen old.pass) (seen pass)
+      → (more : List Row) × (rows_of (seen pass) ≡ rows_of (seen old.pass) ++ more)
       → command_of old.desk.stories request ≡ Some c
       → verdict old.desk request ≡ Fresh
       → keeping.snapshot_due old ≡ false
@@ -155,8 +187,9 @@ module _ {D : Type 0} (tells : D → Bool) (seen_of : D → List ℕ)
       → Whole m (row_behind place request done)
       (record old { desk = desk; history = commands_woven m desk.commands; pass = pass })
   whole-committed l m place old desk pass request c
-      (Ok row) w marked ok err opens asked fresh due counted =
+      (Ok row) w marked ok err opens behind asked fresh due counted =
       let places = open_rows old in
+      let stories : desk.stories ≡ old.desk.stories = ap (λ (d : DeskState). d.stories) ok in
       let session : desk.session ≡ old.desk.session = ap (λ (d : DeskState). d.session) ok in
       let is : opens_of (rows_of (seen pass)) desk.session ≡ opens_behind places c (Ok row) =
       ap (λ (s : ℕ). opens_of (rows_of (seen pass)) s) session ∙ opens.opens in
@@ -181,9 +214,15 @@ module _ {D : Type 0} (tells : D → Bool) (seen_of : D → List ℕ)
             (kept-behind old.saves places old.desk.commands c row (is_open c) counted refl
             (is_done old.saves places old.desk c (ready old.desk request c fresh asked) due)
             (w.kept_up (subst (λ (s : ℕ). commands_of old.rows s ≡ []) session none)));
+        rows = more_behind old pass w behind;
+        file =
+            λ sound. file-behind moment left_since old desk
+            (commands_woven m desk.commands) pass stories session w.rows behind
+            (w.file (rw ok at sound));
       }
   whole-committed l m place old desk pass request c
-      (Err why) w marked ok err opens asked fresh due counted =
+      (Err why) w marked ok err opens behind asked fresh due counted =
+      let stories : desk.stories ≡ old.desk.stories = ap (λ (d : DeskState). d.stories) err in
       let session : desk.session ≡ old.desk.session = ap (λ (d : DeskState). d.session) err in
       let is : opens_of (rows_of (seen pass)) desk.session ≡ open_rows old =
       ap (λ (s : ℕ). opens_of (rows_of (seen pass)) s) session ∙ opens.opens in
@@ -197,11 +236,17 @@ module _ {D : Type 0} (tells : D → Bool) (seen_of : D → List ℕ)
         kept_up =
             λ none.
             rw (is, err) (w.kept_up (subst (λ (s : ℕ). commands_of old.rows s ≡ []) session none));
+        rows = more_behind old pass w behind;
+        file =
+            λ sound. file-behind moment left_since old desk
+            (commands_woven m desk.commands) pass stories session w.rows behind
+            (w.file (rw err at sound));
       }
 
   -- as a store was only looked at
-  pub whole-looked : (may_leave : D → List ℕ → Type 0) (moment : D → ℕ)
-      (left_since : D → ℕ → List ℕ → Type 0)
+  pub whole-looked : (may_leave : D → List ℕ → Type 0)
+      (counts_now : (d : D) (t : ℕ) (c : List ℕ) → t ≤ moment d → may_leave d c
+      → left_since d t c)
       (l : List Mark) (place : Option ℕ) (old : SharedState D) (held : Held) (saves : SavesState D)
       → Whole l place old
       → OnlyLooks tells may_leave moment left_since reach room label old.saves.store.disk
@@ -215,7 +260,7 @@ module _ {D : Type 0} (tells : D → Bool) (seen_of : D → List ℕ)
       → (IsSoundDesk tells seen_of (desk_tag old)
       → HoldsOwnWorld old.desk.stories (game old.desk) held)
       → Whole l place (rested old held saves)
-  whole-looked may_leave moment left_since l place old held saves w looks counts areas
+  whole-looked may_leave counts_now l place old held saves w looks counts areas
       made slots missed holds =
       whole-rested l place old held saves w
       (store-kept tells room label faults reach old.store old.saves.store saves.store w.store
@@ -227,6 +272,9 @@ module _ {D : Type 0} (tells : D → Bool) (seen_of : D → List ℕ)
       (still_tells tells room label faults reach old.store old.saves.store w.store sound.0))
       ∙ e))
       (λ none place last. rw (slots, missed) (w.kept_up none place last))
+      (λ sound. file-looked moment left_since may_leave counts_now old held saves
+      (looks.moments (still_tells tells room label faults reach old.store old.saves.store w.store
+      sound.0)) slots (w.file sound))
 
   -- as a snapshot was kept
   pub whole-kept : (l : List Mark) (place : Option ℕ) (old : SharedState D) (saves : SavesState D)
@@ -246,8 +294,18 @@ module _ {D : Type 0} (tells : D → Bool) (seen_of : D → List ℕ)
       → world_of stories g ≡ Some world
       → IsAgreed seen_of stories rows g old.saves.store
       → IsAgreed seen_of stories rows g saves.store)
+      → (IsTrue (tells old.saves.store.disk)
+      → LeavesOnly moment left_since old.saves.store.disk saves.store.disk
+      (MayStandMeanwhile seen_of world row count old.saves.store))
+      → ((stories : List Story) (rows : List ℕ) (g : List Command) (least : ℕ)
+      → IsTrue (tells old.saves.store.disk)
+      → ((x : ℕ) → Contains rows x → x ≤ row)
+      → IsAgreed seen_of stories rows g old.saves.store
+      → HasSince row least old.saves.store.slots
+      → KeepsOpen moment left_since row least old.saves.store saves.store)
       → Whole l place (record old { saves = saves })
-  whole-kept l place old saves w same counts reaches row count world at counted held keeps agrees =
+  whole-kept l place old saves w same counts reaches row count world at counted held keeps agrees
+      crash newest =
       whole-rested l place old old.desk.held saves w
       (store-kept tells room label faults reach old.store old.saves.store saves.store w.store
       same.0 counts reaches same.1)
@@ -260,14 +318,26 @@ module _ {D : Type 0} (tells : D → Bool) (seen_of : D → List ℕ)
       let same_row : p ≡ row = cc in
       let before = w.kept_up none p last in
       rw (same_row, sym counted) (keeps (rw (same_row, sym counted) at before)))
+      (λ sound. let o = w.own sound in
+      let told = still_tells tells room label faults reach old.store old.saves.store w.store
+      sound.0 in
+      let f = file-kept moment left_since seen_of old saves row count world
+      (rows-seen l old.desk old.pass w.marked) (sym w.row ∙ at) counted (rw held at o.holds)
+      o.agreed (crash told)
+      (λ least last has. newest old.desk.stories (open_rows old) (game old.desk) least told last
+      o.agreed has) (w.file sound) in
+      record { agreed = f.agreed; newest = f.newest })
 
   -- as a desk was opened
-  pub whole-opened : (l : List Mark) (s : ℕ) (stories : List Story) (budget : ℕ)
+  pub whole-opened : (may_leave : D → List ℕ → Type 0)
+      (only_now : (d : D) (c : List ℕ) → left_since d (moment d) c → may_leave d c)
+      (l : List Mark) (s : ℕ) (stories : List Story) (budget : ℕ)
       (rows : List Row) (pass : Pass (Log D) JournalEntry) (store : Snapshots D)
       → IsMarked l (cold_desk s stories budget (commands_of rows s)) pass
       → seen pass ≡ rows_kept rows
+      → EachImage tells may_leave store.disk (IsImageOf seen_of store)
       → Whole l (last_row (opens_of rows s)) (as_opened s stories budget rows pass store)
-  whole-opened l s stories budget rows pass store marked saw =
+  whole-opened may_leave only_now l s stories budget rows pass store marked saw are =
       let same : rows_of (seen pass) ≡ rows = ap rows_of saw ∙ rows_of-kept rows in
       record {
         marked = marked;
@@ -286,9 +356,15 @@ module _ {D : Type 0} (tells : D → Bool) (seen_of : D → List ℕ)
             sym last
             ∙ ap last_row (ap (λ (x : List Row). opens_of x s) same ∙ no_rows rows s none) in
             cc);
+        rows = ([], same ∙ sym (append-nil rows));
+        file =
+            λ sound. file-opened moment left_since tells may_leave seen_of s stories budget rows
+            pass store only_now same are sound.0 sound.1;
       }
 
-  pub whole-open : (l : List Mark) (place : Option ℕ) (desk : DeskState) (s : ℕ)
+  pub whole-open : (may_leave : D → List ℕ → Type 0)
+      (only_now : (d : D) (c : List ℕ) → left_since d (moment d) c → may_leave d c)
+      (l : List Mark) (place : Option ℕ) (desk : DeskState) (s : ℕ)
       (stories : List Story) (budget : ℕ) (rows : List Row) (pass : Pass (Log D) JournalEntry)
       (saves : SavesState D) (given : Snapshots D) (first : Pass (Log D) JournalEntry)
       (store : Snapshots D)
@@ -298,10 +374,11 @@ module _ {D : Type 0} (tells : D → Bool) (seen_of : D → List ℕ)
       → place ≡ last_row (opens_of rows s)
       → saves ≡ own.saves_of_opened_store store → given ≡ store
       → first ≡ pass
+      → EachImage tells may_leave store.disk (IsImageOf seen_of store)
       → Whole l place (state_of desk l pass saves given first)
       × (state_of desk l pass saves given first ≡ as_opened s stories budget rows pass store)
-  whole-open l place desk s stories budget rows pass saves given first store all has of
-      saw lies clear is was =
+  whole-open may_leave only_now l place desk s stories budget rows pass saves given first store
+      all has of saw lies clear is was are =
       let m = marked-opened l desk s stories budget rows pass all has of saw in
       let opened : rows_of (seen first) ≡ rows =
       ap (λ (p : Pass (Log D) JournalEntry). rows_of (seen p)) was
@@ -310,8 +387,8 @@ module _ {D : Type 0} (tells : D → Bool) (seen_of : D → List ℕ)
       ≡ as_opened s stories budget rows pass store =
       rw (m.1, has, clear, is, opened) refl in (
         subst (λ (x : SharedState D). Whole l place x) (sym same)
-            (rw lies (whole-opened l s stories budget rows pass store
-            (subst (λ (d : DeskState). IsMarked l d pass) has m.0) saw)),
+            (rw lies (whole-opened may_leave only_now l s stories budget rows pass store
+            (subst (λ (d : DeskState). IsMarked l d pass) has m.0) saw are)),
         same,
       )
 
@@ -320,10 +397,11 @@ module _ {D : Type 0} (tells : D → Bool) (seen_of : D → List ℕ)
       (old : SharedState D)
       → Whole l place old
       → EachImage tells may_leave old.saves.store.disk (IsImageOf seen_of old.saves.store)
-      → EndsStore tells may_leave seen_of room label faults reach old
+      → EndsStore tells may_leave seen_of moment left_since room label faults reach old
   ends_store may_leave l place old w images = record {
     store = w.store;
     agreed =
         λ sound told image may side area e.
         (w.own sound).agreed side area ((images told image may).openable side area e);
+    file = w.file;
   }

@@ -9,7 +9,7 @@ use Rattle.gate_journal.specs.declared.command.Command.{Command}
 use Rattle.gate_journal.specs.declared.command.Command.TheVariants as commands
 use Rattle.line_words.specs.declared.request.Request.{Request}
 use Rattle.line_words.specs.declared.request.Request.TheVariants.{Open, Line, Char, File, Last}
-use Rattle.line_words.specs.declared.request.Request.TheVariants.{Close}
+use Rattle.line_words.specs.declared.request.Request.TheVariants.{Close, Watch}
 use Rattle.line_words.specs.declared.reply.No.{No}
 use Rattle.line_words.specs.declared.reply.No.TheVariants as no
 use Rattle.story_run.specs.declared.story.Story.{Story}
@@ -21,7 +21,7 @@ use Rattle.session_core.specs.History.{command_count, game_of, is_in_use, has_ke
 use Rattle.session_core.specs.Checks.{command_of, opening_command, input_given, is_absent, is_fresh}
 use Rattle.session_core.specs.Checks.{is_full, over_in, unwanted_in}
 use Rattle.session_core.specs.Answer.{first_refusal, plain_checks, story_checks, refusal_in}
-use Rattle.session_core.specs.Answer.{accepted_by, answer_in}
+use Rattle.session_core.specs.Answer.{accepted_by}
 use Rattle.session_core.proofs.AnswerLemmas.{first_of-append-none, refusal_in-plain}
 use Rattle.session_core.proofs.AnswerLemmas.{refusal_in-story}
 use Rattle.session_core.proofs.RepeatLemmas.{all_fail}
@@ -36,7 +36,6 @@ pub told-refused : (stories : List Story) (history : List Command) (now : Option
     (request : Request) (why : No)
     → refusal_in now stories history (game_of history) request ≡ Some why
     → Refuse why ≡ foretold stories history now request
-unfolding answer_in
 told-refused stories history now request why e = rw e refl
 
 pub told-again : (stories : List Story) (history : List Command) (now : Option WorldState)
@@ -44,7 +43,7 @@ pub told-again : (stories : List Story) (history : List Command) (now : Option W
     → refusal_in now stories history (game_of history) request ≡ None
     → is_fresh (game_of history) request ≡ false
     → Again ≡ foretold stories history now request
-unfolding answer_in accepted_by
+unfolding accepted_by
 told-again stories history now request e f = rw (e, f) refl
 
 pub told-fresh : (stories : List Story) (history : List Command) (now : Option WorldState)
@@ -53,7 +52,7 @@ pub told-fresh : (stories : List Story) (history : List Command) (now : Option W
     → is_fresh (game_of history) request ≡ true
     → command_of stories request ≡ Some command
     → Fresh ≡ foretold stories history now request
-unfolding answer_in accepted_by
+unfolding accepted_by
 told-fresh stories history now request command e f c = rw (e, f, c) refl
 
 -- ---- the checks behind the plain ones
@@ -131,12 +130,13 @@ asks stories game (Open s key story seed cols rows budget) none fresh =
     let fails =
     all_fail (plain_checks stories game (Open s key story seed cols rows budget)) none in
     opens_there (not (is_in_use game)) (story_at stories story)
-    (λ digest. commands.Open key story digest seed cols rows budget) fails.1.1.0 fresh
+    (λ digest. commands.Open key story digest seed cols rows budget) fails.1.1.1.0 fresh
 asks stories game (Line s key n win text term) none fresh = (commands.Line win term text, refl)
 asks stories game (Char s key n win code) none fresh = (commands.Char win code, refl)
 asks stories game (File s key n name) none fresh = (commands.File name, refl)
 asks stories game (Last s key) none fresh = absurd cc
 asks stories game (Close s key n) none fresh = (commands.Close, refl)
+asks stories game (Watch s word from) none fresh = absurd cc
 
 opened-gives : (found : Option Story) (key : List ℕ) (story seed cols rows budget : ℕ)
     → input_given
@@ -155,6 +155,7 @@ given-asked stories (Char s key n win code) = refl
 given-asked stories (File s key n name) = refl
 given-asked stories (Last s key) = refl
 given-asked stories (Close s key n) = refl
+given-asked stories (Watch s word from) = refl
 
 -- ---- the checks by the world
 
@@ -185,17 +186,18 @@ nothing_given stories game now request fresh none =
 
 -- ---- whom a request finds
 
--- but for an OPEN, and a CLOSE with the number of the last command, a request that is known finds
--- its session in use
+-- but for an OPEN, a spectator's request, and a CLOSE with the number of the last command, a
+-- request that is known finds its session in use
 abbrev pub FindsUse : List Command → Request → Type 0
 FindsUse g (Open s key story seed cols rows budget) = Unit {0}
 FindsUse g (Close s key n) = (n == command_count g) ≡ false → is_in_use g ≡ true
+FindsUse g (Watch s word from) = Unit {0}
 FindsUse g request = is_in_use g ≡ true
 
 pub finds_use : (stories : List Story) (g : List Command) (request : Request)
     → first_refusal (plain_checks stories g request) ≡ None
     → FindsUse g request
-finds_use stories g request none = by request (all_fail (plain_checks stories g request) none).0
+finds_use stories g request none = by request (all_fail (plain_checks stories g request) none).1.0
   where
     in_use : (far key used again : Bool)
         → (far || not (key && (used || again))) ≡ false
@@ -214,6 +216,7 @@ finds_use stories g request none = by request (all_fail (plain_checks stories g 
     by (Last s key) a = in_use (nat_le 64 s) (has_key g key) (is_in_use g) false a refl
     by (Close s key n) a =
         in_use (nat_le 64 s) (has_key g key) (is_in_use g) (n == command_count g) a
+    by (Watch s word from) a = tt
 
 pub asks_story : (used : Bool) → used ≡ true → (used && true) ≡ false → ⊥
 asks_story true u free = cc
@@ -233,6 +236,7 @@ free_gives stories game (File s key n name) none free =
     absurd (asks_story (is_in_use game) (finds_use stories game (File s key n name) none) free)
 free_gives stories game (Last s key) none free = refl
 free_gives stories game (Close s key n) none free = refl
+free_gives stories game (Watch s word from) none free = refl
 
 pub checks_free : (stories : List Story) (game : List Command) (now : Option WorldState)
     (request : Request)
@@ -279,6 +283,7 @@ refusal-outline w (Char s key n win code) = refl
 refusal-outline w (File s key n name) = rw (wants-file w name) refl
 refusal-outline w (Last s key) = refl
 refusal-outline w (Close s key n) = refl
+refusal-outline w (Watch s word from) = refl
 
 -- the refusal of what stands for the input is that of the input
 pub by_outline : (w : WorldState) (request : Request) (given : Option Input)

@@ -8,7 +8,7 @@ use Rattle.gate_journal.specs.declared.command.Command.TheVariants as commands
 use Rattle.line_words.specs.declared.reply.No.{No}
 use Rattle.line_words.specs.declared.request.Request.{Request}
 use Rattle.line_words.specs.declared.request.Request.TheVariants.{Open, Line, Char, File, Last}
-use Rattle.line_words.specs.declared.request.Request.TheVariants.{Close}
+use Rattle.line_words.specs.declared.request.Request.TheVariants.{Close, Watch}
 use Rattle.story_run.specs.declared.setup.Setup.{Setup}
 use Rattle.story_run.specs.declared.story.Story.{Story}
 use Rattle.story_run.specs.World.{WorldState}
@@ -38,7 +38,7 @@ unchanged : (stories : List Story) (g : List Command) (request : Request)
     → is_to_story g request ≡ true
     → is_other_story stories g ≡ false
 unchanged stories g request none asks =
-    by request (all_fail (plain_checks stories g request) none).1.1.1.0 asks
+    by request (all_fail (plain_checks stories g request) none).1.1.1.1.0 asks
   where
     by : (request : Request)
         → is_changed stories g request ≡ false → is_to_story g request ≡ true
@@ -52,6 +52,7 @@ unchanged stories g request none asks =
     by (Last s key) same asks = same
     by (Close s key n) same asks =
         absurd (let e = (and_parts (is_in_use g) false asks).1 in cc)
+    by (Watch s word from) same asks = same
 
 none_is : {A : Type 0} → (o : Option A) → is_none o ≡ true → o ≡ None
 none_is None e = refl
@@ -158,9 +159,10 @@ unfolding accepted_by
 closed_again stories g s key n none accepted =
     let fails = all_fail (plain_checks stories g (Close s key n)) none in
     let fresh = not_taken (n == command_count g + 1) commands.Close accepted in
-    let last = the_last n (command_count g) fails.1.1.1.1.0 fails.1.1.1.1.1.1.0 fresh in
+    let last = the_last n (command_count g) fails.1.1.1.1.1.0 fails.1.1.1.1.1.1.1.0 fresh in
     last_closes (last_of g) s key n
-    (left_true (n == command_count g) (is_last (last_of g) (Close s key n)) fails.1.1.1.1.1.0 last)
+    (left_true (n == command_count g) (is_last (last_of g) (Close s key n)) fails.1.1.1.1.1.1.0
+    last)
 
 held_by : (checks : Option No) (used none : Bool)
     → checks ≡ None
@@ -190,6 +192,7 @@ after_again desk request e =
     by (Last s key) plain accepted held = held_by _ (is_in_use (game desk)) _ plain held
     by (Close s key n) plain accepted held =
         rw (closed_again desk.stories (game desk) s key n plain accepted) refl
+    by (Watch s word from) plain accepted held = held_by _ (is_in_use (game desk)) _ plain held
 
 pub stays_warm : StaysWarm
 stays_warm desk request = (

@@ -1,5 +1,5 @@
 -- A command that a desk commits to a journal (own).
-use Rattle.std.specs.Prelude.{◌≡◌, ◌⊎◌, ℕ, ◌+◌, Bool, IsTrue, List, [], ◌∷◌, ◌++◌}
+use Rattle.std.specs.Prelude.{◌≡◌, ◌⊎◌, ℕ, Bool, IsTrue, List, [], ◌∷◌, ◌++◌}
 use Rattle.std.specs.Prelude.{length, Result, Ok, Err, Some, None}
 use Rattle.disk_model.specs.Disk.{LeavesOnly}
 use Rattle.gate_journal.specs.Command.{IsCommand}
@@ -11,7 +11,7 @@ use Rattle.gate_journal.specs.declared.command.Command.TheVariants as commands
 use Rattle.gate_journal.specs.declared.entry.Entry.TheVariants.{Kept, Faulted}
 use Rattle.line_words.specs.declared.request.Request.{Request}
 use Rattle.line_words.specs.declared.request.Request.TheVariants.{Open, Line, Char, File, Last}
-use Rattle.line_words.specs.declared.request.Request.TheVariants.{Close}
+use Rattle.line_words.specs.declared.request.Request.TheVariants.{Close, Watch}
 use Rattle.session_core.specs.Checks.{command_of}
 use Rattle.session_desk.specs.declared.refused.Refused.{Refused}
 use Rattle.session_desk.specs.declared.refused.Refused.TheVariants.{DiskFault, NoMemory}
@@ -28,6 +28,7 @@ IsInRange (Char s key n win code) = IsCommand (commands.Char win code)
 IsInRange (File s key n name) = IsCommand (commands.File name)
 IsInRange (Last s key) = Unit {0}
 IsInRange (Close s key n) = Unit {0}
+IsInRange (Watch s word from) = Unit {0}
 
 -- the desk's commands are the journal's rows of its session
 abbrev pub IsKept : {D : Type 0} → DeskState → Log D → Type 0
@@ -53,12 +54,15 @@ pub record Commits
   -- no gate is uncertain
   pub certain : new_log.uncertain ≡ None
 
--- what a refusal leaves of the journal: its disk's fault as an entry, or all as before
-abbrev pub RefusalLeaves : {D : Type 0} → (D → ℕ) → ℕ → Log D → Log D → Refused → Type 0
-RefusalLeaves faults session old new (DiskFault fault) =
+-- what a refusal leaves of the journal: its disk's fault as an entry, with the row that was asked
+-- for, or all as before
+abbrev pub RefusalLeaves :
+    {D : Type 0} → (D → ℕ) → ℕ → Command → Log D → Log D → Refused → Type 0
+RefusalLeaves faults session command old new (DiskFault fault) =
     IsFault fault (faults old.disk) (faults new.disk)
-    × (new.entries ≡ old.entries ++ Faulted (session + 1) fault.from fault.to ∷ [])
-RefusalLeaves faults session old new NoMemory = SameLog old new
+    × (new.entries ≡ old.entries
+    ++ Faulted (next_row (rows_of old.entries) session command) fault.from fault.to ∷ [])
+RefusalLeaves faults session command old new NoMemory = SameLog old new
 
 -- where the disk failed the closing gate was left as it was, or closed, or had its write begun, and
 -- then the new row stands behind an uncertain gate

@@ -1,5 +1,5 @@
 -- What a session answers whose world is the one that its desk holds (own).
-use Rattle.std.specs.Prelude.{◌≡◌, ℕ, ◌≤◌, true, false, List, length, Some}
+use Rattle.std.specs.Prelude.{◌≡◌, ◌⊎◌, ℕ, ◌≤◌, true, false, List, length, Option, Some}
 use Rattle.std.specs.Prelude.{None}
 use Rattle.gate_journal.specs.Command.{IsBudget}
 use Rattle.gate_journal.specs.Rows.{commands_of, IsJournal}
@@ -8,16 +8,22 @@ use Rattle.gate_journal.specs.declared.row.Row.{Row}
 use Rattle.line_words.specs.Request.{request_of}
 use Rattle.line_words.specs.declared.request.Request.{Request}
 use Rattle.line_words.specs.declared.reply.No.{No}
+use Rattle.line_words.specs.declared.reply.No.TheVariants as no
 use Rattle.line_words.specs.declared.reply.Reply.TheVariants as replies
+use Rattle.story_run.specs.declared.story.Story.{Story}
+use Rattle.story_run.specs.World.{WorldState}
 use Rattle.session_core.specs.declared.decision.Decision.{Decision}
 use Rattle.session_core.specs.Checks.{command_of, is_other_story}
+use Rattle.session_core.specs.History.{game_of}
 use Rattle.session_core.specs.Answer.{answer_in}
 use Rattle.session_core.specs.Sessions.{with_budget}
+use Rattle.session_saves.specs.Agreement.{AgreesWithBeginning, IsAgreedFile, opens_of}
 use Rattle.session_desk.specs.Commit.{IsInRange}
+use Rattle.session_desk.specs.declared.verdict.Verdict.{Verdict}
 use Rattle.session_desk.specs.declared.verdict.Verdict.TheVariants.{Refuse, Again, Fresh, Cold}
 use Rattle.session_desk.specs.Desk.{DeskState, committed, game, is_cold, ran, shown_to}
 use Rattle.session_desk.specs.Desk.{world_now}
-use Rattle.session_desk.specs.Verdict.{lacks_world, verdict}
+use Rattle.session_desk.specs.Verdict.{foretold, lacks_world, needs_world, verdict}
 
 -- what the session answers to a request, by the world that the desk holds
 abbrev pub decision_by_desk : DeskState → Request → Decision
@@ -84,3 +90,32 @@ ReadsInRange =
     (line : List ℕ) (request : Request) (budget : ℕ)
     → request_of line ≡ Some request → IsBudget budget
     → IsInRange request × IsInRange (with_budget budget request)
+
+-- A snapshot file that agrees with the first of a journal's rows agrees with all of them.
+abbrev pub BeginningsStayAgreed : Type 0
+BeginningsStayAgreed =
+    (stories : List Story) (rows : List Row) (s : ℕ) (file : List ℕ)
+    → IsJournal rows
+    → AgreesWithBeginning stories rows s file
+    → IsAgreedFile stories (opens_of rows s) (game_of (commands_of rows s)) file
+
+-- a show, or one of the refusals that come behind all those that need no world
+abbrev pub IsByWorld : Verdict → Type 0
+IsByWorld said =
+    (said ≡ Again)
+    ⊎ ((said ≡ Fresh)
+    ⊎ ((said ≡ Refuse no.Over)
+    ⊎ ((said ≡ Refuse no.Unwanted) ⊎ (said ≡ Refuse no.Full))))
+
+-- An answer that needs no world is the same by every world, and by none. One that needs it is a
+-- show, or a refusal that comes behind all those without a world.
+pub record WorldIsNeeded : Type 0 where
+  pub free :
+      (stories : List Story) (commands : List Command) (request : Request)
+      → needs_world stories (game_of commands) request ≡ false
+      → (now other : Option WorldState)
+      → answer_in stories commands now request ≡ answer_in stories commands other request
+  pub needed :
+      (stories : List Story) (commands : List Command) (request : Request)
+      → needs_world stories (game_of commands) request ≡ true
+      → (world : WorldState) → IsByWorld (foretold stories commands (Some world) request)

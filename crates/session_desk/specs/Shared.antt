@@ -2,6 +2,7 @@
 use Rattle.std.specs.Prelude.{◌≡◌, ℕ, ◌+◌, List, [], ◌∷◌, ◌++◌, length, map, Option, Some}
 use Rattle.std.specs.Prelude.{Result, Ok, Err}
 use Rattle.atomic_table.specs.Seated.{TableId}
+use Rattle.disk_model.specs.Disk.{Rose}
 use Rattle.turn_cell.specs.declared.pass.Pass.{Pass}
 use Rattle.turn_cell.specs.History.{Continues, IsForeign}
 use Rattle.turn_cell.specs.Passes.{pass_numbers, IsOutside, pass_number, seen}
@@ -151,6 +152,11 @@ abbrev pub met_by : {T : Type 0} → Result T Refused → Outcome
 met_by (Ok x) = Answered
 met_by (Err (DiskFault fault)) = DiskFailed fault.from fault.to
 met_by (Err NoMemory) = OutOfMemory
+
+-- where the disk failed its count rose
+abbrev pub HasRisen : Refused → Type 0
+HasRisen (DiskFault fault) = Rose fault.from fault.to
+HasRisen NoMemory = Unit {0}
 
 -- what a commit gave, without the place of the row
 abbrev pub unplaced : Result ℕ Refused → Result (Unit {0}) Refused

@@ -1,9 +1,11 @@
 -- A sound desk answers as a session that is played from the start (own).
-use Rattle.std.specs.Prelude.{◌≡◌, ◌≤◌, ℕ, max, Bool, IsTrue, List, length, [], Option, Some}
-use Rattle.disk_model.specs.Disk.{EachImage, SameDisk}
+use Rattle.std.specs.Prelude.{◌≡◌, ◌≤◌, ℕ, max, Bool, IsTrue, List, length, [], ◌++◌}
+use Rattle.std.specs.Prelude.{Option, Some, None}
+use Rattle.disk_model.specs.Disk.{EachImage, LeavesOnly, SameDisk}
 use Rattle.turn_cell.specs.Passes.{seen}
 use Rattle.gate_journal.specs.Log.{rows_of}
-use Rattle.gate_journal.specs.Rows.{commands_of}
+use Rattle.gate_journal.specs.Rows.{IsJournal, commands_of}
+use Rattle.gate_journal.specs.declared.row.Row.{Row}
 use Rattle.line_words.specs.declared.request.Request.{Request}
 use Rattle.story_run.specs.World.{WorldState}
 use Rattle.session_core.specs.declared.decision.Decision.{Decision}
@@ -11,9 +13,11 @@ use Rattle.session_core.specs.History.{game_of, world_of}
 use Rattle.session_core.specs.Answer.{answer_in}
 use Rattle.session_core.specs.Turning.{MayMeet, turn_met}
 use Rattle.snap_store.specs.Store.{Snapshots}
-use Rattle.session_saves.specs.Agreement.{IsAgreed, IsAgreedFile, last_row, opens_of}
+use Rattle.session_saves.specs.Agreement.{AgreesWithBeginning, IsAgreed, IsAgreedFile, last_row}
+use Rattle.session_saves.specs.Agreement.{opens_of}
 use Rattle.session_saves.specs.Game.{inputs_of}
-use Rattle.session_saves.specs.Saves.{IsKeptUp}
+use Rattle.session_saves.specs.Keeping.{KeepsOpen}
+use Rattle.session_saves.specs.Saves.{HasSince, IsKeptUp}
 use Rattle.session_desk.specs.declared.shared_desk.mark.Mark.{Mark}
 use Rattle.session_desk.specs.declared.turned.Turned.{Turned}
 use Rattle.session_desk.specs.Desk.{game, HoldsOwnWorld}
@@ -59,11 +63,31 @@ AreKeptUp state =
     → IsKeptUp place (length (inputs_of (game state.desk))) state.saves.store.slots
     state.saves.missed
 
+-- What a sound desk keeps of its store's file. Each image that a stop may leave since the desk was
+-- opened agrees with the first of the rows that its pass has seen of the journal. While no OPEN
+-- comes, an open area of the session's last game is never lost.
+pub record KeepsFile
+    {D : Type 0}
+    (moment : D → ℕ)
+    (left_since : D → ℕ → List ℕ → Type 0)
+    (state : SharedState D) : Type 0 where
+  pub agreed :
+      LeavesOnly moment left_since state.store.disk state.saves.store.disk
+      (AgreesWithBeginning state.desk.stories (rows_of (seen state.pass)) state.desk.session)
+  pub newest :
+      IsJournal (rows_of (seen state.pass))
+      → open_rows state ≡ opens_of state.rows state.desk.session
+      → (place least : ℕ) → last_row (open_rows state) ≡ Some place
+      → HasSince place least state.store.slots
+      → KeepsOpen moment left_since place least state.store state.saves.store
+
 -- what holds of each desk, with its marks and the place of its session's last OPEN row
 pub record IsWhole
     {D : Type 0}
     (tells : D → Bool)
     (seen_of : D → List ℕ)
+    (moment : D → ℕ)
+    (left_since : D → ℕ → List ℕ → Type 0)
     (room label faults reach : D → ℕ)
     (marks : List Mark)
     (place : Option ℕ)
@@ -73,6 +97,9 @@ pub record IsWhole
   pub store : IsSameStore tells room label faults reach state.store state.saves.store
   pub own : IsSoundDesk tells seen_of (desk_tag state) → IsOwnState seen_of state
   pub kept_up : AreKeptUp state
+  -- the journal's rows go on from those of the opening
+  pub rows : (more : List Row) × (rows_of (seen state.pass) ≡ state.rows ++ more)
+  pub file : IsSoundDesk tells seen_of (desk_tag state) → KeepsFile moment left_since state
 
 -- The session decides so on a request by a world `now`, which is its own where the desk is sound.
 pub record Decides
@@ -122,14 +149,20 @@ pub record TurnsBy
       GoesOn old.desk.session
       (answer_in old.desk.stories old.desk.commands now request).accepted turned.outcome
       (seen old.pass) (seen new.pass)
+  -- where nothing is accepted the journal isn't waited for
+  pub idle :
+      (answer_in old.desk.stories old.desk.commands now request).accepted ≡ None
+      → new.pass ≡ old.pass
 
 -- What a desk leaves of its store: the disk that it was given, and, where the desk is sound, images
--- that agree with the session's commands.
+-- that agree with the session's commands, now and at each moment since it was opened.
 pub record EndsStore
     {D : Type 0}
     (tells : D → Bool)
     (may_leave : D → List ℕ → Type 0)
     (seen_of : D → List ℕ)
+    (moment : D → ℕ)
+    (left_since : D → ℕ → List ℕ → Type 0)
     (room label faults reach : D → ℕ)
     (state : SharedState D) : Type 0 where
   pub store : IsSameStore tells room label faults reach state.store state.saves.store
@@ -137,3 +170,4 @@ pub record EndsStore
       IsSoundDesk tells seen_of (desk_tag state)
       → EachImage tells may_leave state.saves.store.disk
       (IsAgreedFile state.desk.stories (open_rows state) (game state.desk))
+  pub file : IsSoundDesk tells seen_of (desk_tag state) → KeepsFile moment left_since state

@@ -25,16 +25,17 @@ history_in [] s = []
 history_in (Kept r ∷ more) s =
     if r.session == s then entries.Accepted 0 r.command ∷ history_in more s
     else history_in more s
-history_in (Faulted by from to ∷ more) s =
-    if by == s + 1 then entries.Faulted 0 from to ∷ history_in more s else history_in more s
+history_in (Faulted r from to ∷ more) s =
+    if r.by == s + 1 then entries.Faulted 0 from to ∷ history_in more s else history_in more s
 
 -- what a turn adds to the entries of a journal with these rows: the row of the command that the
--- session accepts, or the disk's fault
+-- session accepts, or the disk's fault as that row was asked for
 abbrev pub entries_added : List Row → ℕ → Option Command → Outcome → List JournalEntry
 entries_added rows s accepted OutOfMemory = []
 entries_added rows s None outcome = []
 entries_added rows s (Some command) Answered = Kept (next_row rows s command) ∷ []
-entries_added rows s (Some command) (DiskFailed from to) = Faulted (s + 1) from to ∷ []
+entries_added rows s (Some command) (DiskFailed from to) =
+    Faulted (next_row rows s command) from to ∷ []
 entries_added rows s (Some command) Forgotten = Kept (next_row rows s command) ∷ []
 
 -- the same desk, but for the world that it holds

@@ -4,7 +4,7 @@ use Rattle.glk_input.specs.declared.input.Input.{Input}
 use Rattle.glk_input.specs.declared.input.Input.TheVariants as inputs
 use Rattle.line_words.specs.declared.request.Request.{Request}
 use Rattle.line_words.specs.declared.request.Request.TheVariants.{Open, Line, Char, File, Last}
-use Rattle.line_words.specs.declared.request.Request.TheVariants.{Close}
+use Rattle.line_words.specs.declared.request.Request.TheVariants.{Close, Watch}
 use Rattle.line_words.specs.declared.reply.No.{No}
 use Rattle.line_words.specs.declared.reply.No.TheVariants.{Over, Unwanted}
 use Rattle.story_run.specs.World.{WorldState}
@@ -19,6 +19,7 @@ request_input (Char s key n win code) = Some (inputs.Char win code)
 request_input (File s key n name) = Some (inputs.File name)
 request_input (Last s key) = None
 request_input (Close s key n) = None
+request_input (Watch s word from) = None
 
 -- the same without its text, of which a story asks nothing before it takes it
 abbrev pub outline : Request → Option Input
@@ -28,6 +29,7 @@ outline (Char s key n win code) = Some (inputs.Char win code)
 outline (File s key n name) = Some (inputs.File [])
 outline (Last s key) = None
 outline (Close s key n) = None
+outline (Watch s word from) = None
 
 -- why the story doesn't take a new input: it is over, or doesn't wait for that one
 abbrev pub declines : WorldState → Option Input → Option No

@@ -61,7 +61,8 @@ pub fn write_down<D: Disk>(
     ensures ok { OnOk result (Extends session command.now journal.old journal.new) }
     ensures place { IfOk result (λ place.
         place ≡ length (journal_bytes (rows_of journal.old.entries))) }
-    ensures err { IfErr result (λ why. RefusalLeaves D.faults session journal.old journal.new why) }
+    ensures err { IfErr result (λ why.
+        RefusalLeaves D.faults session command.now journal.old journal.new why) }
     ensures rows { MatchResult result
         (λ _. rows_of journal.new.entries ≡ rows_of journal.old.entries
         ++ next_row (rows_of journal.old.entries) session command.now ∷ [])

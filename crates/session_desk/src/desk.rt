@@ -109,6 +109,14 @@ impl<'i> Desk<'i> {
         self.commands.len()
     }
 
+    /// All commands that the session number ever accepted, oldest first.
+    pub fn commands(&self) -> &[Command]
+        ensures value { result.now ≡ self.now.commands }
+        ensures within { length result.now ≤ 8192 }
+    {
+        self.commands.as_slice()
+    }
+
     /// The budget of a turn, in ticks, with which the session is to be opened.
     pub fn budget(&self) -> u64
         ensures value { result ≡ self.now.budget }
@@ -197,8 +205,10 @@ impl<'i> Desk<'i> {
         ensures runs { OnOk result
             (IsTrue (is_to_run self.new.held (last_of (game self.new)))) }
         ensures err { OnErr result (self.new ≡ self.old) }
-        ensures cause { IfErr result (λ why.
-            RefusalLeaves D.faults self.old.session journal.old journal.new why) }
+        ensures cause { (command : Command)
+            → command_of self.old.stories request.now ≡ Some command
+            → IfErr result (λ why.
+            RefusalLeaves D.faults self.old.session command journal.old journal.new why) }
         ensures rows { IsKept self.new journal.new }
         ensures kept { SameDisk D.tells D.room D.label journal.old.disk journal.new.disk
             × (journal.new.opening ≡ journal.old.opening) }
@@ -254,6 +264,13 @@ impl<'i> Desk<'i> {
             held,
         )?;
         Ok(())
+    }
+
+    /// Lets the world go.
+    pub(crate) fn forget(&mut self)
+        ensures { self.new ≡ desk_emptied self.old }
+    {
+        self.held = Held::Nothing;
     }
 
     /// The lines of the last show: `E closed` once the session was closed, and none before it was

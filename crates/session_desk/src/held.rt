@@ -1,15 +1,12 @@
 //! The world that a desk holds (own).
 
 ghost use Rattle.std.specs.Prelude.{◌≡◌, IfOk};
-ghost use Rattle.session_core.specs.History.{turned_on, input_of};
 ghost use Rattle.session_desk.specs.Desk.{aside, held_of, held_then};
 
 use gate_journal::Command;
-use session_core::{is_in_use, turn_on, world_of};
+use session_core::{is_in_use, turned, world_of};
 use std::alloc::{AllocError, Global};
-use std::marker::Brand;
-use std::sync::ledger::{Blank, Ledger};
-use story_run::{Steps, Story, World};
+use story_run::{Story, World};
 
 /// What is held of a session's world.
 #[derive(Drop)]
@@ -34,22 +31,6 @@ fn begun<'i>(alloc: Global, stories: &[Story<'i>], game: &[Command]) -> Result<H
     }
 }
 
-/// The world after a command, with a count of its own, which begins with this blank.
-fn turned<'i, L: Ledger>(
-    alloc: Global,
-    world: World<'i>,
-    command: &Command,
-    blank: Blank,
-) -> Result<World<'i>, AllocError>
-    requires name { blank.name ≡ L.name }
-    requires parts { blank.parts ≡ L.parts }
-    requires one { L.parts ≡ 1 }
-    ensures { IfOk result (λ after. after ≡ turned_on world.entry (input_of command.now)) }
-{
-    let mut steps = Steps::<L>::new(blank);
-    turn_on(alloc, world, command, &mut steps)
-}
-
 /// What is held once the last command was run.
 pub fn ran<'i>(
     alloc: Global,
@@ -64,7 +45,7 @@ pub fn ran<'i>(
         Held::Current(world) => Ok(Held::Current(world)),
         Held::Previous(world) => match game.last() {
             Some(command) => {
-                let world = turned::<Brand>(alloc, world, command, Blank::new(1))?;
+                let world = turned(alloc, world, command)?;
                 Ok(Held::Current(world))
             }
             None => Ok(Held::Current(world)),

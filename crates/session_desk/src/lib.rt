@@ -16,8 +16,8 @@ mod verdict;
 mod wanted;
 
 pub use laws::{
-    is_cold_alone, journals_fit, reads_in_range, refuses_alike, shows_again, shows_fresh,
-    stays_warm,
+    beginnings_stay_agreed, is_cold_alone, journals_fit, reads_in_range, refuses_alike,
+    shows_again, shows_fresh, stays_warm, world_is_needed,
 };
 pub use refused::Refused;
 pub use shared_desk::SharedDesk;

@@ -10,6 +10,7 @@ ghost use Rattle.story_run.specs.World.{WorldState};
 ghost use Rattle.session_core.specs.Answer.{shown_number};
 ghost use Rattle.session_core.specs.Checks.{is_other_story};
 ghost use Rattle.session_core.specs.History.{last_of, world_of};
+ghost use Rattle.session_core.specs.Turning.{commands_in};
 ghost use Rattle.snap_store.specs.File.{area_given, newest_area};
 ghost use Rattle.session_saves.specs.Agreement.{last_row};
 ghost use Rattle.session_saves.specs.Game.{inputs_of, turns_after};
@@ -30,7 +31,7 @@ use crate::desk::Desk;
 use crate::rows::last_open;
 use crate::verdict::Verdict;
 use disk_model::Disk;
-use gate_journal::{Journal, Row};
+use gate_journal::{Command, Journal, Row};
 use line_words::Request;
 use mark::Mark;
 use session_core::Entry;
@@ -81,7 +82,8 @@ impl<'i, D: Disk> Model for SharedDesk<'i, D> {
       rows = rows_of (seen d.first.value);
     } };
 
-    ghost invariant = { λ d. IsWhole D.tells D.seen D.room D.label D.faults D.reach
+    ghost invariant = { λ d. IsWhole D.tells D.seen D.moment D.left_since
+        D.room D.label D.faults D.reach
         d.marks.items d.place
         (record {
           desk = d.desk;
@@ -136,6 +138,8 @@ impl<'i, D: Disk + Drop> SharedDesk<'i, D> {
         let desk = Desk::open(alloc, session, stories, budget, rows)?;
         let marks = vec![in alloc; Mark::Accepted { by: 0 }; desk.len()]?;
         let place = last_open(rows, session);
+        // with the header comes what holds of every store's images
+        let _made = store.is_made();
         let given = Snapshot::of(&store);
         let first = Snapshot::of(&pass);
         let saves = Saves::open(store);
@@ -148,6 +152,15 @@ impl<'i, D: Disk + Drop> SharedDesk<'i, D> {
             store: given,
             first,
         })
+    }
+
+    /// All commands that the session number ever accepted, oldest first.
+    pub fn commands(&self) -> &[Command]
+        ensures value { result.now ≡ self.now.desk.commands }
+        ensures within { length result.now ≤ 8192 }
+        ensures history { commands_in self.now.history ≡ self.now.desk.commands }
+    {
+        self.desk.commands()
     }
 
     /// The budget of a turn, in ticks, with which the session is to be opened.
@@ -295,8 +308,8 @@ impl<'i, D: Disk + Drop> SharedDesk<'i, D> {
     pub fn into_parts(self) -> (Pass<Journal<D>>, Store<D>)
         ensures value { result ≡ (self.entry.pass, self.entry.saves.store) }
         ensures shared { IsShared self.entry }
-        ensures store { EndsStore D.tells D.may_leave D.seen D.room D.label D.faults D.reach
-            self.entry }
+        ensures store { EndsStore D.tells D.may_leave D.seen D.moment D.left_since
+            D.room D.label D.faults D.reach self.entry }
     {
         let SharedDesk {
             desk: _,

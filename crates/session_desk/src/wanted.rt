@@ -33,7 +33,10 @@ fn outline(alloc: Global, request: &Request) -> Option<Input>
         Request::File { .. } => Some(Input::File {
             name: no_text(alloc),
         }),
-        Request::Open { .. } | Request::Last { .. } | Request::Close { .. } => None,
+        Request::Open { .. }
+        | Request::Last { .. }
+        | Request::Close { .. }
+        | Request::Watch { .. } => None,
     }
 }
 

@@ -1,14 +1,15 @@
 -- What the areas of a session's snapshot file have to do with its commands (own).
 use Rattle.std.specs.Prelude.{◌≡◌, ◌≤◌, ℕ, false, ◌==◌, ◌&&◌, if◌then◌else◌}
-use Rattle.std.specs.Prelude.{List, [], ◌∷◌, length, Option, Some, None}
+use Rattle.std.specs.Prelude.{List, [], ◌∷◌, ◌++◌, length, Option, Some, None}
 use Rattle.std.specs.List.{Contains, last_or}
-use Rattle.gate_journal.specs.Rows.{is_open}
+use Rattle.gate_journal.specs.Rows.{commands_of, is_open}
 use Rattle.gate_journal.specs.declared.command.Command.{Command}
 use Rattle.gate_journal.specs.declared.row.Row.{Row}
 use Rattle.story_run.specs.declared.story.Story.{Story}
 use Rattle.story_run.specs.World.{WorldState}
 use Rattle.story_snap.specs.Bytes.{HasBytes}
 use Rattle.session_core.specs.Checks.{is_other_story}
+use Rattle.session_core.specs.History.{game_of}
 use Rattle.snap_store.specs.File.{Stored, openable_area}
 use Rattle.snap_store.specs.Store.{Snapshots, store_area}
 use Rattle.snap_store.specs.declared.side.Side.{Side}
@@ -51,3 +52,14 @@ abbrev pub IsAgreedFile : List Story → List ℕ → List Command → List ℕ 
 IsAgreedFile stories rows game file =
     (side : Side) (area : Stored) → openable_area side file ≡ Some area
     → Agrees stories rows game area
+
+-- the file of a session agrees with the first of a journal's rows
+pub record AgreesWithBeginning
+    (stories : List Story)
+    (rows : List Row)
+    (s : ℕ)
+    (file : List ℕ) : Type 0 where
+  pub first : List Row
+  pub more : List Row
+  pub all : rows ≡ first ++ more
+  pub agreed : IsAgreedFile stories (opens_of first s) (game_of (commands_of first s)) file

@@ -1,6 +1,6 @@
 -- What becomes of a snapshot that is due (own).
 use Rattle.std.specs.Prelude.{◌≡◌, ◌⊎◌, ◌≤◌, ◌<◌, ℕ, Bool, true, false, List, length, Option, Some}
-use Rattle.disk_model.specs.Disk.{EachImage, Rose}
+use Rattle.disk_model.specs.Disk.{EachImage, LeavesOnly, Rose}
 use Rattle.story_run.specs.World.{WorldState}
 use Rattle.story_snap.specs.Bytes.{HasBytes}
 use Rattle.snap_store.specs.File.{Stored, area_with, open_area}
@@ -9,7 +9,7 @@ use Rattle.snap_store.specs.Store.{Snapshots, IsImageOf, IsPutImage, store_area}
 use Rattle.snap_store.specs.declared.outline.TheConstants.{MAX_SNAPSHOT}
 use Rattle.snap_store.specs.declared.side.Side.{Side}
 use Rattle.snap_store.specs.declared.slot.Slot.TheVariants.{Closed, Open, Unsure}
-use Rattle.session_saves.specs.Saves.{SavesState, with_cause}
+use Rattle.session_saves.specs.Saves.{HasOpenSince, HasSince, SavesState, with_cause}
 use Rattle.session_saves.specs.declared.missed.Cause.{Cause}
 use Rattle.session_saves.specs.declared.missed.Cause.TheVariants.{NoMemory, TooLong, DiskFailed}
 use Rattle.session_saves.specs.declared.missed.Cause.TheVariants.{NotMade}
@@ -137,3 +137,14 @@ MayStandMeanwhile seen world place count store image =
     IsImageOf seen store image
     ⊎ ((bytes : List ℕ) × HasBytes world.image bytes world
     × IsPutImage seen store (area_with place count bytes) image)
+
+-- An area of this OPEN row and of at least so many inputs isn't lost: one is still known to be open,
+-- and one is open in each image since.
+pub record KeepsOpen
+    {D : Type 0}
+    (moment : D → ℕ)
+    (left_since : D → ℕ → List ℕ → Type 0)
+    (place least : ℕ)
+    (old new : Snapshots D) : Type 0 where
+  pub known : HasSince place least new.slots
+  pub images : LeavesOnly moment left_since old.disk new.disk (HasOpenSince place least)

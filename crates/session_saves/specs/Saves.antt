@@ -1,6 +1,7 @@
 -- A session's snapshots: its store, what was missed, and when one is due (own).
 use Rattle.std.specs.Prelude.{◌≡◌, ◌≤◌, ◌<◌, ℕ, ◌+◌, ◌-◌, ◌*◌, ◌%◌, ◌^◌, min, ◌==◌, ◌&&◌, not}
-use Rattle.std.specs.Prelude.{nat_lt, Bool, false, Option, Some, None}
+use Rattle.std.specs.Prelude.{nat_lt, Bool, false, List, Option, Some, None}
+use Rattle.snap_store.specs.File.{Stored, open_area}
 use Rattle.snap_store.specs.Slots.{slot_of, is_stored}
 use Rattle.snap_store.specs.Store.{Snapshots}
 use Rattle.snap_store.specs.declared.side.Side.{Side}
@@ -64,6 +65,14 @@ pub record HasSince (place least : ℕ) (slots : Slots) : Type 0 where
   pub count : ℕ
   pub open_there : slot_of slots side ≡ Open place count
   pub since : least ≤ count
+
+-- an area of this OPEN row and of at least so many inputs is open in the file
+pub record HasOpenSince (place least : ℕ) (file : List ℕ) : Type 0 where
+  pub side : Side
+  pub area : Stored
+  pub open_there : open_area side file ≡ Some area
+  pub row : area.place ≡ place
+  pub since : least ≤ area.count
 
 -- while nothing was missed: an open area of this OPEN row has each snapshot behind it that fell due
 -- before the last of so many inputs

@@ -2,6 +2,7 @@
 
 ghost use Rattle.std.specs.Prelude.{◌≡◌, ◌⊎◌, ◌+◌, ◌≤◌, ℕ, IsTrue, true, false};
 ghost use Rattle.std.specs.Prelude.{List, length, max, None, Some, IfOk, OnOk};
+ghost use Rattle.std.specs.List.{Contains};
 ghost use Rattle.disk_model.specs.Disk.{EachImage, LeavesOnly, OnlyLooks, Rose, SameDisk};
 ghost use Rattle.gate_journal.specs.declared.command.Command.{Command};
 ghost use Rattle.story_run.specs.declared.story.Story.{Story};
@@ -54,8 +55,8 @@ impl<D: Disk> Saves<D> {
     ghost use Rattle.session_saves.specs.Agreement.{IsAgreed, last_row};
     ghost use Rattle.session_saves.specs.Game.{inputs_of, turns_after};
     ghost use Rattle.session_saves.specs.Keeping.{AddsOnly, CountsExactly, IsMissed, IsPut};
-    ghost use Rattle.session_saves.specs.Keeping.{MayStandMeanwhile};
-    ghost use Rattle.session_saves.specs.Saves.{IsMissCounted, IsKeptUp, is_due};
+    ghost use Rattle.session_saves.specs.Keeping.{KeepsOpen, MayStandMeanwhile};
+    ghost use Rattle.session_saves.specs.Saves.{HasSince, IsMissCounted, IsKeptUp, is_due};
     ghost use Rattle.session_saves.specs.Saves.{saves_of_opened_store};
     ghost use Rattle.session_saves.specs.Warming.{WarmsFrom, count_in};
 
@@ -120,6 +121,14 @@ impl<D: Disk> Saves<D> {
             (MayStandMeanwhile D.seen world.now place count self.old.store) }
         ensures images { EachImage D.tells D.may_leave self.new.store.disk
             (IsImageOf D.seen self.new.store) }
+
+        // an open area of the last OPEN row is never lost
+        ensures newest { (stories : List Story) (rows : List ℕ) (game : List Command) (least : ℕ)
+            → IsTrue (D.tells self.old.store.disk)
+            → ((row : ℕ) → Contains rows row → row ≤ place)
+            → IsAgreed D.seen stories rows game self.old.store
+            → HasSince place least self.old.store.slots
+            → KeepsOpen D.moment D.left_since place least self.old.store self.new.store }
 
         ensures reach { D.reach self.new.store.disk ≤ max (D.reach self.old.store.disk) 16781344 }
         ensures kept { SameDisk D.tells D.room D.label self.old.store.disk self.new.store.disk

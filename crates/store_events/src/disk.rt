@@ -1,6 +1,6 @@
 //! Calls of a disk, and whether they may happen as an event says (own).
 
-ghost use Rattle.std.specs.Prelude.{◌≡◌, ◌+◌, ◌^◌, nat_le, length, if◌then◌else◌, IfOk};
+ghost use Rattle.std.specs.Prelude.{◌≡◌, ◌+◌, ◌^◌, nat_le, length, if◌then◌else◌, IfOk, OnErr};
 ghost use Rattle.store_events.specs.Disk.{disk_after, may_happen};
 
 use disk_model::PlainDisk;
@@ -39,6 +39,7 @@ pub fn make_call(
     ensures made { IfOk result (λ made. made ≡ may_happen call.now good reads.now disk.old) }
     ensures disk { IfOk result (λ made. disk.new
         ≡ (if made then disk_after call.now good reads.now disk.old else disk.old)) }
+    ensures err { OnErr result (disk.new ≡ disk.old) }
 {
     if !good {
         return match call {

@@ -195,7 +195,8 @@ impl StoreState {
 
     /// The disk makes its next call. Where that isn't good the disk reads as `reads` from then on.
     pub fn call(&mut self, alloc: Global, good: bool, reads: &Bytes) -> Result<(), AllocError>
-        ensures { OnOk result (self.new ≡ file_after self.old (Event.Call good reads.now)) }
+        ensures ok { OnOk result (self.new ≡ file_after self.old (Event.Call good reads.now)) }
+        ensures err { OnErr result (self.new ≡ self.old) }
     {
         let Some(call) = next_call(alloc, &self.step)? else {
             return Ok(());

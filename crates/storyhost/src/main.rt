@@ -4,20 +4,21 @@
 mod complaint;
 mod edge;
 
-use edge::{Reading, SystemFiles, Trouble, Waiting, Writing};
+use edge::{Log, Misuse, Reading, SystemFiles, Waiting, Writing, misuse_of};
 use host_top::{Status, top};
-use std::io::ErrorKind;
+use std::fmt::Display;
+use std::io::{ErrorKind, IsTerminal};
 use std::process::ExitCode;
 use std::{env, io};
 
-/// Tells standard error why the program ends so, where it isn't done.
-fn exit_with(rt: &HostRuntime, code: u8, trouble: Option<&Trouble>) -> ExitCode {
+/// Tells standard error why the program ends so, where it isn't done, and what was met first.
+fn exit_with<D: Display + Drop>(rt: &HostRuntime, code: u8, cause: Option<D>) -> ExitCode {
     let text = complaint::complaint_of(code);
     // Where standard error fails, too, nobody is left to be told.
-    let _ = match trouble {
+    let _ = match cause {
         _ if text.is_empty() => Ok(()),
-        Some(trouble) if trouble.is_of(code) => rt.eprintln(format_args!("{text}: {trouble}")),
-        _ => rt.eprintln(text),
+        Some(cause) => rt.eprintln(format_args!("{text}: {cause}")),
+        None => rt.eprintln(text),
     };
     ExitCode::from(code)
 }
@@ -27,16 +28,20 @@ fn main(rt: HostRuntime) -> ExitCode {
     let arguments = match env::args(&rt) {
         Ok(arguments) => arguments,
         Err(error) if error.kind() == ErrorKind::OutOfMemory => {
-            return exit_with(&rt, Status::NoMemory.code(), None);
+            return exit_with(&rt, Status::NoMemory.code(), None::<&str>);
         }
-        Err(_) => return exit_with(&rt, Status::BadWords.code(), None),
+        Err(_) => return exit_with(&rt, Status::BadWords.code(), Some(Misuse::NotText)),
     };
     let Ok(words) = arguments.skip(1).collect::<Vec<String>>(alloc) else {
-        return exit_with(&rt, Status::NoMemory.code(), None);
+        return exit_with(&rt, Status::NoMemory.code(), None::<&str>);
     };
-    let mut outside = SystemFiles::new(alloc, &rt);
+    let log = Log::new(&rt);
+    let mut outside = SystemFiles::new(alloc, &log, rt.stderr().is_terminal());
     let mut input = Reading::new(Waiting::new(rt.reader(), &rt));
     let mut output = Writing::new(Waiting::new(io::writer(&rt), &rt));
     let code = top(&rt, alloc, &words, &mut outside, &mut input, &mut output);
-    exit_with(&rt, code, outside.trouble())
+    if code == Status::BadWords.code() {
+        return exit_with(&rt, code, Some(misuse_of(alloc, &words)));
+    }
+    exit_with(&rt, code, outside.trouble(alloc, code))
 }

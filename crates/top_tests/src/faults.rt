@@ -33,6 +33,12 @@ fn failing_calls_end_a_run_where_they_come(rt: HostRuntime) -> Result<(), Fail> 
         text: &[],
         ..PLAIN
     };
+    let lasts = Run {
+        input: b"LAST 0 k1\nLAST 0 k1\nLAST 0 k1\nLAST 0 k1\nLAST 0 k1\n",
+        most: 10,
+        status: 4,
+        ..pipe
+    };
     let runs = [
         // a byte or a few at a time
         Run { most: 1, ..PLAIN },
@@ -98,6 +104,32 @@ fn failing_calls_end_a_run_where_they_come(rt: HostRuntime) -> Result<(), Fail> 
             reads: &[1],
             status: 4,
             ..pipe
+        },
+        // each of five reads of a line
+        Run {
+            reads: &[0],
+            text: &[],
+            ..lasts
+        },
+        Run {
+            reads: &[1],
+            text: &[b"NO 2\n"],
+            ..lasts
+        },
+        Run {
+            reads: &[2],
+            text: &[b"NO 2\nNO 2\n"],
+            ..lasts
+        },
+        Run {
+            reads: &[3],
+            text: &[b"NO 2\nNO 2\nNO 2\n"],
+            ..lasts
+        },
+        Run {
+            reads: &[4],
+            text: &[b"NO 2\nNO 2\nNO 2\nNO 2\n"],
+            ..lasts
         },
         // `check` reads no input
         Run {

@@ -3,6 +3,7 @@ use Rattle.std.proofs.Common.{◌≡◌, ◌⊎◌, ℕ, zero, suc, ◌+◌, ◌
 use Rattle.std.proofs.Common.{◌∷◌, ◌++◌, length, get_or, set, sym, refl, ap}
 use Rattle.std.proofs.Common.{◌≢◌, ◌^◌, ◌%◌, length-set, get_or-set_other, get_or-set_same}
 use Rattle.std.proofs.Common.{mod-eq_of_lt}
+use Rattle.std.proofs.lemmas.List.{append_cancel_left}
 use Rattle.std.proofs.Common.{◌∙◌, subst, inl, inr, arith, append_assoc, append-nil}
 use mathlib.Core.Option.{some, some-injective, some-ne-none}
 use lib.ListN.{get_elem?}
@@ -96,6 +97,22 @@ module _ {A : Type 0} where
   longer_whole P Q (x ∷ xs) (y ∷ ys) ra rb e p q =
       let t = longer_whole P Q xs ys ra rb (cons_same x y (xs ++ ra) (ys ++ rb) e).1 p q in
       (t.0, ap (λ (l : List A). x ∷ l) t.1, t.2)
+
+module _ {A : Type 0} where
+  none_more : (P Q : A → Type 0) (xs : List A)
+      → ((x : A) → P x → Q x → ⊥) → Each P xs → Each Q xs → xs ≡ []
+  none_more P Q [] never p q = refl
+  none_more P Q (x ∷ xs) never p q = absurd (never x p.0 q.0)
+
+  -- a list that goes on from its beginning in two ways at once has nothing behind it where no item
+  -- is of both
+  pub goes_no_further : (P Q : A → Type 0) (log seen : List A)
+      → ((x : A) → P x → Q x → ⊥) → Continues P log seen → Continues Q log seen
+      → log ≡ seen
+  goes_no_further P Q log seen never p q =
+      let same : p.0 ≡ q.0 = append_cancel_left seen p.0 q.0 (sym p.1 ∙ q.1) in
+      let none = none_more P Q p.0 never p.2 (subst (Each Q) (sym same) q.2) in
+      p.1 ∙ (ap (λ (l : List A). seen ++ l) none ∙ nil_right seen)
 
 module _ {A : Type 0} where
   pub longer_right : (a b : List A) → length a < length b → length (longer_list a b) ≡ length b

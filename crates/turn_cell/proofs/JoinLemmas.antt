@@ -5,7 +5,7 @@ use mathlib.Core.Option.{none}
 use Rattle.atomic_table.specs.Table.{Me, step}
 use Rattle.turn_cell.specs.declared.view.View.{View}
 use Rattle.turn_cell.specs.declared.view.Stage.TheVariants.{Idle}
-use Rattle.turn_cell.specs.History.{Continues, IsAmong, IsForeign, longer_list}
+use Rattle.turn_cell.specs.History.{AreApart, Continues, IsAmong, IsForeign, longer_list}
 use Rattle.turn_cell.specs.Views.{at_stage, joined, HasNumberFirst}
 use Rattle.turn_cell.specs.Steps.{LearnsBoth}
 use Rattle.turn_cell.proofs.HistoryLemmas.{among_either}
@@ -23,7 +23,7 @@ use Rattle.turn_cell.proofs.HistoryLemmas.{continues_map, longer_first}
 use Rattle.turn_cell.proofs.HistoryLemmas.{longer_second, longer_whole, among_first}
 use Rattle.turn_cell.proofs.HistoryLemmas.{tickets_out_set, at_low, one_item}
 use Rattle.std.proofs.lemmas.List.{get_or_append_left}
-use Rattle.turn_cell.proofs.StepLemmas.{place_stays}
+use Rattle.turn_cell.proofs.StepLemmas.{is_root, place_stays}
 
 -- what the pass is after a join
 abbrev Ended : {T E : Type 0}
@@ -33,6 +33,9 @@ Ended by m0 w m2 =
     (m2 ≡ (at_stage (joined m0.0 w) Idle (longer_list m0.0.seen w.seen), []))
     × Continues (IsForeign by m0.0.holds) (longer_list m0.0.seen w.seen) m0.0.seen
     × Continues (IsForeign by w.holds) (longer_list m0.0.seen w.seen) w.seen
+    × AreApart m0.0.holds w.holds
+    × (IsAmong 0 m0.0.holds
+    → Continues (λ e. by e ≤ m0.0.made) (longer_list m0.0.seen w.seen) m0.0.seen)
 
 pub learn_end : {T E : Type 0} (by : E → ℕ) (m0 m1 m2 : Me (Option T) (View E T)) (w : View E T)
     → m1 ≡ (joined m0.0 w, m0.1) → m0.1 ≡ []
@@ -52,6 +55,10 @@ learn_end {T} {E} by m0 m1 m2 w is bare told =
           is' k.1,
       subst (λ (m : Me (Option T) (View E T)). Continues (IsForeign by w.holds) m.0.seen w.seen)
           is' k.2,
+      k.3,
+      (λ zero. subst
+          (λ (m : Me (Option T) (View E T)). Continues (λ e. by e ≤ m.0.made) m.0.seen m0.0.seen)
+          is' (k.4 zero)),
     )
 
 pub joined_numbered : {T E : Type 0} (v w u : View E T)
@@ -141,6 +148,11 @@ module _ {T E G : Type 0} (entries : T → List E) (by : E → ℕ) (tag : T →
             mine.known.2,
         longer_second (IsForeign by w.holds) v.seen w.seen mine.known.0 others.known.0 one_log
             others.known.2,
+        (λ n h g. apart (r.apart other id w v n at_other at g h)),
+        (λ zero. let root = is_root entries by tag first s r id v at zero in
+            let given : Continues (λ e. by e ≤ v.made) r.log v.seen = rw root.1 r.given in
+            longer_first (λ e. by e ≤ v.made) v.seen w.seen given.0 others.known.0
+            (sym given.1 ∙ others.known.1) given.2),
       );
     }
 

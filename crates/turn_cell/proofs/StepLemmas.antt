@@ -1,5 +1,6 @@
 -- Each step of a turn, and the last of a join, keeps the rule.
-use Rattle.std.proofs.Common.{◌≡◌, ◌≢◌, ℕ, suc, ◌+◌, ◌^◌, ◌%◌, ◌<◌, List, [], ◌∷◌}
+use Rattle.std.proofs.Common.{◌≡◌, ◌≢◌, ℕ, suc, ◌+◌, ◌^◌, ◌%◌, ◌<◌, ◌≤◌, List, []}
+use Rattle.std.proofs.Common.{◌∷◌}
 use Rattle.std.proofs.Common.{◌++◌, length, get_or, set, sym, refl, ap, ◌∙◌, subst}
 use Rattle.std.proofs.Common.{◌⊎◌, inl, inr, arith, Option, Some, None, length-set}
 use Rattle.std.proofs.Common.{length-append}
@@ -167,6 +168,9 @@ module _ {T E G : Type 0} (entries : T → List E) (by : E → ℕ) (tag : T →
         h.2
         ∙ (sym (r.alone (ap (λ (u : View E T). u.made) (sym z.1) ∙ none_made))
         ∙ ap (λ (u : View E T). u.seen) (sym z.1))),
+    (λ zero_in. let z = is_root s r id v at zero_in in
+        let given : Continues (λ e. by e ≤ v.made) r.log v.seen = rw z.1 r.given in
+        subst (λ (l : List E). Continues (λ e. by e ≤ v.made) l v.seen) (sym h.2) given),
     (λ x tg. h.3 ∙ sym ((r.each id v at).tagged x tg)),
   )
 
@@ -386,5 +390,5 @@ module _ {T E G : Type 0} (entries : T → List E) (by : E → ℕ) (tag : T →
                   place_stays s.views id v w s.homes r.log at (λ t e. cc) r.place;
             }),
         (λ a' an' b' bn' is'. let k = knows_at s r id v (Joined a' an' b' bn') at is' in
-            (refl, k.0, k.1)),
+            (refl, k.0, k.1, k.2, k.3)),
       )

@@ -10,6 +10,10 @@ IsAmong n (x ∷ xs) = (x ≡ n) ⊎ IsAmong n xs
 abbrev pub IsForeign : {E : Type 0} → (E → ℕ) → List ℕ → E → Type 0
 IsForeign by numbers e = IsAmong (by e) numbers → ⊥
 
+-- no number is among both
+abbrev pub AreApart : List ℕ → List ℕ → Type 0
+AreApart xs ys = (n : ℕ) → IsAmong n xs → IsAmong n ys → ⊥
+
 module _ {A : Type 0} where
   -- all items meet P
   abbrev pub Each : (A → Type 0) → List A → Type 0

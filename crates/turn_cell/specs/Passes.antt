@@ -1,8 +1,9 @@
 -- Words for callers: what a clause reads of a pass and of a cell (own).
-use Rattle.std.specs.Prelude.{◌≡◌, ℕ, ◌+◌, List, [], ◌∷◌, Option, Some}
+use Rattle.std.specs.Prelude.{◌≡◌, ℕ, ◌+◌, ◌≤◌, List, [], ◌∷◌, Option, Some}
 use Rattle.turn_cell.specs.declared.view.View.{View}
 use Rattle.turn_cell.specs.declared.pass.Pass.{Pass}
 use Rattle.turn_cell.specs.declared.cell.Cell.{Cell}
+use Rattle.turn_cell.specs.History.{IsAmong}
 use Rattle.turn_cell.specs.Views.{IsIdle, HasValue, tag_in}
 
 module _ {T E : Type 0} where
@@ -47,6 +48,10 @@ module _ {T E : Type 0} where
   -- the pass is the root, and was never split
   abbrev pub IsAlone : Pass T E → Type 0
   IsAlone p = (pass_number p ≡ 0) × (made p ≡ 0)
+
+  -- it is the root, and each pass that was split from it was joined into it again
+  abbrev pub HoldsAll : Pass T E → Type 0
+  HoldsAll p = (n : ℕ) → n ≤ made p → IsAmong n (pass_numbers p)
 
   -- its number, the numbers that it holds and its tag stay
   abbrev pub KeepsNumbers : Pass T E → Pass T E → Type 0

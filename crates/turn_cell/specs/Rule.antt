@@ -11,7 +11,7 @@ use Rattle.atomic_table.specs.Table.{State}
 use Rattle.turn_cell.specs.declared.view.View.{View}
 use Rattle.turn_cell.specs.declared.view.Stage.{Stage}
 use Rattle.turn_cell.specs.declared.view.Stage.TheVariants.{Idle, Waits, Served, Joined}
-use Rattle.turn_cell.specs.History.{Continues, IsAmong, IsForeign}
+use Rattle.turn_cell.specs.History.{AreApart, Continues, IsAmong, IsForeign}
 use Rattle.turn_cell.specs.Views.{HasTicket, tickets_out}
 
 module _ {T E G : Type 0} (entries : T → List E) (by : E → ℕ) (tag : T → G) where
@@ -23,7 +23,8 @@ module _ {T E G : Type 0} (entries : T → List E) (by : E → ℕ) (tag : T →
   KnowsStage words log v (Served t) = (t ≡ slice_index words 1) × (t < slice_index words 0)
       × (t < 2 ^ 62) × (v.seen ≡ log)
   KnowsStage words log v (Joined a an b bn) =
-      Continues (IsForeign by an) v.seen a × Continues (IsForeign by bn) v.seen b
+      Continues (IsForeign by an) v.seen a × Continues (IsForeign by bn) v.seen b × AreApart an bn
+      × (IsAmong 0 an → Continues (λ e. by e ≤ v.made) v.seen a)
 
   -- what is true of each view, where the root has made so many passes
   pub record Knows (words : List ℕ) (log : List E) (made : ℕ) (first : T) (v : View E T)

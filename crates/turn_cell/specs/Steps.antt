@@ -5,7 +5,7 @@ use Rattle.std.specs.Prelude.{◌∷◌, Option, Some, None}
 use Rattle.atomic_table.specs.Table.{Me, Step}
 use Rattle.turn_cell.specs.declared.view.View.{View}
 use Rattle.turn_cell.specs.declared.view.Stage.TheVariants.{Idle, Waits, Served, Joined}
-use Rattle.turn_cell.specs.History.{Continues, IsAmong, IsForeign}
+use Rattle.turn_cell.specs.History.{AreApart, Continues, IsAmong, IsForeign}
 use Rattle.turn_cell.specs.Views.{at_stage}
 
 module _ {E T : Type 0} where
@@ -21,10 +21,12 @@ module _ {E T : Type 0} where
 
 module _ {T E G : Type 0} (entries : T → List E) (by : E → ℕ) (tag : T → G) where
   -- what a seat learns of the value in its turn: the value's list goes on from what was seen by
-  -- entries of others, and not at all where the seat is the root's and alone; the tag is the cell's
+  -- entries of others, and not at all where the seat is the root's and alone; where it is the root's,
+  -- by entries of numbers that were given; the tag is the cell's
   abbrev pub Learned : View E T → T → Type 0
   Learned v value = Continues (IsForeign by v.holds) (entries value) v.seen
       × (IsAmong 0 v.holds → v.made ≡ 0 → entries value ≡ v.seen)
+      × (IsAmong 0 v.holds → Continues (λ e. by e ≤ v.made) (entries value) v.seen)
       × ((x : T) → v.sample ≡ Some x → tag value ≡ tag x)
 
   -- the ticket t is served: the seat has the slot with the value in it, and has seen its list
@@ -52,7 +54,8 @@ abbrev pub Raises : {T E : Type 0} → (T → List E)
 Raises {T} entries st m n m' = (value : T) → m.1 ≡ (0, Some value) ∷ []
     → m' ≡ (at_stage m.0 m.0.stage (entries value), m.1)
 
--- after a join: what came since either had seen it is of numbers that this one didn't hold
+-- after a join: what came since either had seen it is of numbers that this one didn't hold; and no
+-- number was held by both; where this one is the root's, by entries of numbers that were given
 abbrev pub LearnsBoth : {T E : Type 0} → (E → ℕ)
     → Step (Option T) → Me (Option T) (View E T) → ℕ → Me (Option T) (View E T) → Type 0
 LearnsBoth {E = E} by st m n m' =
@@ -60,3 +63,5 @@ LearnsBoth {E = E} by st m n m' =
     → (m' ≡ (at_stage m.0 Idle m.0.seen, m.1))
     × Continues (IsForeign by an) m.0.seen a
     × Continues (IsForeign by bn) m.0.seen b
+    × AreApart an bn
+    × (IsAmong 0 an → Continues (λ e. by e ≤ m.0.made) m.0.seen a)

@@ -4,3 +4,4 @@ pub mod Rows
 pub mod DeskTag
 pub mod Events
 pub mod Answers
+pub mod Crew

@@ -4,6 +4,7 @@
 
 mod answer;
 mod book;
+mod crew;
 mod desk;
 mod desks;
 mod link;
@@ -17,6 +18,7 @@ mod two_threads;
 
 pub use answer::Answer;
 pub use book::{Book, Disk};
+pub use crew::served_by_two;
 pub use desk::Desk;
 pub use desks::{open_desk, request};
 pub use link::{serve, turn};

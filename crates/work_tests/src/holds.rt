@@ -7,7 +7,7 @@ use turn_cell::{Pass, Told};
 const LOOKS: u64 = 1_000_000_000;
 
 /// Waits until the number isn't 0. False is that it stayed so.
-fn is_reached(number: &AtomicU64) -> bool {
+pub fn is_reached(number: &AtomicU64) -> bool {
     for _ in 0..LOOKS {
         if number.load(Ordering::SeqCst) > 0 {
             return true;

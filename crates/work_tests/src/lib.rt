@@ -8,4 +8,6 @@ mod holds;
 #[cfg(test)]
 mod hosts;
 #[cfg(test)]
+mod watching;
+#[cfg(test)]
 mod work;

@@ -13,8 +13,8 @@ ghost use Rattle.session_desk.specs.Desk.{committed, game, is_to_run};
 ghost use Rattle.session_desk.specs.Keeping.{snapshot_due};
 ghost use Rattle.session_desk.specs.Marks.{marks_by};
 ghost use Rattle.session_desk.specs.Opens.{OpensBy, row_behind};
-ghost use Rattle.session_desk.specs.Shared.{desk_tag, GoesOn, IsPassOf, LeavesHistory, met_by};
-ghost use Rattle.session_desk.specs.Shared.{TakesEntry, history_met, unplaced};
+ghost use Rattle.session_desk.specs.Shared.{desk_tag, GoesOn, HasRisen, IsPassOf, LeavesHistory};
+ghost use Rattle.session_desk.specs.Shared.{met_by, TakesEntry, history_met, unplaced};
 ghost use Rattle.session_desk.specs.Turn.{history_in};
 ghost use Rattle.session_desk.specs.Verdict.{verdict};
 ghost use Rattle.session_desk.specs.declared.verdict.Verdict.TheVariants.{Fresh};
@@ -48,6 +48,7 @@ fn commit_in_turn<D: Disk + Drop, R: Wait>(
         → OnOk result (desk.new ≡ committed desk.old command) }
     ensures runs { OnOk result (IsTrue (is_to_run desk.new.held (last_of (game desk.new)))) }
     ensures err { OnErr result (desk.new ≡ desk.old) }
+    ensures rose { IfErr result HasRisen }
     ensures journal { (command : Command)
         → command_of desk.old.stories request.now ≡ Some command
         → GoesOn desk.old.session (Some command) (met_by result) (seen pass.old) (seen pass.new) }
@@ -134,6 +135,7 @@ impl<'i, D: Disk + Drop> SharedDesk<'i, D> {
             (IsTrue (is_to_run self.new.desk.held (last_of (game self.new.desk)))) }
         ensures err { OnErr result (self.new.desk ≡ self.old.desk) }
         ensures cause { IfErr result (LeavesHistory by self.old.history self.new.history) }
+        ensures rose { IfErr result HasRisen }
         ensures journal { (command : Command)
             → command_of self.old.desk.stories request.now ≡ Some command
             → GoesOn self.old.desk.session (Some command) (met_by result) (seen self.old.pass)

@@ -1,11 +1,12 @@
 //! A turn of a shared desk (own).
 
-ghost use Rattle.std.specs.Prelude.{◌≡◌, IsTrue, IfOk, false};
+ghost use Rattle.std.specs.Prelude.{◌≡◌, IsTrue, IfOk, None, false};
 ghost use Rattle.turn_cell.specs.Passes.{IsOf, seen};
 ghost use Rattle.session_core.specs.History.{last_of};
 ghost use Rattle.session_core.specs.Turning.{AddsTo, commands_in};
 ghost use Rattle.session_desk.specs.Commit.{IsInRange};
-ghost use Rattle.session_desk.specs.Desk.{game, is_cold, is_to_run, ran, shown_to};
+ghost use Rattle.session_desk.specs.Desk.{desk_emptied, game, is_cold, is_to_run, ran, shown_to};
+ghost use Rattle.session_desk.specs.Desk.{world_now};
 ghost use Rattle.session_desk.specs.Keeping.{snapshot_due};
 ghost use Rattle.session_desk.specs.Laws.{decision_by_desk};
 ghost use Rattle.session_desk.specs.Shared.{desk_tag, GoesOn, Rests, TurnsTo};
@@ -28,6 +29,13 @@ use std::sync::Wait;
 use turn_cell::Cell;
 
 impl<'i, D: Disk + Drop> SharedDesk<'i, D> {
+    /// Lets the world go.
+    fn forget(&mut self)
+        ensures { self.new ≡ record self.old { desk = desk_emptied self.old.desk } }
+    {
+        self.desk.forget();
+    }
+
     /// The reply to a request whose command was just committed: its turn is made, and then shown.
     fn run_and_show(&mut self, alloc: Global, request: &Request) -> Result<Reply, AllocError>
         requires runs { IsTrue (is_to_run self.old.desk.held (last_of (game self.old.desk))) }
@@ -39,11 +47,14 @@ impl<'i, D: Disk + Drop> SharedDesk<'i, D> {
         self.show(alloc, request)
     }
 
-    /// The turn of a request whose command was just committed: it is run, and then shown.
+    /// The turn of a request whose command was just committed: it is run, and then shown. Where
+    /// memory runs out the world is gone.
     fn shown_after(&mut self, alloc: Global, request: &Request) -> Turned
         requires runs { IsTrue (is_to_run self.old.desk.held (last_of (game self.old.desk))) }
         requires warm { is_cold (ran self.old.desk) ≡ false }
         ensures value { IsShown (shown_to (ran self.old.desk) request.now) result }
+        ensures forgets { result.outcome ≡ Outcome.Forgotten
+            → world_now self.new.desk.held ≡ None }
         ensures rests { Rests self.old self.new }
     {
         match self.run_and_show(alloc, request) {
@@ -51,10 +62,13 @@ impl<'i, D: Disk + Drop> SharedDesk<'i, D> {
                 reply,
                 outcome: Outcome::Answered,
             },
-            Err(_) => Turned {
-                reply: Reply::No(No::NoMemory),
-                outcome: Outcome::Forgotten,
-            },
+            Err(_) => {
+                self.forget();
+                Turned {
+                    reply: Reply::No(No::NoMemory),
+                    outcome: Outcome::Forgotten,
+                }
+            }
         }
     }
 
@@ -78,6 +92,8 @@ impl<'i, D: Disk + Drop> SharedDesk<'i, D> {
             (decision_by_desk self.old.desk request.now).accepted result.outcome
             (seen self.old.pass)
             (seen self.new.pass) }
+        ensures forgets { result.outcome ≡ Outcome.Forgotten
+            → world_now self.new.desk.held ≡ None }
         ensures kept { desk_tag self.new ≡ desk_tag self.old }
     {
         shows_fresh();
@@ -103,6 +119,8 @@ impl<'i, D: Disk + Drop> SharedDesk<'i, D> {
         requires cell { IsOf journal.now self.old.pass }
         requires ranges { IsInRange request.now }
         ensures turn { TurnsBy D.tells D.seen request.now by self.old result self.new }
+        ensures forgets { result.outcome ≡ Outcome.Forgotten
+            → world_now self.new.desk.held ≡ None }
         ensures kept { desk_tag self.new ≡ desk_tag self.old }
     {
         match self.unless_fresh(alloc, request) {
@@ -130,6 +148,10 @@ impl<'i, D: Disk + Drop> SharedDesk<'i, D> {
         ensures turn { TurnsBy D.tells D.seen request.now by self.old result self.new }
         ensures adds { AddsTo self.old.history by self.new.history }
         ensures due { snapshot_due self.new ≡ false }
+
+        // where memory ran out once the command was accepted, no world is held
+        ensures forgets { result.outcome ≡ Outcome.Forgotten
+            → world_now self.new.desk.held ≡ None }
         ensures kept { desk_tag self.new ≡ desk_tag self.old }
     {
         // with the marks comes what holds of every history

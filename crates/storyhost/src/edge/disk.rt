@@ -3,15 +3,27 @@ ghost use Rattle.std.specs.Prelude.{◌≡◌, ◌≤◌, ◌^◌, false, Ok, No
 ghost use Rattle.disk_model.specs.Disk.{CountsErrors};
 
 use super::held::make;
+use super::log::Log;
 use super::trouble::Trouble;
 use disk_model::{Disk, Failed};
 use host_top::Status;
+use std::alloc::{AllocError, Global};
 use std::fs::File;
-use std::io::{self, ErrorKind};
+use std::io::{self, Eprint, ErrorKind};
 use std::os::unix::fs::FileExt;
 use std::rt::Files;
+use std::time::Clock;
 
 const ROOM: u64 = 1 << 40;
+
+/// What a disk looks at only where its file is missing, or a call fails.
+#[derive(Drop)]
+struct Account<'r, R> {
+    log: &'r Log<'r, R>,
+    name: String,
+    /// Why a call failed first.
+    cause: Option<io::Error>,
+}
 
 /// An open file that nobody else writes, or one that is missing, which reads as empty and is made
 /// at its first write. It buffers nothing: a size, a write and a sync of a file that is there are
@@ -21,13 +33,11 @@ const ROOM: u64 = 1 << 40;
 /// bytes, and where the file is longer than that.
 #[derive(Drop)]
 pub struct FileDisk<'r, R> {
-    rt: &'r R,
-    name: String,
     file: Option<File>,
+    // Apart, since a session's disk is moved at each of its turns.
+    account: Box<Account<'r, R>>,
     reach: u128,
     faults: u64,
-    /// Why a call failed first.
-    cause: Option<io::Error>,
     label: u64,
 }
 
@@ -35,19 +45,27 @@ impl<'r, R> FileDisk<'r, R> {
     ghost use Rattle.storyhost.specs.FileDisk.{file_reach, file_faults, file_label};
 
     /// A disk on the file of this name, which is open for reading and writing, or missing.
-    pub fn new(rt: &'r R, name: String, file: Option<File>) -> FileDisk<'r, R>
-        ensures value { (file_reach result ≡ 0) × (file_faults result ≡ 0) }
-        ensures label { file_label result ≡ 0 }
+    pub fn new(
+        alloc: Global,
+        log: &'r Log<'r, R>,
+        name: &str,
+        file: Option<File>,
+    ) -> Result<FileDisk<'r, R>, AllocError>
+        ensures value { IfOk result (λ d. (file_reach d ≡ 0) × (file_faults d ≡ 0)) }
+        ensures label { IfOk result (λ d. file_label d ≡ 0) }
     {
-        FileDisk {
-            rt,
-            name,
+        let account = Account {
+            log,
+            name: String::from_str(alloc, name)?,
+            cause: None,
+        };
+        Ok(FileDisk {
             file,
+            account: Box::new(alloc, account)?,
             reach: 0,
             faults: 0,
-            cause: None,
             label: 0,
-        }
+        })
     }
 
     /// From now on its outside knows it by this number.
@@ -61,8 +79,8 @@ impl<'r, R> FileDisk<'r, R> {
 
     /// What went wrong first, where something did.
     pub fn trouble(self) -> Option<Trouble> {
-        let cause = self.cause?;
-        Some(Trouble::of_name(Status::DiskFault, self.name, cause))
+        let account = Box::into_inner(self.account);
+        Some(Trouble::of_name(Status::DiskFault, account.name, account.cause?))
     }
 }
 
@@ -130,10 +148,22 @@ fn flush(file: &Option<File>) -> io::Result<()> {
     }
 }
 
+impl<'r, R: Clock + Eprint> Account<'r, R> {
+    /// Notes and tells why a call failed.
+    fn note(&mut self, call: &str, error: io::Error) {
+        self.log
+            .tell(format_args!("{}: a {call} failed: {error}", self.name));
+        if self.cause.is_none() {
+            self.cause = Some(error);
+        }
+    }
+}
+
 // Counts the failure, where it is one.
-fn count<T>(
+fn count<R: Clock + Eprint, T>(
     faults: &mut u64,
-    cause: &mut Option<io::Error>,
+    account: &mut Account<'_, R>,
+    call: &str,
     answer: io::Result<T>,
 ) -> Result<T, Failed>
     ensures kept { IfOk result (λ value. answer ≡ Ok value) }
@@ -143,15 +173,13 @@ fn count<T>(
         Ok(value) => Ok(value),
         Err(error) => {
             *faults = faults.saturating_add(1);
-            if cause.is_none() {
-                *cause = Some(error);
-            }
+            account.note(call, error);
             Err(Failed)
         }
     }
 }
 
-impl<'r, R: Files<File = File>> Disk for FileDisk<'r, R> {
+impl<'r, R: Files<File = File> + Clock + Eprint> Disk for FileDisk<'r, R> {
     ghost use Rattle.std.specs.Prelude.{[]};
     ghost use Rattle.std.proofs.Common.{rules, arith};
 
@@ -179,12 +207,12 @@ impl<'r, R: Files<File = File>> Disk for FileDisk<'r, R> {
 
     fn size(&mut self) -> Result<u64, Failed> {
         let answer = measure(&self.file);
-        count(&mut self.faults, &mut self.cause, answer)
+        count(&mut self.faults, &mut self.account, "size", answer)
     }
 
     fn read_at(&mut self, place: u64, into: &mut [u8]) -> Result<(), Failed> {
         let answer = fill(&self.file, place, into);
-        count(&mut self.faults, &mut self.cause, answer)
+        count(&mut self.faults, &mut self.account, "read", answer)
     }
 
     fn write_at(&mut self, place: u64, piece: &[u8]) -> Result<(), Failed> {
@@ -193,14 +221,21 @@ impl<'r, R: Files<File = File>> Disk for FileDisk<'r, R> {
         let answer = if end > ROOM as u128 {
             Err(ErrorKind::FileTooLarge.into())
         } else {
-            put_or_make(self.rt, &self.name, &mut self.file, place, piece)
+            let account = &self.account;
+            put_or_make(
+                account.log.rt(),
+                &account.name,
+                &mut self.file,
+                place,
+                piece,
+            )
         };
-        count(&mut self.faults, &mut self.cause, answer)
+        count(&mut self.faults, &mut self.account, "write", answer)
     }
 
     fn sync(&mut self) -> Result<(), Failed> {
         let answer = flush(&self.file);
-        count(&mut self.faults, &mut self.cause, answer)
+        count(&mut self.faults, &mut self.account, "sync", answer)
     }
 
     fn faults(&self) -> u64 {

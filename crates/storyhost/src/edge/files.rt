@@ -6,7 +6,8 @@ ghost use Rattle.std.specs.BTreeMap.{get_by_text};
 ghost use Rattle.host_top.specs.Files.{Told, AreBelow};
 
 use super::disk::FileDisk;
-use super::held::find;
+use super::held::{find, look};
+use super::log::Log;
 use super::patience::Patience;
 use super::tcp::{AcceptFault, TcpDoor};
 use super::trouble::Trouble;
@@ -29,7 +30,9 @@ const MOST_OF_FILE: u64 = 67_108_865;
 /// fault, but for want of memory.
 #[derive(Drop)]
 pub struct SystemFiles<'r, R> {
-    rt: &'r R,
+    log: &'r Log<'r, R>,
+    /// The name of the file that was loaded last.
+    loaded: Option<String>,
     loans: BTreeMap<String, Loan>,
     calls: u64,
     faults: u64,
@@ -37,15 +40,21 @@ pub struct SystemFiles<'r, R> {
     door_faults: u64,
     shut: u64,
     door_calls: DoorCalls,
+    /// Disks that are lent are only looked at.
+    looks: bool,
+    /// Standard error is told how far the work is.
+    tells: bool,
     /// What went wrong first.
     trouble: Option<Trouble>,
     ghost below: { AreBelow (get_by_text loans) calls },
 }
 
 impl<'r, R> SystemFiles<'r, R> {
-    pub fn new(alloc: Global, rt: &'r R) -> SystemFiles<'r, R> {
+    /// Standard error is told how far the work is where that is asked for.
+    pub fn new(alloc: Global, log: &'r Log<'r, R>, tells: bool) -> SystemFiles<'r, R> {
         SystemFiles {
-            rt,
+            log,
+            loaded: None,
             loans: BTreeMap::new(alloc),
             calls: 0,
             faults: 0,
@@ -53,14 +62,37 @@ impl<'r, R> SystemFiles<'r, R> {
             door_faults: 0,
             shut: 0,
             door_calls: DoorCalls::none(),
+            looks: false,
+            tells,
             trouble: None,
         }
     }
+}
 
-    /// What went wrong first, where something did.
-    pub fn trouble(&self) -> Option<&Trouble> {
-        self.trouble.as_ref()
+impl<'r, R: Files<File = File>> SystemFiles<'r, R> {
+    /// Why the file that was loaded last is no story, as another look at it tells.
+    fn refusal(self, alloc: Global) -> Option<Trouble> {
+        let name = self.loaded?;
+        let bytes = read_file(self.log.rt(), alloc, &name).ok()?;
+        Trouble::of_story(name, &bytes)
     }
+
+    /// Why a command ended with this code, where that is known.
+    pub fn trouble(self, alloc: Global, code: u8) -> Option<Trouble> {
+        if code == Status::Refused.code() {
+            return self.refusal(alloc);
+        }
+        self.trouble.filter(|trouble| trouble.is_of(code))
+    }
+}
+
+/// The bytes of the file of that name, as many as a load gives.
+fn read_file<R: Files<File = File>>(rt: &R, alloc: Global, name: &str) -> io::Result<Vec<u8>> {
+    let mut bytes = Vec::new(alloc);
+    fs::open(rt, name)?
+        .take(MOST_OF_FILE)
+        .read_to_end(&mut bytes)?;
+    Ok(bytes)
 }
 
 /// Keeps what went wrong, where something did, unless something else did before.
@@ -84,12 +116,15 @@ fn keep_name(
     }
 }
 
-/// Listens on this port, with the patience that the environment asks for.
-fn open_door<R>(rt: &R, port: u16, links: u32) -> io::Result<TcpDoor<'_, R>>
+/// Listens on this port, with the patience that the environment asks for, and says so.
+fn open_door<'r, R>(log: &'r Log<'r, R>, port: u16, links: u32) -> io::Result<TcpDoor<'r, R>>
 where
-    R: Net<Listener = TcpListener, Stream = TcpStream> + Env,
+    R: Net<Listener = TcpListener, Stream = TcpStream> + Clock + Env + Eprint,
 {
-    TcpDoor::open(rt, port, links, Patience::of(rt)?)
+    let door = TcpDoor::open(log, port, links, Patience::of(log.rt())?)?;
+    log.begin()?;
+    log.write(format_args!("serving on 127.0.0.1:{}", door.port()));
+    Ok(door)
 }
 
 /// The disk of that name is lent.
@@ -138,12 +173,12 @@ where
     ghost failing_doors = { none_due };
 
     fn load(&mut self, alloc: Global, name: &str) -> Result<Vec<u8>, Fetch> {
-        let mut bytes = Vec::new(alloc);
-        let error = match fs::open(self.rt, name) {
-            Ok(file) => match file.take(MOST_OF_FILE).read_to_end(&mut bytes) {
-                Ok(_) => return Ok(bytes),
-                Err(error) => error,
-            },
+        let error = match read_file(self.log.rt(), alloc, name) {
+            Ok(bytes) => {
+                // Where memory is wanting for the name it isn't told.
+                self.loaded = String::from_str(alloc, name).ok();
+                return Ok(bytes);
+            }
             Err(error) => error,
         };
         if error.kind() == ErrorKind::OutOfMemory {
@@ -159,7 +194,12 @@ where
             self.disk_faults = self.disk_faults.saturating_add(1);
             return Err(Fetch::Failed);
         }
-        let file = match find(self.rt, name) {
+        let found = if self.looks {
+            look(self.log.rt(), name)
+        } else {
+            find(self.log.rt(), name)
+        };
+        let file = match found {
             Ok(file) => file,
             Err(error) => {
                 if error.kind() == ErrorKind::OutOfMemory {
@@ -170,10 +210,9 @@ where
                 return Err(Fetch::Failed);
             }
         };
-        let Ok(own) = String::from_str(alloc, name) else {
+        let Ok(mut disk) = FileDisk::new(alloc, self.log, name, file) else {
             return Err(Fetch::NoMemory);
         };
-        let mut disk = FileDisk::new(self.rt, own, file);
         let label = self.calls;
         if label == u64::MAX {
             return Err(Fetch::NoMemory);
@@ -202,21 +241,29 @@ where
 
     fn door(&mut self, port: u16, links: u32) -> Result<TcpDoor<'r, R>, Failed> {
         self.door_calls.add(DoorCall { port, links });
-        match open_door(self.rt, port, links) {
-            Ok(door) => {
-                let port = door.port();
-                // Where standard error fails, too, nobody is left to be told.
-                let _ = self
-                    .rt
-                    .eprintln(format_args!("storyhost: serving on 127.0.0.1:{port}"));
-                Ok(door)
-            }
+        match open_door(self.log, port, links) {
+            Ok(door) => Ok(door),
             Err(error) => {
                 let trouble = Trouble::new(Status::DoorFault, error);
                 keep(&mut self.trouble, Some(trouble));
                 self.door_faults = self.door_faults.saturating_add(1);
                 Err(Failed)
             }
+        }
+    }
+
+    fn only_look(&mut self) {
+        self.looks = true;
+    }
+
+    fn progress(&mut self, left: usize, all: usize) {
+        if self.tells {
+            let written = all.saturating_sub(left);
+            // Where standard error fails, too, nobody is left to be told.
+            let _ = self
+                .log
+                .rt()
+                .eprintln(format_args!("storyhost: {written} of {all} games"));
         }
     }
 

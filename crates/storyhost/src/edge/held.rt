@@ -1,6 +1,6 @@
 //! Files that this program alone has: each is locked as long as it is open, so that no two hosts
 //! have one folder.
-use std::fs::{self, File, OpenOptions};
+use std::fs::{self, File, OpenOptions, TryLockError};
 use std::io::{self, ErrorKind};
 use std::path::Path;
 use std::rt::Files;
@@ -8,10 +8,9 @@ use std::rt::Files;
 /// The system's number for a file system, or a machine beyond it, that has no locks to give.
 const NO_LOCKS: i32 = 37;
 
-/// Locks the file without waiting. The lock ends with the program, however that ends. A file system
-/// that knows no locks lets it pass.
-fn lock(file: &File) -> io::Result<()> {
-    let Err(refusal) = file.try_lock() else {
+/// What became of a lock that wasn't waited for. A file system that knows no locks lets it pass.
+fn locked(tried: Result<(), TryLockError>) -> io::Result<()> {
+    let Err(refusal) = tried else {
         return Ok(());
     };
     let error = io::Error::from(refusal);
@@ -24,6 +23,16 @@ fn lock(file: &File) -> io::Result<()> {
         _ if error.raw_os_error() == Some(NO_LOCKS) => Ok(()),
         _ => Err(error),
     }
+}
+
+/// Locks the file without waiting. The lock ends with the program, however that ends.
+fn lock(file: &File) -> io::Result<()> {
+    locked(file.try_lock())
+}
+
+/// The same with others who only look.
+fn lock_shared(file: &File) -> io::Result<()> {
+    locked(file.try_lock_shared())
 }
 
 /// A file system that doesn't know a call says so.
@@ -94,6 +103,18 @@ pub fn find<R: Files<File = File>>(rt: &R, name: &str) -> io::Result<Option<File
     if let Some(folder) = Path::new(name).parent() {
         sync_folder(rt, folder)?;
     }
+    Ok(Some(file))
+}
+
+/// The file of that name, open for reading alone and locked with others who only look, or none where
+/// it is missing. Nothing is made or synced.
+pub fn look<R: Files<File = File>>(rt: &R, name: &str) -> io::Result<Option<File>> {
+    let file = match fs::open(rt, name) {
+        Ok(file) => file,
+        Err(error) if error.kind() == ErrorKind::NotFound => return Ok(None),
+        Err(error) => return Err(error),
+    };
+    lock_shared(&file)?;
     Ok(Some(file))
 }
 

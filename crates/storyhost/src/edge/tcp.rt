@@ -3,10 +3,12 @@ ghost use Rattle.std.specs.Prelude.{◌≡◌, false, None};
 ghost use Rattle.std.specs.Io.{ReadsAtMost, WritesAtMost};
 
 use super::greeting::{Caller, ENOUGH, caller_of};
+use super::log::Log;
+use super::parting::Parting;
 use super::patience::{Patience, pause};
 use host_serve::{Door, Next, Served};
 use line_talk::{Got, Link, Put, Sink, Source};
-use std::io::{self, ErrorKind, Read, Write};
+use std::io::{self, Eprint, ErrorKind, Read, Write};
 use std::net::{Ipv4Addr, Net, SocketAddr, SocketAddrV4, TcpListener, TcpStream};
 use std::sync::Wait;
 use std::sync::atomic::{AtomicU64, Ordering};
@@ -103,14 +105,18 @@ fn write_on(stream: &mut TcpStream, piece: &[u8]) -> io::Result<usize>
 pub struct Connection {
     stream: TcpStream,
     head: Head,
+    /// Which of its door's links it is, from 1.
+    number: u64,
     taken: u64,
     ended: bool,
     read_faults: u64,
     write_faults: u64,
+    /// Why a read or a write failed last.
+    cause: Option<io::Error>,
 }
 
 impl Connection {
-    fn new(stream: TcpStream) -> Connection
+    fn new(stream: TcpStream, number: u64) -> Connection
         ensures taken { result.taken ≡ 0 }
         ensures ended { result.ended ≡ false }
         ensures read_faults { result.read_faults ≡ 0 }
@@ -119,23 +125,29 @@ impl Connection {
         Connection {
             stream,
             head: Head::new(),
+            number,
             taken: 0,
             ended: false,
             read_faults: 0,
             write_faults: 0,
+            cause: None,
         }
     }
 
-    fn close(self) {
+    /// Closes it, and says why a read or a write failed last.
+    fn close(self) -> Option<io::Error> {
         let Connection {
             stream,
             head: _,
+            number: _,
             taken: _,
             ended: _,
             read_faults: _,
             write_faults: _,
+            cause,
         } = self;
         drop(stream);
+        cause
     }
 }
 
@@ -165,7 +177,8 @@ impl Source for Connection {
                 self.taken = self.taken.saturating_add(count as u64);
                 Got::Bytes(count)
             }
-            Err(_) => {
+            Err(error) => {
+                self.cause = Some(error);
                 self.read_faults = self.read_faults.saturating_add(1);
                 Got::Failed
             }
@@ -194,12 +207,12 @@ impl Sink for Connection {
             return Put::Took(0);
         }
         match write_on(&mut self.stream, piece) {
-            Ok(count) if count > 0 => Put::Took(count),
-            _ => {
-                self.write_faults = self.write_faults.saturating_add(1);
-                Put::Failed
-            }
+            Ok(count) if count > 0 => return Put::Took(count),
+            Ok(_) => {}
+            Err(error) => self.cause = Some(error),
         }
+        self.write_faults = self.write_faults.saturating_add(1);
+        Put::Failed
     }
 }
 
@@ -224,7 +237,7 @@ pub struct AcceptFault(pub io::Error);
 /// A door on a port of 127.0.0.1, for so many links.
 #[derive(Drop)]
 pub struct TcpDoor<'r, R> {
-    clock: &'r R,
+    log: &'r Log<'r, R>,
     listener: TcpListener,
     port: u16,
     patience: Patience,
@@ -236,16 +249,16 @@ pub struct TcpDoor<'r, R> {
 impl<'r, R: Net<Listener = TcpListener, Stream = TcpStream>> TcpDoor<'r, R> {
     /// Listens on this port, or on a free one where it is 0.
     pub fn open(
-        rt: &'r R,
+        log: &'r Log<'r, R>,
         port: u16,
         links: u32,
         patience: Patience,
     ) -> io::Result<TcpDoor<'r, R>> {
         let address = SocketAddr::V4(SocketAddrV4::new(Ipv4Addr::LOCALHOST, port));
-        let listener = TcpListener::bind(rt, address)?;
+        let listener = TcpListener::bind(log.rt(), address)?;
         let port = listener.local_addr()?.port();
         Ok(TcpDoor {
-            clock: rt,
+            log,
             listener,
             port,
             patience,
@@ -283,7 +296,7 @@ fn is_of_connection(kind: ErrorKind) -> bool {
 }
 
 /// The system has no room for one more connection now, and may have it later.
-fn is_want(error: io::Error) -> bool {
+fn is_want(error: &io::Error) -> bool {
     error.kind() == ErrorKind::OutOfMemory
         || matches!(
             error.raw_os_error(),
@@ -291,7 +304,7 @@ fn is_want(error: io::Error) -> bool {
         )
 }
 
-impl<'r, R: Clock + Sync> Door for TcpDoor<'r, R> {
+impl<'r, R: Clock + Eprint + Sync> Door for TcpDoor<'r, R> {
     type Conn = Connection;
 
     type End = AllTaken;
@@ -305,24 +318,45 @@ impl<'r, R: Clock + Sync> Door for TcpDoor<'r, R> {
     ghost fails = { λ _ _. Unit {0} };
 
     fn next<W: Wait>(&self, rt: &W) -> Next<TcpDoor<'r, R>> {
-        if self.calls.fetch_add(1, Ordering::SeqCst) >= u64::from(self.links) {
+        let before = self.calls.fetch_add(1, Ordering::SeqCst);
+        if before >= u64::from(self.links) {
             return Next::Shut(AllTaken(()));
         }
+        let number = before.saturating_add(1);
+        let mut is_full = false;
         for _ in rt.forever() {
             match self.listener.accept() {
                 Ok((stream, _)) => {
                     prepare(&stream, self.patience);
-                    return Next::Link(Connection::new(stream));
+                    self.log
+                        .tell_of_link(format_args!("link {number} is taken"));
+                    return Next::Link(Connection::new(stream, number));
                 }
                 Err(error) if is_of_connection(error.kind()) => {}
-                Err(error) if is_want(error) => pause(self.clock),
+                Err(error) if is_want(&error) => {
+                    if !is_full {
+                        self.log
+                            .tell(format_args!("link {number} has to wait: {error}"));
+                        is_full = true;
+                    }
+                    pause(self.log.rt());
+                }
                 Err(error) => return Next::Failed(AcceptFault(error)),
             }
         }
         unreachable!()
     }
 
-    fn hang_up<W: Wait>(&self, _rt: &W, link: Connection, _why: &Served) {
-        link.close();
+    fn hang_up<W: Wait>(&self, _rt: &W, link: Connection, why: &Served) {
+        let parting = Parting {
+            number: link.number,
+            how: *why,
+            error: link.close(),
+            patience: self.patience,
+        };
+        match why {
+            Served::End => self.log.tell_of_link(parting),
+            _ => self.log.tell(parting),
+        }
     }
 }

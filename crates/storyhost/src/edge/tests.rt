@@ -3,6 +3,7 @@
 use super::disk::FileDisk;
 use super::greeting::{Caller, caller_of};
 use super::held::find;
+use super::log::Log;
 use disk_model::{Disk, Failed, write_through};
 use std::fs::{self, File};
 use std::test::Fail;
@@ -15,8 +16,9 @@ const PATH: &str = "edge_test/file";
 fn a_real_file_keeps_its_bytes(rt: HostRuntime) -> Result<(), Fail> {
     let _ = fs::remove_dir_all(&rt, FOLDER);
     fs::create_dir(&rt, FOLDER)?;
-    let name = String::from_str(rt.alloc(), PATH)?;
-    let mut disk = FileDisk::new(&rt, name, Some(File::create_new(&rt, PATH)?));
+    let log = Log::new(&rt);
+    let file = Some(File::create_new(&rt, PATH)?);
+    let mut disk = FileDisk::new(rt.alloc(), &log, PATH, file)?;
     assert_eq!(rt; disk.size(), Ok(0));
     assert_eq!(rt; write_through(&mut disk, 3, b"hello"), Ok(()));
     let mut around = [9; 7];
@@ -24,8 +26,8 @@ fn a_real_file_keeps_its_bytes(rt: HostRuntime) -> Result<(), Fail> {
     assert_eq!(rt; around, *b"\0hello\0");
     assert_eq!(rt; disk.write_at(1 << 40, b"x"), Err(Failed));
     assert_eq!(rt; (disk.size(), disk.faults()), (Ok(8), 1));
-    let name = String::from_str(rt.alloc(), PATH)?;
-    let mut again = FileDisk::new(&rt, name, Some(File::open(&rt, PATH)?));
+    let file = Some(File::open(&rt, PATH)?);
+    let mut again = FileDisk::new(rt.alloc(), &log, PATH, file)?;
     let mut image = [9; 9];
     assert_eq!(rt; again.read_at(0, &mut image), Ok(()));
     assert_eq!(rt; (again.size(), image), (Ok(8), *b"\0\0\0hello\0"));
@@ -38,8 +40,8 @@ fn a_real_file_keeps_its_bytes(rt: HostRuntime) -> Result<(), Fail> {
 #[test]
 fn a_missing_file_is_made_by_its_first_write_and_held(rt: HostRuntime) -> Result<(), Fail> {
     let _ = fs::remove_dir_all(&rt, FOLDER);
-    let name = String::from_str(rt.alloc(), PATH)?;
-    let mut disk = FileDisk::new(&rt, name, find(&rt, PATH)?);
+    let log = Log::new(&rt);
+    let mut disk = FileDisk::new(rt.alloc(), &log, PATH, find(&rt, PATH)?)?;
     let mut front = [9; 2];
     assert_eq!(rt; disk.read_at(0, &mut front), Ok(()));
     assert_eq!(rt; (disk.size(), front, disk.sync()), (Ok(0), [0; 2], Ok(())));

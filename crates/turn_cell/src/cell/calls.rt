@@ -1,11 +1,11 @@
 //! What the holders of passes do with a cell.
-ghost use Rattle.std.specs.Prelude.{◌≡◌, ◌≢◌, ◌⊎◌, ◌+◌, ◌^◌, ◌<◌};
+ghost use Rattle.std.specs.Prelude.{◌≡◌, ◌≢◌, ◌⊎◌, ◌+◌, ◌^◌, ◌<◌, ◌≤◌};
 ghost use Rattle.std.specs.Prelude.{◌++◌, IfOk, IfErr, Some};
-ghost use Rattle.turn_cell.specs.History.{Continues, IsForeign};
+ghost use Rattle.turn_cell.specs.History.{AreApart, Continues, IsForeign};
 ghost use Rattle.turn_cell.specs.Views.{MayLeave};
 ghost use Rattle.turn_cell.specs.Passes.{view, pass_number, made, seen, pass_numbers, sample};
 ghost use Rattle.turn_cell.specs.Passes.{tag_of};
-ghost use Rattle.turn_cell.specs.Passes.{IsOf, IsOutside, IsInTurn, IsAlone};
+ghost use Rattle.turn_cell.specs.Passes.{HoldsAll, IsOf, IsOutside, IsInTurn, IsAlone};
 ghost use Rattle.turn_cell.specs.Passes.{KeepsNumbers, IsRoot, IsSplitFrom};
 
 use super::Cell;
@@ -45,12 +45,16 @@ impl<T: Told + Drop> Cell<T> {
     }
 
     /// Waits for its turn, and gives the value. Its list goes on from what the pass had seen, by
-    /// entries of others alone, and not at all where the pass is alone.
+    /// entries of others alone, and not at all where the pass is alone, or is the root again with
+    /// all that were split from it. What the root hadn't seen is of numbers that it gave.
     pub fn enter<R: Wait>(&self, rt: &R, pass: &mut Pass<T>) -> T
         requires cell { IsOf self.now pass.old }
         requires outside { IsOutside pass.old }
         ensures value { Continues (IsForeign T.by (pass_numbers pass.old)) (T.entries result)
             (seen pass.old) }
+        ensures given { pass_number pass.old ≡ 0
+            → Continues (λ e. T.by e ≤ made pass.old) (T.entries result) (seen pass.old) }
+        ensures complete { HoldsAll pass.old → T.entries result ≡ seen pass.old }
         ensures alone { IsAlone pass.old → T.entries result ≡ seen pass.old }
         ensures tag { tag_of T.tag pass.old ≡ Some (T.tag result) }
         ensures kept { IsOf self.now pass.new × KeepsNumbers pass.old pass.new
@@ -108,7 +112,8 @@ impl<T: Told + Drop> Cell<T> {
     }
 
     /// Makes one pass of two, which holds the numbers of both and has seen the longer of the two
-    /// lists. What came since either had seen it is of numbers that this one didn't hold.
+    /// lists. What came since either had seen it is of numbers that this one didn't hold, and where
+    /// this one is the root, of numbers that it gave. No number was held by both.
     pub fn join(&self, pass: &mut Pass<T>, other: Pass<T>)
         requires cell { IsOf self.now pass.old × IsOf self.now other }
         requires outside { IsOutside pass.old × IsOutside other }
@@ -122,6 +127,9 @@ impl<T: Told + Drop> Cell<T> {
             (seen pass.old) }
         ensures second { Continues (IsForeign T.by (pass_numbers other)) (seen pass.new)
             (seen other) }
+        ensures given { pass_number pass.old ≡ 0
+            → Continues (λ e. T.by e ≤ made pass.old) (seen pass.new) (seen pass.old) }
+        ensures apart { AreApart (pass_numbers pass.old) (pass_numbers other) }
     {
         let Pass {
             known: Known { place, count, .. },

@@ -25,6 +25,7 @@ loop-disk-preserved g c =
           (o.1 ∙ ap (λ l. o.0 ++ l) steps.0) c.push_reserved.ensures.items o.2
           (record {
             areas = c.in-Ok-open.ensures.areas;
+            slots = λ told. (c.in-Ok-open.ensures.ok told).1;
             counts = c.in-Ok-open.ensures.faults;
             kept = c.in-Ok-open.ensures.kept;
           });

@@ -1,22 +1,13 @@
-use Rattle.std.proofs.Common.{ap, sym, subst, ◌∙◌}
-use Rattle.session_desk.specs.Shared.{DeskTag}
-use Rattle.session_desk.specs.Sound.{IsSoundDesk}
-use Rattle.host_serve.proofs.ListLemmas.{same_some}
-use Rattle.host_serve.proofs.TurnLemmas.{turns_in}
+use Rattle.std.proofs.Common.{subst}
+use Rattle.line_words.specs.declared.request.Request.{Request}
+use Rattle.session_core.specs.Checks.{session_of}
+use Rattle.session_desk.specs.Shared.{desk_tag}
+use Rattle.turn_cell.specs.Passes.{tag_of}
+use Rattle.host_serve.specs.Hosts.{IsTagOf}
 use Rattle.host_serve.proofs.turn.turn_in.Goals as goal
 
-pub returns-clause-value : goal.returns-clause-value
-returns-clause-value g c =
-    let its = c.requires.tag in
-    let tag = same_some _ _ (sym c.enter-desk.ensures.tag ∙ its.2) in
-    let turn = c.answer-reply.ensures.turn in (
-      turn.now,
-      turns_in _ _ _ _ _ _ _ c.enter-desk.result.desk c.enter-desk.result.history
-          c.number-by.result c.args.request.now c.number-by.ensures c.enter-desk.ensures.value
-          c.enter-desk.ensures.alone c.requires.read
-          (ap (λ (t : DeskTag g.row.D.Denot). t.stories) tag) c.answer-reply.ensures.commands
-          c.count-length.ensures
-          (λ sound. turn.own
-          (subst (IsSoundDesk g.D.Disk.tells g.D.Disk.seen) (sym tag) (sound _ its.0 its.1)))
-          turn.met turn.reply (c.leave.ensures.seen ∙ turn.history),
-    )
+pub watch_in-requires-clause-tag : goal.watch_in-requires-clause-tag
+watch_in-requires-clause-tag g c =
+    subst
+    (λ (r : Request). IsTagOf c.args.host.now (session_of r) (tag_of desk_tag c.args.pass.now))
+    c.in-Watch.is c.requires.tag

@@ -15,6 +15,7 @@ returns-in-Err-Journal-clause-refused g c =
       fault = c.in-Err-Journal.fault;
       explains = rw c.in-Err-Journal.field-0-is at c.in-Err-Journal.ensures.exact;
       cause = rw c.in-Err-Journal.field-0-is at c.in-Err-Journal.ensures.cause;
+      looked = rw c.in-Err-Journal.field-0-is at c.in-Err-Journal.ensures.refused;
       gave = gave_none input;
       says = c.say_fault.ensures.value;
       images =

@@ -22,7 +22,7 @@ returns-clause-value g c = (
       c.answer_lines-served.ensures.value c.in-Ok.ensures.ok.1 c.in-Ok.ensures.sound
       (stores_back g.D.Disk _ _ _ _ _ _ _ _ _ _ c.in-Ok.ensures.ok.2
       c.end-journal.ensures.value c.in-Ok.ensures.stores c.end-journal.ensures.stores
-      c.in-Ok.ensures.sound)),
+      g.met.D.Disk.seen_may_stay c.in-Ok.ensures.sound)),
 )
 
 stores_same : (g : Over) (c : After-end-journal g)

@@ -1,4 +1,4 @@
-use Rattle.std.proofs.Common.{inr, map}
+use Rattle.std.proofs.Common.{Err, ap, inr, map}
 use Rattle.host_top.proofs.program.follow.Goals as goal
 
 pub returns-clause-done : goal.returns-clause-done
@@ -12,3 +12,8 @@ returns-clause-done g c = inr (record {
   does = rw c.deref-2.ensures.value at c.act.ensures.value;
   cause = c.act.ensures.read_fault;
 })
+
+pub returns-in-Err-Failed-clause-unprovoked : goal.returns-in-Err-Failed-clause-unprovoked
+returns-in-Err-Failed-clause-unprovoked g c = λ none there e.
+    absurd ((rw c.deref.ensures.value at c.in-Err-Failed.ensures.unlisted) none there
+    (ap (λ w. Err w) c.in-Err-Failed.field-0-is))

@@ -1,6 +1,8 @@
-use Rattle.std.proofs.Common.{◌∙◌, ap, sym, arith, inr, is_ok, map, List, ℕ}
+use Rattle.std.proofs.Common.{◌∙◌, ap, sym, arith, rules, inr, is_ok, map, List, ℕ}
+use Rattle.std.proofs.Common.{Global, Vec}
 use Rattle.std.proofs.lemmas.List.{length-map}
 use Rattle.host_top.specs.StoryFile.{story_in_file}
+use Rattle.host_top.proofs.CallsLemmas.{loads_there, no_failure, none_still}
 use Rattle.host_top.proofs.LoansLemmas.{doors_then, keeps_then}
 use Rattle.host_top.proofs.StoriesLemmas.{any_error, loaded_more, loaded_last, loaded_story}
 use Rattle.host_top.proofs.stories.load_files.Goals as goal
@@ -30,6 +32,9 @@ loop-name-preserved g c = record {
   count = omega (arith, c.in-Ok.ensures.len);
   kept = c.in_ok-bytes.ensures.kept ∙ c.loop-name.invariant.kept;
   later = omega (arith, c.in_ok-bytes.ensures.later);
+  unlisted =
+      λ none. none_still _ _ _ _ (c.loop-name.invariant.unlisted none)
+      c.in_ok-bytes.ensures.listed;
   disks = keeps_then c.loop-name.invariant.disks c.in_ok-bytes.ensures.disks;
   doors = doors_then c.loop-name.invariant.doors c.in_ok-bytes.ensures.doors;
 }
@@ -49,3 +54,10 @@ returns-in_err-bytes-clause-behind g c = any_error c.from_residual.result _ (λ 
         length-map c.args.names.now (λ n. n.now),
       );
 })
+
+pub returns-in_err-bytes-clause-unlisted : goal.returns-in_err-bytes-clause-unlisted
+returns-in_err-bytes-clause-unlisted g c = λ none there.
+    no_failure (Vec ℕ Global) _ _
+    (loads_there _ _ _ _ _ _ _ c.loop-name.name-index _ c.loop-name-test.true
+    c.loop-name.invariant.kept c.in_err-bytes.ensures.listed (c.loop-name.invariant.unlisted none)
+    there) (λ e. search (rules))

@@ -1,4 +1,5 @@
 use Rattle.std.proofs.Common.{◌≡◌, ◌≤◌, map, length, IsOk}
+use Rattle.host_top.specs.Calls.{NoneIsListed}
 use Rattle.host_top.specs.Files.{KeepsDisks, KeepsDoors}
 use Rattle.host_top.specs.Stories.{AreFiles, stories_of}
 use Rattle.host_top.proofs.stories.load_files.Given as goal
@@ -10,6 +11,8 @@ invariant-loop-name g l = record {
   stories : IsOk (stories_of (map (λ f. f.items) l.files.items));
   count : length l.files.items ≡ l.name-index;
   kept : (g.O.Outside.outside l.outside).file ≡ (g.O.Outside.outside l.initial.outside).file;
+  unlisted : NoneIsListed (g.O.Outside.failing_loads l.initial.outside)
+      → NoneIsListed (g.O.Outside.failing_loads l.outside);
   disks : KeepsDisks (g.O.Outside.outside l.initial.outside) (g.O.Outside.outside l.outside);
   doors : KeepsDoors (g.O.Outside.outside l.initial.outside) (g.O.Outside.outside l.outside);
   later : (g.O.Outside.outside l.initial.outside).faults ≤ (g.O.Outside.outside l.outside).faults;

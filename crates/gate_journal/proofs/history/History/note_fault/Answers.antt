@@ -1,5 +1,6 @@
 use Rattle.std.proofs.Common.{◌≡◌, ◌++◌, ◌∷◌, [], ◌∙◌, ap}
 use Rattle.std.proofs.Common.{List, rules, vec_len, vec_capacity}
+use Rattle.gate_journal.specs.declared.row.Row.{Row}
 use Rattle.gate_journal.specs.declared.mark.Mark.{Mark}
 use Rattle.gate_journal.specs.declared.mark.Mark.TheVariants as marks
 use Rattle.gate_journal.specs.declared.entry.Entry.TheVariants.{Faulted}
@@ -15,10 +16,10 @@ invariant_of-self c =
     (ap (λ (e : Entries). e.room) c.self.view_is ∙ c.requires) in
     let fine = c.push.ensures.succeeds room.1 in
     let pushed : c.push.new.self.items
-    ≡ c.self.inside.marks.items ++ marks.Fault c.args.by c.args.from c.args.to ∷ [] =
+    ≡ c.self.inside.marks.items ++ marks.Fault c.of-asked.result c.args.from c.args.to ∷ [] =
     search rules in
     ap count_rows pushed
-    ∙ count-fault c.self.inside.marks.items c.args.by c.args.from c.args.to
+    ∙ count-fault c.self.inside.marks.items c.of-asked.result c.args.from c.args.to
     ∙ c.self.invariant
 
 pub returns-clause-entry : goal.returns-clause-entry
@@ -29,9 +30,13 @@ returns-clause-entry c =
     (ap (λ (e : Entries). e.room) c.self.view_is ∙ c.requires) in
     let fine = c.push.ensures.succeeds room.1 in
     let pushed : c.push.new.self.items
-    ≡ c.self.inside.marks.items ++ marks.Fault c.args.by c.args.from c.args.to ∷ [] =
+    ≡ c.self.inside.marks.items ++ marks.Fault c.of-asked.result c.args.from c.args.to ∷ [] =
     search rules in
     ap (λ (l : List Mark). rows_woven l c.self.inside.rows.items) pushed
-    ∙ woven-fault c.self.inside.marks.items c.self.inside.rows.items c.args.by c.args.from
+    ∙ woven-fault c.self.inside.marks.items c.self.inside.rows.items c.of-asked.result c.args.from
     c.args.to c.self.invariant
-    ∙ ap (λ (e : Entries). e.list ++ Faulted c.args.by c.args.from c.args.to ∷ []) c.self.view_is
+    ∙ ap (λ (r : Row).
+    rows_woven c.self.inside.marks.items c.self.inside.rows.items
+    ++ Faulted r c.args.from c.args.to ∷ []) c.of-asked.ensures
+    ∙ ap (λ (e : Entries). e.list ++ Faulted c.args.row.now c.args.from c.args.to ∷ [])
+    c.self.view_is

@@ -7,15 +7,11 @@ use Rattle.gate_journal.proofs.history.History.of.Goals as goal
 
 pub invariant_of-result : goal.invariant_of-result
 invariant_of-result c =
-    let all : c.in_ok-marks.marks.items ≡ replicate c.len.result marks.Row =
-    c.in_ok-marks.ensures.items_if_clones_equal (λ y is. is) in
-    ap count_rows all ∙ count-all c.len.result ∙ (omega (arith, c.len.ensures))
+    ap count_rows c.in_ok-marks.ensures ∙ count-all c.len.result ∙ (omega (arith, c.len.ensures))
 
 pub returns : goal.returns
 returns c =
-    let all : c.in_ok-marks.marks.items ≡ replicate c.len.result marks.Row =
-    c.in_ok-marks.ensures.items_if_clones_equal (λ y is. is) in
-    ap (λ (l : List Mark). rows_woven l c.args.rows.items) all
+    ap (λ (l : List Mark). rows_woven l c.args.rows.items) c.in_ok-marks.ensures
     ∙ ap (λ (n : _). rows_woven (replicate n marks.Row) c.args.rows.items)
     (omega (arith, c.len.ensures))
     ∙ woven-all c.args.rows.items

@@ -23,7 +23,8 @@ invariant_of-result g c =
       rw c.of-opened.ensures
           (since_begun c.len-found.result c.len-found.ensures c.in-Ok.ensures.fresh journal.0
           c.load.ensures.kept c.load.ensures.crash
-          (omega (arith, journal.1, c.in-Ok.ensures.ends))),
+          (omega (arith, journal.1, c.in-Ok.ensures.ends)) c.in-Ok.ensures.shut
+          (g.met.D.Disk.only_now _) c.of-start.ensures c.new.ensures),
     )
 
 pub returns-clause-untouched : goal.returns-clause-untouched

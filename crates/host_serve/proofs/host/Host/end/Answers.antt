@@ -7,7 +7,7 @@ use Rattle.session_desk.specs.Shared.{SharedState, desk_tag}
 use Rattle.host_serve.specs.Gathering.{Gathers}
 use Rattle.host_serve.specs.Holders.{holders, seens}
 use Rattle.host_serve.specs.Hosts.{ArePasses, rows_at_opening, opened_stores, tags_in}
-use Rattle.host_serve.proofs.EndLemmas.{agrees_back, ends_with, gives_back}
+use Rattle.host_serve.proofs.EndLemmas.{agrees_back, ends_with, files_back, gives_back}
 use Rattle.host_serve.proofs.host.Host.end.Goals as goal
 
 pub gather-requires-clause-many : goal.gather-requires-clause-many
@@ -38,7 +38,7 @@ gather-requires-clause-room g c = c.requires.passes.whole.room
 pub returns : goal.returns
 returns g c =
     let in_all = subst (λ (l : List (Pass (SharedState g.row.D.Denot) Entry)).
-    Gathers g.D.Disk.tells g.D.Disk.may_leave g.D.Disk.seen g.D.Disk.faults g.D.Disk.reach
+    Gathers g.D.Disk.tells g.D.Disk.may_leave g.D.Disk.seen g.D.Disk.moment g.D.Disk.left_since g.D.Disk.faults g.D.Disk.reach
     g.D.Disk.room g.D.Disk.label 64 (holders l) (seens l) (map (tag_of desk_tag) l)
     c.args.self.root c.gather.new.root c.gather.new.disks.items) c.deref_mut.ensures.value
     c.gather.ensures.value in
@@ -46,7 +46,7 @@ returns g c =
       value = (
         c.enter.result,
         c.into_disk.ensures.value,
-        ends_with _ _ _ _ _ _ _ c.args.self c.args.passes c.gather.new.root
+        ends_with _ _ _ _ _ _ _ _ _ c.args.self c.args.passes c.gather.new.root
             c.gather.new.disks.items c.enter.result c.requires.passes.whole in_all
             c.enter.ensures.value c.enter.ensures.tag c.into_disk.ensures.journal,
         c.into_disk.ensures.journal,
@@ -54,10 +54,13 @@ returns g c =
         c.into_disk.ensures.opens,
         c.into_disk.ensures.rises,
         c.into_disk.ensures.since,
-        λ sound. agrees_back _ _ _ _ _ _ _ c.args.self c.args.passes c.gather.new.root
+        λ sound. agrees_back _ _ _ _ _ _ _ _ _ c.args.self c.args.passes c.gather.new.root
+            c.gather.new.disks.items c.enter.result c.requires.passes in_all
+            c.enter.ensures.value c.into_disk.ensures.journal sound,
+        λ sound. files_back _ _ _ _ _ _ _ _ _ c.args.self c.args.passes c.gather.new.root
             c.gather.new.disks.items c.enter.result c.requires.passes in_all
             c.enter.ensures.value c.into_disk.ensures.journal sound,
       );
-      stores = gives_back _ _ _ _ _ _ _ c.args.self c.args.passes c.gather.new.root
+      stores = gives_back _ _ _ _ _ _ _ _ _ c.args.self c.args.passes c.gather.new.root
           c.gather.new.disks.items c.requires.passes in_all;
     }

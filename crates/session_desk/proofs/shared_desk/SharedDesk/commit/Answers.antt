@@ -6,6 +6,7 @@ use Rattle.session_desk.specs.Keeping.{snapshot_due}
 use Rattle.session_desk.specs.Marks.{marks_by, commands_woven}
 use Rattle.session_desk.specs.Shared.{history_met, IsMarked, met_by, SharedState}
 use Rattle.session_desk.specs.Verdict.{verdict}
+use Rattle.session_desk.proofs.FileLemmas.{rows_behind}
 use Rattle.session_desk.proofs.LawLemmas.{shows_fresh}
 use Rattle.session_desk.proofs.MarkLemmas.{woven-by}
 use Rattle.session_desk.proofs.SharedLemmas.{err_unplaced, leaves_history, marked-by, met_unplaced}
@@ -43,11 +44,12 @@ invariant_of-self-2 g c =
     c.commit_in_turn-done.new.desk c.self.inside.pass c.commit_in_turn-done.new.pass
     f.0 c.commit_in_turn-done.result marked c.self.invariant.marked ok err
     c.commit_in_turn-done.ensures.pass (c.commit_in_turn-done.ensures.history f.0 f.1) in
-    rw c.row_behind-self-inside.ensures (whole-committed g.D.Disk.tells g.D.Disk.seen
+    rw c.row_behind-self-inside.ensures (whole-committed g.D.Disk.tells g.D.Disk.seen g.D.Disk.moment g.D.Disk.left_since
     g.D.Disk.room g.D.Disk.label g.D.Disk.faults g.D.Disk.reach c.self.inside.marks.items
     c.note.new.marks.items c.self.inside.place old c.commit_in_turn-done.new.desk
     c.commit_in_turn-done.new.pass c.args.request.now f.0 c.commit_in_turn-done.result
-    c.self.invariant m ok err (c.commit_in_turn-done.ensures.opens f.0 f.1) f.1 fresh idle
+    c.self.invariant m ok err (c.commit_in_turn-done.ensures.opens f.0 f.1)
+    (rows_behind _ _ _ _ _ (c.commit_in_turn-done.ensures.journal f.0 f.1)) f.1 fresh idle
     c.missed-missed.ensures.counted)
 
 pub returns : goal.returns
@@ -77,6 +79,7 @@ returns g c =
       ok = ok_unplaced done _ (takes done c.args.request.now c.args.by old new f.0 f.1 ok history);
       runs = ok_unplaced done _ c.commit_in_turn-done.ensures.runs;
       err = err_unplaced done _ err;
+      rose = why_unplaced done _ c.commit_in_turn-done.ensures.rose;
       cause =
           why_unplaced done _ (leaves_history done c.args.by old.history new.history f.0 history);
       journal =

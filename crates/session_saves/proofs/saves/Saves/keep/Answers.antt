@@ -1,10 +1,13 @@
-use Rattle.std.proofs.Common.{ℕ, Some, refl, sym, subst}
+use Rattle.std.proofs.Common.{ℕ, Some, inl, refl, sym, subst}
 use Rattle.std.specs.Prelude.{IsTrue}
-use Rattle.session_saves.specs.Keeping.{AddsOnly, CountsExactly}
+use Rattle.disk_model.specs.Disk.{LeavesOnly}
+use Rattle.session_saves.specs.Keeping.{AddsOnly, CountsExactly, FailedPutLeaves}
+use Rattle.session_saves.specs.Keeping.{MayStandMeanwhile, PutsWorld}
 use Rattle.session_saves.specs.Saves.{SavesState}
 use Rattle.session_saves.proofs.AgreementLemmas.{after_keep}
 use Rattle.session_saves.proofs.KeepLemmas.{missed_counts, put_counts, put_stored, untouched}
 use Rattle.session_saves.proofs.KeptUpLemmas.{missed_not_due, put_keeps_up, put_not_due}
+use Rattle.session_saves.proofs.NewestLemmas.{failed_changes, keeps_open, put_changes}
 use Rattle.session_saves.proofs.saves.Saves.keep.Goals as goal
 
 pub returns-in-Ok-clause-due : goal.returns-in-Ok-clause-due
@@ -102,3 +105,46 @@ returns-else-is_due-clause-crash g c =
     untouched g.D.Disk.tells g.D.Disk.may_leave g.D.Disk.moment g.D.Disk.left_since g.D.Disk.seen
     g.met.D.Disk.only_now
     c.args.world.now c.args.place c.args.count c.args.self.now.store c.is_due.ensures.images
+
+pub returns-in-Ok-clause-newest : goal.returns-in-Ok-clause-newest
+returns-in-Ok-clause-newest g c stories rows game least told last agreed has =
+    let crash = subst (λ (s : SavesState g.row.D.Denot). IsTrue (g.D.Disk.tells s.store.disk)
+    → LeavesOnly g.D.Disk.moment g.D.Disk.left_since s.store.disk c.put.new.store.disk
+    (MayStandMeanwhile g.D.Disk.seen c.args.world.now c.args.place c.args.count s.store))
+    c.self.view_is c.in-Ok.ensures.crash in
+    let puts = subst (λ (s : SavesState g.row.D.Denot). PutsWorld g.D.Disk.tells
+    g.D.Disk.may_leave g.D.Disk.faults c.args.world.now c.args.place c.args.count s.store
+    c.put.new.store) c.self.view_is c.in-Ok.ensures.ok in
+    let old = c.args.self.now.store in
+    keeps_open g.D.Disk.tells g.D.Disk.may_leave g.D.Disk.seen g.D.Disk.moment g.D.Disk.left_since
+    stories rows game c.args.place least c.args.world.now c.args.place c.args.count old
+    c.put.new.store g.met.D.Disk.seen_may_stay c.is_due.ensures.images (crash told)
+    (put_changes g.D.Disk.tells g.D.Disk.may_leave g.D.Disk.faults c.args.world.now c.args.place
+    c.args.count old c.put.new.store puts)
+    told last agreed has
+
+pub returns-in-Err-clause-newest : goal.returns-in-Err-clause-newest
+returns-in-Err-clause-newest g c stories rows game least told last agreed has =
+    let crash = subst (λ (s : SavesState g.row.D.Denot). IsTrue (g.D.Disk.tells s.store.disk)
+    → LeavesOnly g.D.Disk.moment g.D.Disk.left_since s.store.disk c.put.new.store.disk
+    (MayStandMeanwhile g.D.Disk.seen c.args.world.now c.args.place c.args.count s.store))
+    c.self.view_is c.in-Err.ensures.crash in
+    let leaves = subst (λ (s : SavesState g.row.D.Denot). FailedPutLeaves c.in-Err.cause s.store
+    c.put.new.store) c.self.view_is c.in-Err.ensures.err in
+    let old = c.args.self.now.store in
+    keeps_open g.D.Disk.tells g.D.Disk.may_leave g.D.Disk.seen g.D.Disk.moment g.D.Disk.left_since
+    stories rows game c.args.place least c.args.world.now c.args.place c.args.count old
+    c.put.new.store g.met.D.Disk.seen_may_stay c.is_due.ensures.images (crash told)
+    (failed_changes c.in-Err.cause old c.put.new.store leaves)
+    told last agreed has
+
+pub returns-else-is_due-clause-newest : goal.returns-else-is_due-clause-newest
+returns-else-is_due-clause-newest g c stories rows game least told last agreed has =
+    let old = c.args.self.now.store in
+    keeps_open g.D.Disk.tells g.D.Disk.may_leave g.D.Disk.seen g.D.Disk.moment g.D.Disk.left_since
+    stories rows game c.args.place least c.args.world.now c.args.place c.args.count old old
+    g.met.D.Disk.seen_may_stay c.is_due.ensures.images
+    (untouched g.D.Disk.tells g.D.Disk.may_leave g.D.Disk.moment g.D.Disk.left_since g.D.Disk.seen
+    g.met.D.Disk.only_now
+    c.args.world.now c.args.place c.args.count old c.is_due.ensures.images told)
+    (inl refl) told last agreed has

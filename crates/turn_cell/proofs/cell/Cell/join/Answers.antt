@@ -1,9 +1,10 @@
-use Rattle.std.proofs.Common.{◌∙◌, sym, ap, arith, length, subst}
+use Rattle.std.proofs.Common.{◌∙◌, ◌≤◌, ℕ, List, sym, ap, arith, length, subst}
 use Rattle.std.specs.Option.{IsSome}
 use mathlib.Core.Option.{none}
 use Rattle.atomic_table.specs.Table.{step}
 use Rattle.turn_cell.proofs.JoinLemmas.{joins, learn_end, joined_numbered}
-use Rattle.turn_cell.proofs.HistoryLemmas.{longer_left, longer_right}
+use Rattle.turn_cell.specs.History.{Continues}
+use Rattle.turn_cell.proofs.HistoryLemmas.{among_head, longer_left, longer_right}
 use Rattle.turn_cell.proofs.StepLemmas.{learns}
 use Rattle.turn_cell.proofs.cell.Cell.join.Goals as goal
 
@@ -67,3 +68,37 @@ invariant_of-known-else-count-known g c =
             ∙ ap (λ m. length m.0.seen) (sym k.0)),
       );
     }
+
+pub returns-then-count-known-clause-apart : goal.returns-then-count-known-clause-apart
+returns-then-count-known-clause-apart g c =
+    (learn_end g.T.Told.by c.args.pass.now.known.place.me _ _ c.args.other.known.place.me.0
+    c.join_seat.ensures.2 c.requires.outside.0.1 c.load.ensures.2).3
+
+pub returns-else-count-known-clause-apart : goal.returns-else-count-known-clause-apart
+returns-else-count-known-clause-apart g c =
+    (learn_end g.T.Told.by c.args.pass.now.known.place.me _ _ c.args.other.known.place.me.0
+    c.join_seat.ensures.2 c.requires.outside.0.1 c.load.ensures.2).3
+
+pub returns-then-count-known-clause-given : goal.returns-then-count-known-clause-given
+returns-then-count-known-clause-given g c zero =
+    let p = c.args.pass.now.known in let n = p.numbered in
+    let k =
+    learn_end g.T.Told.by p.place.me _ _ c.args.other.known.place.me.0 c.join_seat.ensures.2
+    c.requires.outside.0.1 c.load.ensures.2 in
+    let given =
+    k.4 (among_head 0 p.place.me.0.holds n.1.0 (n.1.1 ∙ (sym n.0 ∙ zero))) in
+    subst (λ (x : ℕ × List g.row.T-Entry.Denot).
+    Continues (λ e. g.T.Told.by e ≤ x.0) x.1 p.place.me.0.seen)
+    (λ i. (sym p.counted.0 i, sym (ap (λ m. m.0.seen) k.0) i)) given
+
+pub returns-else-count-known-clause-given : goal.returns-else-count-known-clause-given
+returns-else-count-known-clause-given g c zero =
+    let p = c.args.pass.now.known in let n = p.numbered in
+    let k =
+    learn_end g.T.Told.by p.place.me _ _ c.args.other.known.place.me.0 c.join_seat.ensures.2
+    c.requires.outside.0.1 c.load.ensures.2 in
+    let given =
+    k.4 (among_head 0 p.place.me.0.holds n.1.0 (n.1.1 ∙ (sym n.0 ∙ zero))) in
+    subst (λ (x : ℕ × List g.row.T-Entry.Denot).
+    Continues (λ e. g.T.Told.by e ≤ x.0) x.1 p.place.me.0.seen)
+    (λ i. (sym p.counted.0 i, sym (ap (λ m. m.0.seen) k.0) i)) given

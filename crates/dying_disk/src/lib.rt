@@ -1,0 +1,8 @@
+//! A disk that makes so many calls of another disk and then fails for good.
+#![tactic(auto)]
+
+mod dying;
+#[cfg(test)]
+mod tests;
+
+pub use dying::Dying;

@@ -1,0 +1,3 @@
+pub mod Shows
+pub mod Leaves
+pub mod Certain

@@ -1,0 +1,4 @@
+pub mod GameLemmas
+pub mod TextLemmas
+pub mod ShownLemmas
+pub mod LawLemmas
