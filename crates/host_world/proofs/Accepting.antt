@@ -18,7 +18,7 @@ use Rattle.gate_journal.specs.Rows.{IsNext, MayStand}
 use Rattle.gate_journal.specs.declared.command.Command.TheVariants as commands
 use Rattle.line_words.specs.declared.request.Request.{Request}
 use Rattle.line_words.specs.declared.request.Request.TheVariants.{Open, Line, Char, File, Last}
-use Rattle.line_words.specs.declared.request.Request.TheVariants.{Close}
+use Rattle.line_words.specs.declared.request.Request.TheVariants.{Close, Watch}
 use Rattle.line_words.specs.declared.reply.No.{No as Refusal}
 use Rattle.line_words.specs.declared.reply.No.TheVariants as no
 use Rattle.line_words.specs.Request.{request_of}
@@ -184,6 +184,7 @@ follows stories xs (File s key n name) c a none fresh e =
     (all_fail (plain_checks stories g (File s key n name)) none).1.0 in
     rw (sym (some_is _ c e)) (one_follows xs a used)
 follows stories xs (Last s key) c a none fresh e = absurd cc
+follows stories xs (Watch s word from) c a none fresh e = absurd cc
 follows stories xs (Close s key n) c a none fresh e =
     let g = game_of xs in
     let used =
@@ -273,6 +274,7 @@ module _ (stories : List Story) (budget : ℕ) where
   in_range (File s key n name) c range r e digest =
       subst (λ (x : Command). IsCommand x) (some_is _ c e) r.1
   in_range (Last s key) c range r e digest = absurd cc
+  in_range (Watch s word from) c range r e digest = absurd cc
   in_range (Close s key n) c range r e digest =
       subst (λ (x : Command). IsCommand x) (some_is _ c e) tt
 
@@ -307,6 +309,7 @@ module _ (stories : List Story) (budget : ℕ) (premise : AreGiven stories budge
   given_digest (File s key n name) c e =
       subst (λ (x : Command). HasDigest x) (some_is _ c e) tt
   given_digest (Last s key) c e = absurd cc
+  given_digest (Watch s word from) c e = absurd cc
   given_digest (Close s key n) c e = subst (λ (x : Command). HasDigest x) (some_is _ c e) tt
 
   stands_by : (rows : List Row) (s : ℕ) (cs : List Command) (line : List ℕ) (c : Command) → s < 64
