@@ -5,7 +5,8 @@ A piece is a crate's proof and library, its tests, or its edits. `rt ci`'s own c
 this one piece to do and one job, in a copy of the crates where only the libraries below are built.
 Those are linked in as earlier pieces made them, so no piece pays for another one's search. Seconds
 are those that the system counted for the piece's processes, user and system. Machines differ, so each
-piece is also told as a multiple of one proof of `story_text` in the same run."""
+piece is also told as a multiple of one proof of `story_text` in the same run, where that is of it: a
+library that is proved anew can't stand below those that were built over it before."""
 
 import argparse
 import json
@@ -133,11 +134,10 @@ class Gate:
         return {**ended, "failed": ran.returncode != 0 or refused}
 
     def plan(self, pieces, only, built):
-        """Takes the pieces of the crates named, or all, proofs of those below that lack, and the unit."""
+        """Takes the pieces of the crates named, or all, and proofs of those below that lack."""
         below = {crate: libraries for crate, _, libraries, _ in pieces}
         wanted = set(only or below)
-        needed = {it for crate in wanted for it in below[crate]} - wanted | {UNIT[0]}
-        built = {crate: folder for crate, folder in built.items() if crate != UNIT[0]}
+        needed = {it for crate in wanted for it in below[crate]} - wanted
         for crate in needed & built.keys():
             subprocess.run(["cp", "-a", built[crate], self.store / crate], check=True)
         work = {}

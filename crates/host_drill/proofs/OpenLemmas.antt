@@ -1,9 +1,10 @@
--- A journal that was just begun has no row, and empty disks have no area.
+-- A journal that was just begun has no row, and a new snapshot file has no area that may open.
 use Rattle.std.proofs.Common.{◌≡◌, ℕ, zero, suc, List, [], ◌∷◌, ◌++◌, length}
 use Rattle.std.proofs.Common.{refl, sym, ap, ◌∙◌, subst, arith, inl, inr}
 use Rattle.std.proofs.lemmas.Bool.{cases_lt}
 use Rattle.std.proofs.lemmas.List.{get_or_past}
-use Rattle.std.specs.Prelude.{slice_get, slice_index, Bool, IsTrue, true, None, Some}
+use Rattle.std.specs.Prelude.{slice_get, slice_index, Bool, IsTrue, true, false, ◌&&◌, None, Some}
+use Rattle.std.specs.Prelude.{if◌then◌else◌}
 use Rattle.turn_cell.specs.History.{Each}
 use Rattle.disk_model.specs.Disk.{Holds}
 use Rattle.gate_journal.specs.Log.{rows_kept}
@@ -18,10 +19,12 @@ use Rattle.gate_journal.specs.declared.command.Command.{Command}
 use Rattle.session_core.specs.declared.entry.Entry.{Entry}
 use Rattle.session_saves.specs.Agreement.{IsAgreedFile}
 use Rattle.session_desk.specs.Turn.{history_in}
-use Rattle.snap_store.specs.File.{has_header, openable_area}
+use Rattle.snap_store.specs.File.{area_on_side, empty_snapshot_file, gate_byte, has_header, is_whole}
+use Rattle.snap_store.specs.File.{openable_area, Stored}
 use Rattle.snap_store.specs.declared.side.Side.{Side}
+use Rattle.snap_store.specs.declared.side.Side.TheVariants.{A, B}
 use Rattle.story_run.specs.declared.story.Story.{Story}
-use Rattle.host_drill.specs.Drilled.{AreEmpty}
+use Rattle.host_drill.specs.Drilled.{AreMade, IsNewFile}
 
 whole : (bytes : List ℕ) → Holds bytes 0 bytes
 whole bytes = record {
@@ -54,12 +57,24 @@ none_seen rows seens none is k = elim (cases_lt k 64) [
 
 -- ---- disks without areas
 
-no_area : (side : Side) → openable_area side [] ≡ None
-unfolding has_header
-no_area side = refl
+gate_shut : (side : Side) → gate_byte side empty_snapshot_file ≡ 0
+unfolding gate_byte empty_snapshot_file
+gate_shut A = refl
+gate_shut B = refl
+
+none_where_shut : (has whole : Bool) (area : Stored)
+    → (if has && false && whole then Some area else None) ≡ None
+none_where_shut true whole area = refl
+none_where_shut false whole area = refl
+
+no_area : (side : Side) → openable_area side empty_snapshot_file ≡ None
+no_area side =
+    rw (gate_shut side)
+    (none_where_shut (has_header empty_snapshot_file) (is_whole side empty_snapshot_file)
+    (area_on_side side empty_snapshot_file))
 
 agrees : (stories : List Story) (rows : List ℕ) (game : List Command) (file : List ℕ)
-    → file ≡ [] → IsAgreedFile stories rows game file
+    → file ≡ empty_snapshot_file → IsAgreedFile stories rows game file
 agrees stories rows game file is side area there =
     absurd
     (none_some area (sym (ap (λ (f : List ℕ). openable_area side f) is ∙ no_area side) ∙ there))
@@ -71,12 +86,12 @@ module _ {A : Type 0} (P : A → Type 0) where
   each_got (y ∷ ys) (suc s) x each is = each_got ys s x each.1 is
 
 -- so they agree with the rows of any journal
-pub empty_agree : {D : Type 0} (tells : D → Bool) (reads : D → List ℕ) (stories : List Story)
+pub made_agree : {D : Type 0} (tells : D → Bool) (reads : D → List ℕ) (stories : List Story)
     (rows : List Row) (disks : List D)
-    → AreEmpty tells reads disks
+    → AreMade tells reads disks
     → AreAgreed tells reads stories rows disks
-empty_agree tells reads stories rows disks empty s disk there =
-    let one = each_got (λ d. IsTrue (tells d) × (reads d ≡ [])) disks s disk empty.each there in
+made_agree tells reads stories rows disks made s disk there =
+    let one = each_got (IsNewFile tells reads) disks s disk made.each there in
     (one.0, agrees stories _ _ (reads disk) one.1)
 
 -- disks in memory tell what they hold

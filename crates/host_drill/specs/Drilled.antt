@@ -15,13 +15,18 @@ use Rattle.line_words.specs.Reply.{print_reply}
 use Rattle.session_core.specs.declared.entry.Entry.{Entry}
 use Rattle.reply_tally.specs.Refusals.{refusals_in}
 use Rattle.sha2.specs.Sha256.{sha256}
+use Rattle.snap_store.specs.File.{empty_snapshot_file}
 use Rattle.host_drill.specs.Drill.{echo, drilled_history, drilled_replies}
 
 module _ {D : Type 0} (tells : D → Bool) (reads : D → List ℕ) where
-  -- there is a disk for each session, and all of them are empty
-  pub record AreEmpty (disks : List D) : Type 0 where
+  -- the disk has a new snapshot file, in which both areas are closed
+  abbrev pub IsNewFile : D → Type 0
+  IsNewFile d = IsTrue (tells d) × (reads d ≡ empty_snapshot_file)
+
+  -- there is a disk for each session, with a new snapshot file
+  pub record AreMade (disks : List D) : Type 0 where
     pub many : length disks ≡ 64
-    pub each : Each (λ (d : D). IsTrue (tells d) × (reads d ≡ [])) disks
+    pub each : Each IsNewFile disks
 
   -- the passes are the host's, and were never split; it has the Echo story alone, and is sound
   pub record IsDrilled (host : Host D) (passes : Passes D) : Type 0 where

@@ -2,12 +2,14 @@
 ghost use Rattle.std.specs.Prelude.{◌≡◌, [], ◌∷◌, IfOk, IsTrue, length};
 ghost use Rattle.turn_cell.specs.History.{Each};
 ghost use Rattle.disk_model.specs.Memory.{disk_state_in};
+ghost use Rattle.snap_store.specs.File.{empty_snapshot_file};
 ghost use Rattle.host_drill.specs.Drill.{echo};
-ghost use Rattle.host_drill.specs.Drilled.{AreEmpty, AreFreshFrom, IsDrilled};
+ghost use Rattle.host_drill.specs.Drilled.{AreFreshFrom, AreMade, IsDrilled, IsNewFile};
 
 use disk_model::{Disk, MemDisk};
 use gate_journal::init;
 use host_serve::{Host, Passes};
+use snap_store::make;
 use std::alloc::{AllocError, Global};
 use story_run::Story;
 
@@ -17,15 +19,27 @@ const BUDGET: u64 = 50_000_000;
 /// How many sessions a host has.
 const SESSIONS: u8 = 64;
 
-/// The disks of the sessions' snapshots, in memory. They are empty and without a header, so nothing
-/// is put into them.
-pub fn empty_disks(alloc: Global) -> Result<Vec<MemDisk>, AllocError>
+/// The disk, which is empty, with a new snapshot file. An error where it failed.
+fn made<D: Disk + Drop>(mut disk: D) -> Result<D, AllocError>
+    requires tells { IsTrue (D.tells disk) }
+    requires empty { D.seen disk ≡ [] }
+    ensures ok { IfOk result (λ made. IsNewFile D.tells D.seen made) }
+{
+    match make(&mut disk) {
+        Ok(()) => Ok(disk),
+        Err(_) => Err(AllocError),
+    }
+}
+
+/// The disks of the sessions' snapshots, in memory, each with a new file.
+pub fn made_disks(alloc: Global) -> Result<Vec<MemDisk>, AllocError>
     ensures many { IfOk result (λ disks. length disks.items ≡ 64) }
-    ensures empty { IfOk result (λ disks. Each (λ d. (disk_state_in d).seen ≡ []) disks.items) }
+    ensures made { IfOk result
+        (λ disks. Each (λ d. (disk_state_in d).seen ≡ empty_snapshot_file) disks.items) }
 {
     let mut disks = Vec::new(alloc);
     for _ in 0..SESSIONS {
-        disks.push(MemDisk::new(alloc))?;
+        disks.push(made(MemDisk::new(alloc))?)?;
     }
     Ok(disks)
 }
@@ -39,7 +53,7 @@ pub fn open_host<'i, D: Disk + Drop>(
     snaps: Vec<D>,
 ) -> Result<(Host<'i, D>, Passes<'i, D>), AllocError>
     requires tells { IsTrue (D.tells journal) }
-    requires empty { AreEmpty D.tells D.seen snaps.items }
+    requires made { AreMade D.tells D.seen snaps.items }
     requires stories { stories.now ≡ echo ∷ [] }
     ensures drilled { IfOk result (λ pair. IsDrilled D.tells D.seen pair.0 pair.1) }
     ensures fresh { IfOk result (λ pair. AreFreshFrom 0 pair.1) }

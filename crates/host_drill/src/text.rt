@@ -1,9 +1,9 @@
 //! The whole drill.
 ghost use Rattle.std.specs.Prelude.{◌≡◌, [], ◌∷◌, IfOk, IsTrue};
 ghost use Rattle.host_drill.specs.Drill.{drill_text, echo};
-ghost use Rattle.host_drill.specs.Drilled.{AreEmpty};
+ghost use Rattle.host_drill.specs.Drilled.{AreMade};
 
-use crate::opening::{empty_disks, open_host};
+use crate::opening::{made_disks, open_host};
 use crate::session::add_session;
 use disk_model::{Disk, MemDisk};
 use std::alloc::{AllocError, Global};
@@ -25,7 +25,7 @@ fn drill_over<'i, R: Wait, D: Disk + Drop>(
     number: u64,
 ) -> Result<Vec<u8>, AllocError>
     requires tells { IsTrue (D.tells journal) }
-    requires empty { AreEmpty D.tells D.seen snaps.items }
+    requires made { AreMade D.tells D.seen snaps.items }
     requires stories { stories.now ≡ echo ∷ [] }
     ensures value { IfOk result (λ text. text.items ≡ drill_text number) }
 {
@@ -40,7 +40,7 @@ fn drill_over<'i, R: Wait, D: Disk + Drop>(
 
 /// Has one host of the Echo story, over a journal in memory, answer the scripts that the number
 /// stands for, of sessions 0 to 7, each over a link in memory: a line that opens the session and one
-/// for each of 1,000 turns. The text has a line for each session: its number, how many commands were
+/// for each of 1,000 turns, with their snapshots on disks in memory, too. The text has a line for each session: its number, how many commands were
 /// accepted, how many replies are refusals, and the SHA-256 digest of the replies as they are
 /// written, in hexadecimal; and then the line `done`. An error where memory ran out on the way, of
 /// the disk or a link too.
@@ -52,6 +52,6 @@ pub fn drill<R: Wait>(rt: &R, alloc: Global, number: u64) -> Result<Vec<u8>, All
         unreachable!();
     };
     let stories = [story];
-    let snaps = empty_disks(alloc)?;
+    let snaps = made_disks(alloc)?;
     drill_over(rt, alloc, &stories, MemDisk::new(alloc), snaps, number)
 }

@@ -35,7 +35,7 @@ use Rattle.host_serve.specs.declared.served.Served.TheVariants as served
 use Rattle.line_talk.specs.declared.sink.Stop.{Stop}
 use Rattle.line_talk.specs.declared.sink.Stop.TheVariants as stop
 use Rattle.host_top.specs.declared.status.Status.{Status}
-use Rattle.host_top.specs.declared.status.Status.TheVariants.{BadWords, ReadFault, WriteFault}
+use Rattle.host_top.specs.declared.status.Status.TheVariants.{Done, BadWords, ReadFault, WriteFault}
 use Rattle.host_top.specs.declared.status.Status.TheVariants.{DiskFault, DoorFault}
 
 -- no end of a connection has this status
@@ -348,6 +348,10 @@ failed_nine disks {OnDoor} asked status code outside beyond input now output new
     (subst
     (λ (s : Status). FollowsCommand disks OnDoor asked s outside beyond input now output new)
     (sym (nine status code is e)) follows)
+
+pub coded_zero : (status : Status) (code : ℕ) → status_of code ≡ Some status → code ≡ 0
+    → status ≡ Done
+coded_zero status code is e = cc
 
 pub coded_two : (status : Status) (code : ℕ) → status_of code ≡ Some status → code ≡ 2
     → status ≡ BadWords

@@ -1,7 +1,7 @@
 -- Where all is in order and no fault is counted, a command ends with 0 or 7.
 use Rattle.std.proofs.Common.{◌≡◌, ℕ, ◌^◌, ◌<◌, ◌≤◌, ◌⊎◌, inl, inr, List, [], map, take, length}
 use Rattle.std.proofs.Common.{refl, subst, arith, IsTrue, Some, Result, Ok, Err, IsOk}
-use Rattle.std.proofs.Common.{Option, IfSome}
+use Rattle.std.proofs.Common.{Option, IfSome, IsErr}
 use Rattle.command_words.specs.Words.{Asked}
 use Rattle.command_words.specs.declared.words.Action.{Action}
 use Rattle.command_words.specs.declared.words.Action.TheVariants.{Run, Check, Pipe, Init, Help}
@@ -13,18 +13,14 @@ use Rattle.gate_journal.specs.Rows.{SpellsRows, IsCorrupt, HasNoHeader, journal_
 use Rattle.gate_journal.specs.Rows.{rows_behind_open_gates}
 use Rattle.gate_journal.specs.declared.row.Row.{Row}
 use Rattle.story_run.specs.declared.story.Story.{Story}
-use Rattle.host_top.specs.Begun.{WritesBegun}
 use Rattle.host_top.specs.Borrowed.{journal_in}
 use Rattle.host_top.specs.Calls.{AreThere}
+use Rattle.host_top.specs.Causes.{HasBadJournal}
 use Rattle.host_top.specs.Complete.{HasFolder, IsInOrder, NoneRose, SpellsSome}
 use Rattle.host_top.specs.DoorServed.{OfDoor}
 use Rattle.host_top.specs.Files.{OutsideState, Told, Untold, Missing, There}
-use Rattle.host_top.specs.Follows.{FollowsCommand, WritesFor}
-use Rattle.host_top.specs.Headline.{Speech, WritesOf}
-use Rattle.host_top.specs.LinksServed.{WritesLinks}
-use Rattle.host_top.specs.Replayed.{WritesReplayed}
-use Rattle.host_top.specs.Served.{AreTold, RefusesJournal, WritesServed}
-use Rattle.host_top.specs.Speech.{task_of, tasked}
+use Rattle.host_top.specs.Follows.{FollowsCommand}
+use Rattle.host_top.specs.Served.{AreTold, RefusesJournal}
 use Rattle.host_top.specs.Status.{status_of}
 use Rattle.host_top.specs.Stories.{stories_of}
 use Rattle.host_top.specs.ToldBytes.{BytesHave}
@@ -33,7 +29,7 @@ use Rattle.host_top.specs.declared.status.Status.TheVariants.{Done, BadWords, Re
 use Rattle.host_top.specs.declared.status.Status.TheVariants.{WriteFault, DiskFault, NoMemory}
 use Rattle.host_top.specs.declared.status.Status.TheVariants.{BadFolder, DoorFault, LineLimit}
 use Rattle.host_top.specs.declared.stories.Refusal.{Refusal}
-use Rattle.host_top.proofs.CauseLemmas.{failed_six, failed_nine}
+use Rattle.host_top.proofs.HasCauseLemmas.{ToldCause, disks_rose, doors_rose, tasked_cause}
 use Rattle.host_top.proofs.ToldLemmas.{tells, whatever_is_asked}
 use Rattle.line_talk.specs.Causes.{Rose}
 use Rattle.line_talk.specs.Lines.{IsWithinLimits, ReachesLimit, lines}
@@ -86,118 +82,38 @@ not_refused disks told line tells some (inr corrupt) =
 something : (c : List ℕ) → c ≡ [] → 0 < length c → ⊥
 something c none some = omega (arith, subst (λ (l : List ℕ). 0 < length l) none some)
 
-says_none : (speech : Speech) (bytes written : List ℕ) (status : Status) → IsWithinLimits bytes
-    → WritesOf status (Ok speech) bytes written → IsNoRefusal status
-says_none speech bytes written Done within w = tt
-says_none speech bytes written BadWords within w = absurd w
-says_none speech bytes written Refused within w = absurd (grind (arith, w))
-says_none speech bytes written ReadFault within w = tt
-says_none speech bytes written WriteFault within w = tt
-says_none speech bytes written DiskFault within w = tt
-says_none speech bytes written NoMemory within w = tt
-says_none speech bytes written BadFolder within w = absurd w
-says_none speech bytes written DoorFault within w = tt
-says_none speech bytes written LineLimit within w = no_limit bytes within w.1
+-- what makes a folder's journal bad isn't so where all is in order
+never_bad : {D : Type 0} (disks : DiskWords D) (action : Action) (told : Told D)
+    → ((d : D) → IsTrue (disks.tells d)) → HasFolder disks action told
+    → HasBadJournal disks action told → ⊥
+never_bad disks Run told tells f bad = bad
+never_bad disks Check told tells f bad = bad
+never_bad disks Pipe told tells f bad = not_refused disks told bad.0 tells f bad.1
+never_bad disks (Serve serving) told tells f bad = not_refused disks told bad.0 tells f bad.1
+never_bad disks Init told tells f bad =
+    told_both disks told (λ c. c ≡ []) (λ c. 0 < length c) something f (bad tells)
+never_bad disks Replay told tells f bad = not_refused disks told bad.0 tells f bad.1
+never_bad disks (Drill number) told tells f bad = bad
+never_bad disks (Help topic) told tells f bad = bad
+never_bad disks Version told tells f bad = bad
 
-serves_none : {D : Type 0} (disks : DiskWords D) (stories : List Story) (budget : ℕ)
-    (disk : List ℕ → Told D) (folder bytes written : List ℕ) (status : Status)
-    → ((d : D) → IsTrue (disks.tells d)) → SpellsSome disks (disk (journal_in folder))
-    → IsWithinLimits bytes → WritesServed status disks stories budget disk folder bytes written
-    → IsNoRefusal status
-serves_none disks stories budget disk folder bytes written Done tells some within w = tt
-serves_none disks stories budget disk folder bytes written BadWords tells some within w = absurd w
-serves_none disks stories budget disk folder bytes written Refused tells some within w = absurd w
-serves_none disks stories budget disk folder bytes written ReadFault tells some within w = tt
-serves_none disks stories budget disk folder bytes written WriteFault tells some within w = tt
-serves_none disks stories budget disk folder bytes written DiskFault tells some within w = tt
-serves_none disks stories budget disk folder bytes written NoMemory tells some within w = tt
-serves_none disks stories budget disk folder bytes written BadFolder tells some within w =
-    not_refused disks (disk (journal_in folder)) written tells some w
-serves_none disks stories budget disk folder bytes written DoorFault tells some within w = tt
-serves_none disks stories budget disk folder bytes written LineLimit tells some within w =
-    no_limit bytes within w.which.1
+never_err : (found : Result (List Story) Refusal) → IsOk found → IsErr found → ⊥
+never_err (Ok stories) ok err = absurd (grind (arith, err))
+never_err (Err refusal) ok err = absurd (grind (arith, ok))
 
-links_none : {D : Type 0} (disks : DiskWords D) (told : Told D) (written : List ℕ)
-    (status : Status) → ((d : D) → IsTrue (disks.tells d)) → SpellsSome disks told
-    → WritesLinks status disks told written → IsNoRefusal status
-links_none disks told written Done tells some w = tt
-links_none disks told written BadWords tells some w = absurd w
-links_none disks told written Refused tells some w = absurd w
-links_none disks told written ReadFault tells some w = tt
-links_none disks told written WriteFault tells some w = tt
-links_none disks told written DiskFault tells some w = tt
-links_none disks told written NoMemory tells some w = tt
-links_none disks told written BadFolder tells some w = not_refused disks told written tells some w
-links_none disks told written DoorFault tells some w = tt
-links_none disks told written LineLimit tells some w = absurd w
-
-begins_none : {D : Type 0} (disks : DiskWords D) (told : Told D) (written : List ℕ)
-    (status : Status) → ((d : D) → IsTrue (disks.tells d))
-    → AreTold disks.seen told (λ c. c ≡ []) → WritesBegun status disks told written
-    → IsNoRefusal status
-begins_none disks told written Done tells none w = tt
-begins_none disks told written BadWords tells none w = absurd w
-begins_none disks told written Refused tells none w = absurd w
-begins_none disks told written ReadFault tells none w = tt
-begins_none disks told written WriteFault tells none w = tt
-begins_none disks told written DiskFault tells none w = tt
-begins_none disks told written NoMemory tells none w = tt
-begins_none disks told written BadFolder tells none w =
-    told_both disks told (λ c. c ≡ []) (λ c. 0 < length c) something none (w.1 tells)
-begins_none disks told written DoorFault tells none w = tt
-begins_none disks told written LineLimit tells none w = absurd w
-
-replays_none : {D : Type 0} (disks : DiskWords D) (stories : List Story) (told : Told D)
-    (written : List ℕ) (status : Status) → ((d : D) → IsTrue (disks.tells d))
-    → SpellsSome disks told → WritesReplayed status disks stories told written
-    → IsNoRefusal status
-replays_none disks stories told written Done tells some w = tt
-replays_none disks stories told written BadWords tells some w = absurd w
-replays_none disks stories told written Refused tells some w = absurd w
-replays_none disks stories told written ReadFault tells some w = tt
-replays_none disks stories told written WriteFault tells some w = tt
-replays_none disks stories told written DiskFault tells some w = tt
-replays_none disks stories told written NoMemory tells some w = tt
-replays_none disks stories told written BadFolder tells some w =
-    not_refused disks told written tells some w
-replays_none disks stories told written DoorFault tells some w = tt
-replays_none disks stories told written LineLimit tells some w = absurd w
-
-does_none : {D : Type 0} (disks : DiskWords D) (action : Action) (stories : List Story)
-    (budget : ℕ) (disk : List ℕ → Told D) (folder bytes written : List ℕ) (status : Status)
-    → ((d : D) → IsTrue (disks.tells d)) → HasFolder disks action (disk (journal_in folder))
-    → IsWithinLimits bytes
-    → WritesFor disks disk status (Ok (task_of action stories budget folder)) bytes written
-    → IsNoRefusal status
-does_none disks Run stories budget disk folder bytes written status tells f within w =
-    says_none _ bytes written status within w
-does_none disks Check stories budget disk folder bytes written status tells f within w =
-    says_none _ bytes written status within w
-does_none disks Pipe stories budget disk folder bytes written status tells f within w =
-    serves_none disks stories budget disk folder bytes written status tells f within w
-does_none disks (Serve serving) stories budget disk folder bytes written status tells f within w =
-    links_none disks (disk (journal_in folder)) written status tells f w
-does_none disks Init stories budget disk folder bytes written status tells f within w =
-    begins_none disks (disk (journal_in folder)) written status tells f w
-does_none disks Replay stories budget disk folder bytes written status tells f within w =
-    replays_none disks stories (disk (journal_in folder)) written status tells f w
-does_none disks (Drill number) stories budget disk folder bytes written status tells f within w =
-    says_none _ bytes written status within w
-does_none disks (Help topic) stories budget disk folder bytes written status tells f within w =
-    says_none _ bytes written status within w
-does_none disks Version stories budget disk folder bytes written status tells f within w =
-    says_none _ bytes written status within w
-
-tasked_none : {D : Type 0} (disks : DiskWords D) (action : Action)
-    (found : Result (List Story) Refusal) (budget : ℕ) (disk : List ℕ → Told D)
-    (folder bytes written : List ℕ) (status : Status) → ((d : D) → IsTrue (disks.tells d))
-    → HasFolder disks action (disk (journal_in folder)) → IsWithinLimits bytes → IsOk found
-    → WritesFor disks disk status (tasked action found budget folder) bytes written
-    → IsNoRefusal status
-tasked_none disks action (Ok stories) budget disk folder bytes written status tells f within ok w =
-    does_none disks action stories budget disk folder bytes written status tells f within w
-tasked_none disks action (Err refusal) budget disk folder bytes written status tells f within ok w =
-    absurd (grind (arith, ok))
+-- a status whose cause is told, of which none is so, is no refusal
+no_refusal : (Refuses Bad : Type 0) (bytes : List ℕ) (status : Status) → (Refuses → ⊥)
+    → (Bad → ⊥) → IsWithinLimits bytes → ToldCause Refuses Bad bytes status → IsNoRefusal status
+no_refusal Refuses Bad bytes Done r b within cause = tt
+no_refusal Refuses Bad bytes BadWords r b within cause = cause
+no_refusal Refuses Bad bytes Refused r b within cause = r cause
+no_refusal Refuses Bad bytes ReadFault r b within cause = tt
+no_refusal Refuses Bad bytes WriteFault r b within cause = tt
+no_refusal Refuses Bad bytes DiskFault r b within cause = tt
+no_refusal Refuses Bad bytes NoMemory r b within cause = tt
+no_refusal Refuses Bad bytes BadFolder r b within cause = b cause
+no_refusal Refuses Bad bytes DoorFault r b within cause = tt
+no_refusal Refuses Bad bytes LineLimit r b within cause = no_limit bytes within cause
 
 done_is_0 : (code : ℕ) → status_of code ≡ Some Done → code ≡ 0
 done_is_0 code is = grind (arith, is)
@@ -220,12 +136,6 @@ ends BadFolder code is none r w d o = absurd none
 ends DoorFault code is none r w d o = absurd (o refl)
 ends LineLimit code is none r w d o = absurd none
 
-six : (status : Status) (code : ℕ) → status_of code ≡ Some status → status ≡ DiskFault → code ≡ 6
-six status code is e = grind (arith, is, e)
-
-nine : (status : Status) (code : ℕ) → status_of code ≡ Some status → status ≡ DoorFault → code ≡ 9
-nine status code is e = grind (arith, is, e)
-
 no_read : {A B : Type 0} → A ⊎ B → (A → ⊥) → (B → ⊥) → ⊥
 no_read (inl a) f g = f a
 no_read (inr b) f g = g b
@@ -245,17 +155,18 @@ ends_well disks {OnDoor} asked status code outside beyond input now output new f
     tells disks asked status outside beyond input now output new follows order.files order.bytes
     order.held order.are_there order.left order.holds in
     ends status code is
-    (tasked_none disks asked.action (stories_of (map (take 67108865) order.files)) asked.budget
-    outside.disk asked.folder order.bytes t.0 status order.tells order.folder order.within
-    order.are_stories t.2)
+    (no_refusal _ _ order.bytes status
+    (never_err (stories_of (map (take 67108865) order.files)) order.are_stories)
+    (never_bad disks asked.action (outside.disk (journal_in asked.folder)) order.tells order.folder)
+    order.within
+    (tasked_cause disks asked.action (stories_of (map (take 67108865) order.files)) asked.budget
+    outside.disk asked.folder order.bytes t.0 status t.2))
     reads
     (λ e. none.writes (writes e))
     (λ e. none.disks
-    (failed_six disks asked status code outside beyond input now output new follows is
-    (six status code is e)).0)
+    (disks_rose disks asked status code outside beyond input now output new follows is e))
     (λ e. none.doors
-    (failed_nine disks asked status code outside beyond input now output new follows is
-    (nine status code is e)))
+    (doors_rose disks asked status code outside beyond input now output new follows is e))
 
 -- where no fault of a load is counted
 pub completes : {D : Type 0} (disks : DiskWords D) {OnDoor : OfDoor D} (asked : Asked)

@@ -7,6 +7,8 @@ pub mod ReplayLemmas
 pub mod ToldLemmas
 pub mod CauseLemmas
 pub mod CompleteLemmas
+pub mod HasCauseLemmas
+pub mod WritesLemmas
 pub mod CallsLemmas
 pub mod StopLemmas
 pub mod OutsideLemmas

@@ -291,6 +291,8 @@ does_nothing disks OnDoor (Ok (ServesLinks stories budget folder serving)) outsi
 )
 does_nothing disks OnDoor (Ok (Begins folder)) outside input output =
     (inl (not_lent disks (journal_in folder ∷ []) outside input output), doors_none outside)
+does_nothing disks OnDoor (Ok (Replays stories folder)) outside input output =
+    (inl (not_lent disks (journal_in folder ∷ []) outside input output), doors_none outside)
 
 -- where memory was wanted before a file was loaded, each caller is told so
 tells_nothing : {D : Type 0} (disks : DiskWords D) (asked : Asked) (outside : OutsideState D)

@@ -16,6 +16,9 @@ pub mod StoryFile
 pub mod Status
 pub mod Follows
 pub mod Complete
+pub mod Scene
+pub mod Causes
+pub mod Writes
 pub mod Calls
 pub mod Spoken
 pub mod Plain

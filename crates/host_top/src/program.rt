@@ -10,7 +10,10 @@ ghost use Rattle.host_top.specs.Speech.{tasked};
 ghost use Rattle.host_top.specs.Stories.{stories_of};
 ghost use Rattle.host_top.specs.Follows.{DoesTask, FollowsCommand, TellsCaller};
 ghost use Rattle.host_top.specs.Calls.{AreThere, NoneIsListed};
+ghost use Rattle.host_top.specs.Causes.{HasCause};
 ghost use Rattle.host_top.specs.Complete.{IsInOrder, NoneRose};
+ghost use Rattle.host_top.specs.Scene.{scene};
+ghost use Rattle.host_top.specs.Writes.{WritesAll};
 
 use crate::check::check;
 use crate::drill::drill;
@@ -138,19 +141,20 @@ pub fn top<R: Threads + Wait + Sync, O: Outside, S: Source, K: Sink>(
         × Gave (S.source input.old) (S.source input.new) []
         × Wrote (K.sink output.old) (K.sink output.new) [] }
 
-    // what was asked is done as far as the status says
-    ensures done { IfSome (asked_by (map string_bytes words.now)) (λ asked.
-        IsSomeAnd (status_of result) (λ status. FollowsCommand O.Disk.Disk
-        (HostServes O.Door.Door O.Door.Conn.source O.Door.Conn.sink O.Door.Conn.lent O.Disk.Disk)
-        asked status (O.outside outside.old) (O.outside outside.new) (S.source input.old)
-        (S.source input.new) (K.sink output.old) (K.sink output.new))) }
+    // where it ends with 0, what each command writes, for a caller who is told the files, the input
+    // and what the output holds: of `pipe` the replies of stories that are run alone
+    ensures writes { IfSome (asked_by (map string_bytes words.now)) (λ asked. result ≡ 0
+        → WritesAll O.Disk.Disk asked
+        (scene (O.outside outside.old) (S.source input.old) (K.sink output.old))
+        (scene (O.outside outside.new) (S.source input.new) (K.sink output.new))) }
 
-    // and in plain words, for a caller who is told the files, the input and what the output holds
-    ensures told { IfSome (asked_by (map string_bytes words.now)) (λ asked.
-        IsSomeAnd (status_of result) (λ status. TellsCaller O.Disk.Disk asked status
-        (O.outside outside.old) (S.source input.old) (K.sink output.old) (K.sink output.new))) }
+    // each status has its cause, for such a caller
+    ensures causes { IfSome (asked_by (map string_bytes words.now)) (λ asked.
+        IsSomeAnd (status_of result) (HasCause O.Disk.Disk asked
+        (scene (O.outside outside.old) (S.source input.old) (K.sink output.old))
+        (scene (O.outside outside.new) (S.source input.new) (K.sink output.new)))) }
 
-    // the causes of faults, and no file changes; nothing is written where a disk failed
+    // the causes of faults, told or not, and no file changes; nothing is written where a disk failed
     ensures read_fault { result ≡ 4
         → Rose (O.outside outside.old).faults (O.outside outside.new).faults
         ⊎ Rose (S.source input.old).faults (S.source input.new).faults }
@@ -179,6 +183,18 @@ pub fn top<R: Threads + Wait + Sync, O: Outside, S: Source, K: Sink>(
         → NoneRose (O.outside outside.old) (O.outside outside.new) (S.source input.old)
         (S.source input.new) (K.sink output.old) (K.sink output.new)
         → (result ≡ 0) ⊎ (result ≡ 7)) }
+
+    // what was asked is done as far as the status says, in plain words for such a caller
+    ensures told { IfSome (asked_by (map string_bytes words.now)) (λ asked.
+        IsSomeAnd (status_of result) (λ status. TellsCaller O.Disk.Disk asked status
+        (O.outside outside.old) (S.source input.old) (K.sink output.old) (K.sink output.new))) }
+
+    // and the same of what is read, written, lent and left, told or not
+    ensures done { IfSome (asked_by (map string_bytes words.now)) (λ asked.
+        IsSomeAnd (status_of result) (λ status. FollowsCommand O.Disk.Disk
+        (HostServes O.Door.Door O.Door.Conn.source O.Door.Conn.sink O.Door.Conn.lent O.Disk.Disk)
+        asked status (O.outside outside.old) (O.outside outside.new) (S.source input.old)
+        (S.source input.new) (K.sink output.old) (K.sink output.new))) }
 {
     let command = match command_of(alloc, words) {
         Ok(Some(command)) => command,

@@ -1,6 +1,6 @@
 use Rattle.std.proofs.Common.{subst, sym, ap, ◌∙◌, Bool, IsTrue, length}
 use Rattle.host_serve.proofs.AloneLemmas.{many_histories}
-use Rattle.host_drill.proofs.OpenLemmas.{empty_agree, no_rows, none_seen}
+use Rattle.host_drill.proofs.OpenLemmas.{made_agree, no_rows, none_seen}
 use Rattle.host_drill.proofs.opening.open_host.Goals as goal
 
 pub returns-in-Ok-open-clause-drilled : goal.returns-in-Ok-open-clause-drilled
@@ -8,7 +8,7 @@ returns-in-Ok-open-clause-drilled g c =
     let opened = c.in-Ok-open.ensures.ok.3 in
     record {
       of = opened.of;
-      sound = c.in-Ok-open.ensures.sound (empty_agree _ _ _ _ _ c.requires.empty);
+      sound = c.in-Ok-open.ensures.sound (made_agree _ _ _ _ _ c.requires.made);
       alone = opened.alone;
       many = ap length opened.histories ∙ many_histories c.in-Ok-open.ensures.ok.0;
       stories = opened.stories ∙ c.requires.stories;

@@ -1,9 +1,12 @@
 use Rattle.std.proofs.Common.{◌∙◌, ap, map, string_bytes, sym}
 use Rattle.std.specs.Option.{option_map}
 use Rattle.command_words.specs.Words.{command_asked, asked_by}
-use Rattle.host_top.proofs.CauseLemmas.{failed_six, failed_nine, coded_two, coded_four, coded_five}
+use Rattle.host_top.proofs.CauseLemmas.{failed_six, failed_nine, coded_zero, coded_two, coded_four}
+use Rattle.host_top.proofs.CauseLemmas.{coded_five}
 use Rattle.host_top.proofs.CompleteLemmas.{completes, completes_unlisted}
 use Rattle.host_top.proofs.CompleteLemmas.{complete_no_memory}
+use Rattle.host_top.proofs.HasCauseLemmas.{cause_no_memory, has_cause}
+use Rattle.host_top.proofs.WritesLemmas.{writes_all, writes_no_memory}
 use Rattle.host_top.proofs.ToldLemmas.{tells, told_no_memory, done_no_memory}
 use Rattle.host_top.proofs.program.top.Goals as goal
 
@@ -12,6 +15,22 @@ returns-in-Err-clause-told g c =
     told_no_memory _ (asked_by (map string_bytes c.args.words.now)) c.code-in-Err.result
     (g.O.Outside.outside c.args.outside.now) (g.S.Source.source c.args.input.now)
     (g.K.Sink.sink c.args.output.now)
+    c.code-in-Err.ensures
+
+pub returns-in-Err-clause-writes : goal.returns-in-Err-clause-writes
+returns-in-Err-clause-writes g c =
+    writes_no_memory _ (asked_by (map string_bytes c.args.words.now)) c.code-in-Err.result
+    (g.O.Outside.outside c.args.outside.now) (g.O.Outside.outside c.args.outside.now)
+    (g.S.Source.source c.args.input.now) (g.S.Source.source c.args.input.now)
+    (g.K.Sink.sink c.args.output.now) (g.K.Sink.sink c.args.output.now)
+    c.code-in-Err.ensures
+
+pub returns-in-Err-clause-causes : goal.returns-in-Err-clause-causes
+returns-in-Err-clause-causes g c =
+    cause_no_memory _ (asked_by (map string_bytes c.args.words.now)) c.code-in-Err.result
+    (g.O.Outside.outside c.args.outside.now) (g.O.Outside.outside c.args.outside.now)
+    (g.S.Source.source c.args.input.now) (g.S.Source.source c.args.input.now)
+    (g.K.Sink.sink c.args.output.now) (g.K.Sink.sink c.args.output.now)
     c.code-in-Err.ensures
 
 pub returns-in-Err-clause-done : goal.returns-in-Err-clause-done
@@ -30,6 +49,18 @@ pub returns-clause-told : goal.returns-clause-told
 returns-clause-told g c =
     let is = sym c.in-Ok-Some.ensures ∙ ap (option_map command_asked) c.in-Ok-Some.field-0-is in
     rw (is, c.code-2.ensures) (tells _ _ _ _ _ _ _ _ _ c.follow-status.ensures.done)
+
+pub returns-clause-writes : goal.returns-clause-writes
+returns-clause-writes g c =
+    let is = sym c.in-Ok-Some.ensures ∙ ap (option_map command_asked) c.in-Ok-Some.field-0-is in
+    rw is (λ zero. writes_all _ _ _ _ _ _ _ _ _ c.follow-status.ensures.done
+    (coded_zero _ _ c.code-2.ensures zero))
+
+pub returns-clause-causes : goal.returns-clause-causes
+returns-clause-causes g c =
+    let is = sym c.in-Ok-Some.ensures ∙ ap (option_map command_asked) c.in-Ok-Some.field-0-is in
+    rw (is, c.code-2.ensures) (has_cause _ _ _ _ _ _ _ _ _ _ c.follow-status.ensures.done
+    c.code-2.ensures c.follow-status.ensures.read_fault c.follow-status.ensures.write_fault)
 
 pub returns-clause-bad_words : goal.returns-clause-bad_words
 returns-clause-bad_words g c =
