@@ -4,12 +4,13 @@ ghost use Rattle.command_words.specs.Serving.{HasWorkers};
 
 use crate::words::Action;
 
-/// What the words ask for: the folder, the names of the story files, and the budget of a turn in
-/// ticks. Where links are served, the number of workers is in range.
+/// What the words ask for: the folder, the one that it is packed into, the names of the story files,
+/// and the budget of a turn in ticks. Where links are served, the number of workers is in range.
 #[derive(Drop)]
 pub struct Command<'w> {
     pub action: Action,
     pub folder: &'w str,
+    pub into: &'w str,
     pub names: Vec<&'w str>,
     pub budget: u64,
     ghost in_range: { IsBudget budget },

@@ -10,7 +10,8 @@ ghost use Rattle.command_words.specs.Numbers.{IsWorkerCount};
 ghost use Rattle.command_words.specs.Serving.{HasWorkers, port_in, serving_in, workers_in};
 ghost use Rattle.command_words.specs.Words.{command_asked, asked_alone, asked_by, asked_in};
 ghost use Rattle.command_words.specs.Words.{asked_on};
-ghost use Rattle.command_words.specs.Words.{asked_serving, asked_with, drill_in, folder_in};
+ghost use Rattle.command_words.specs.Words.{asked_packing, asked_serving, asked_with, drill_in};
+ghost use Rattle.command_words.specs.Words.{folder_in};
 ghost use Rattle.command_words.specs.Words.{shown_by};
 
 use crate::command::Command;
@@ -50,6 +51,8 @@ pub enum Action {
     Serve(Serving),
     /// Writes what the players of a folder were shown, from its journal.
     Replay,
+    /// Begins a folder with the games of another one that are in use.
+    Pack,
     /// Plays eight sessions by the scripts of a number.
     Drill(u64),
     /// Shows help.
@@ -138,6 +141,7 @@ fn command_alone<'w>(alloc: Global, action: Option<Action>) -> Option<Command<'w
         Some(action) => Some(Command {
             action,
             folder: "",
+            into: "",
             names: Vec::new(alloc),
             budget: BUDGET,
         }),
@@ -155,11 +159,35 @@ fn command_on<'w>(alloc: Global, action: Action, folder: Option<&'w str>) -> Opt
         Some(folder) => Some(Command {
             action,
             folder,
+            into: "",
             names: Vec::new(alloc),
             budget: BUDGET,
         }),
         None => None,
     }
+}
+
+/// What `pack` is given: two folders that aren't named by the same word.
+fn command_packing<'w>(alloc: Global, matches: &ArgMatches<'w>) -> Option<Command<'w>>
+    ensures { option_map command_asked result
+        ≡ asked_packing (rows_of (found_of matches.now)) }
+{
+    let Some(old) = word_given(matches, "OLD") else {
+        return None;
+    };
+    let Some(new) = word_given(matches, "NEW") else {
+        return None;
+    };
+    if old == new {
+        return None;
+    }
+    Some(Command {
+        action: Action::Pack,
+        folder: old,
+        into: new,
+        names: Vec::new(alloc),
+        budget: BUDGET,
+    })
 }
 
 /// What an action is given: the folder, the files of an argument, and the budget.
@@ -188,6 +216,7 @@ fn command_with<'w>(
     Ok(Some(Command {
         action,
         folder,
+        into: "",
         names,
         budget,
     }))
@@ -241,6 +270,7 @@ fn command_in<'w>(
             "pipe" => command_over(alloc, Action::Pipe, given),
             "serve" => command_serving(alloc, given),
             "replay" => command_over(alloc, Action::Replay, given),
+            "pack" => Ok(command_packing(alloc, given)),
             "drill" => Ok(command_alone(alloc, drill_in(given))),
             _ => Ok(None),
         },
@@ -259,6 +289,7 @@ fn topic_named(word: &str) -> Topic
         "pipe" => Topic::Pipe,
         "serve" => Topic::Serve,
         "replay" => Topic::Replay,
+        "pack" => Topic::Pack,
         "drill" => Topic::Drill,
         _ => Topic::Program,
     }
