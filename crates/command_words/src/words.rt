@@ -7,6 +7,7 @@ ghost use Rattle.clap.specs.Simple.{subcommand_rows_of};
 ghost use Rattle.clap.specs.Walk.{first_of, rows_of};
 ghost use Rattle.command_words.specs.Help.{topic_named, topic_of};
 ghost use Rattle.command_words.specs.Numbers.{IsWorkerCount};
+ghost use Rattle.command_words.specs.Packing.{IsNoPacking};
 ghost use Rattle.command_words.specs.Serving.{HasWorkers, port_in, serving_in, workers_in};
 ghost use Rattle.command_words.specs.Words.{command_asked, asked_alone, asked_by, asked_in};
 ghost use Rattle.command_words.specs.Words.{asked_on};
@@ -122,6 +123,7 @@ fn serving_in(matches: &ArgMatches<'_>) -> Option<Serving>
 fn drill_in(matches: &ArgMatches<'_>) -> Option<Action>
     ensures value { result ≡ drill_in (rows_of (found_of matches.now)) }
     ensures range { IfSome result HasWorkers }
+    ensures alone { IfSome result IsNoPacking }
 {
     let Some(word) = word_given(matches, "N") else {
         return None;
@@ -135,6 +137,7 @@ fn drill_in(matches: &ArgMatches<'_>) -> Option<Action>
 /// What an action is given that needs neither a folder nor files.
 fn command_alone<'w>(alloc: Global, action: Option<Action>) -> Option<Command<'w>>
     requires workers { IfSome action HasWorkers }
+    requires alone { IfSome action IsNoPacking }
     ensures { option_map command_asked result ≡ asked_alone action }
 {
     match action {
@@ -152,6 +155,7 @@ fn command_alone<'w>(alloc: Global, action: Option<Action>) -> Option<Command<'w
 /// What an action is given: a folder alone.
 fn command_on<'w>(alloc: Global, action: Action, folder: Option<&'w str>) -> Option<Command<'w>>
     requires workers { HasWorkers action }
+    requires alone { IsNoPacking action }
     ensures { option_map command_asked result
         ≡ asked_on action (option_map (λ f. f.now) folder.entry) }
 {
@@ -199,6 +203,7 @@ fn command_with<'w>(
     matches: &ArgMatches<'w>,
 ) -> Result<Option<Command<'w>>, AllocError>
     requires workers { HasWorkers action }
+    requires alone { IsNoPacking action }
     ensures { IfOk result (λ command. option_map command_asked command
         ≡ asked_with action (Some folder.now) files.now
         (rows_of (found_of matches.now))) }
@@ -229,6 +234,7 @@ fn command_over<'w>(
     matches: &ArgMatches<'w>,
 ) -> Result<Option<Command<'w>>, AllocError>
     requires workers { HasWorkers action }
+    requires alone { IsNoPacking action }
     ensures { IfOk result (λ command. option_map command_asked command
         ≡ asked_with action (folder_in (rows_of (found_of matches.now))) (codes "STORY")
         (rows_of (found_of matches.now))) }
@@ -309,6 +315,7 @@ fn topic_of(words: &[String]) -> Topic
 fn shown_by(topic: Topic, kind: ErrorKind) -> Option<Action>
     ensures value { result ≡ shown_by topic kind }
     ensures range { IfSome result HasWorkers }
+    ensures alone { IfSome result IsNoPacking }
 {
     match kind {
         ErrorKind::DisplayHelp => Some(Action::Help(topic)),
