@@ -6,12 +6,13 @@
 - 64 players at once on a host of four workers, by play.py's own requests, each over links of its own. While they
   play the journal is copied again and again; from each copy, put into a new folder, each game must go on from a
   move that its player had been shown, or from the one that was under way. keeper.py lists them all.
-- keeper.py: a journal is damaged and repaired, which story files it wants is asked, a game is closed over the port,
-  and a folder that is held as a host holds it is refused.
+- keeper.py: a journal is damaged and repaired, which story files it wants is asked, and what its players were shown; a
+  game is closed over the port, and a folder that is held as a host holds it is refused.
 - stories/client.py, the small client, plays over a host that is killed and started again, and loses nothing.
 - play.py on a terminal of 80 by 24 (tmux): a line is edited, a game saved and restored at its prompts, the terminal
   grows and shrinks, the text is looked back at, `quit` says what can be done, and a new game is begun; a host is
-  killed under a line that is half typed; a wrong key, a failed story, and one that waits for nothing are told.
+  killed under a line that is half typed; a wrong key, a failed story, and one that waits for nothing are told; a
+  spectator looks at one of two games while the host is killed and started again, until the game is closed.
 
 Without tmux or python3-prompt-toolkit the last part is left out, and a word says so. It ends with 1 where something
 is otherwise."""
@@ -186,6 +187,12 @@ def keeper(room):
     want("a story that isn't there is named", asked.returncode == 1 and "NONE" in asked.stdout, asked.stdout)
     asked = script("keeper.py", "wants", folder, MILL, COTTAGE)
     want("one that is there, too", asked.returncode == 0 and "cottage.ulx" in asked.stdout, asked.stdout)
+    told = script("keeper.py", "texts", folder, COTTAGE, "--session", "5")
+    want("the text of a game", told.returncode == 0 and told.stdout.count(">look") == MOVES, told.stdout + told.stderr)
+    told = script("keeper.py", "texts", folder, COTTAGE)
+    want("the text of each game", told.stdout.count("==== session") == PLAYERS, told.stderr)
+    told = script("keeper.py", "texts", folder, MILL)
+    want("a story that isn't there", told.stdout.count("its story isn't among") == PLAYERS, told.stderr)
     rows = list(files.rows_of(files.journal_of(folder)))
     damaged = rows[-40].place
     files.write_at(folder / "journal", damaged + 2, b"\x09")
@@ -329,7 +336,7 @@ def played_alone(room):
         terminal.end()
     terminal = Terminal(room, *words)
     try:
-        terminal.wait(r"\n>", "a game that goes on")
+        terminal.wait(r">look\n\nGarden.*You put the leaflet away\.\n\n>", "a game that goes on, below its last moves")
         terminal.move("restore", r"so far: first")
         terminal.type("", "Enter")
         terminal.wait(r">restore\nOk\.", "a file of yesterday")
@@ -406,6 +413,39 @@ def played_on_a_host(room):
         host.kill()
 
 
+def watched_on_a_terminal(room):
+    """A spectator's terminal beside two players, on a host that is killed."""
+    host = Host(room / "watched", COTTAGE).start()
+    word = script("play.py", "--tell", "--key", "anna").stdout.strip()
+    words = (sys.executable, STORIES / "play.py", "--watch", "--connect", f"127.0.0.1:{host.port}", "--session", "5", "--word")
+    anna, ben = host.session(5, "anna"), host.session(6, "ben")
+    for player in anna, ben:
+        player.play_on(0, 1, (80, 24))
+    for move in ("take rosemary", *["wait"] * 9, "inventory"):
+        want(move, anna.give(move), anna.note)
+    terminal = Terminal(room, *words, word)
+    try:
+        terminal.wait(r">wait\n.*>inventory\nYou're carrying:\n  a sprig of rosemary.*you look at session 5, after 11 moves", "eight moves")
+        want("a word", anna.give("drop rosemary"))
+        terminal.wait(r">drop rosemary\nDropped\..*after 12 moves", "a new move")
+        want("another's word", ben.give("examine hens"))
+        terminal.type("take rosemary", "Enter")
+        host.kill()
+        terminal.wait("the host has stopped; it is waited for", "a host that is gone")
+        host.start()
+        want("a word behind a restart", anna.give("examine bench"), anna.note)
+        seen = terminal.wait(r">examine bench\nOak.*after 13 moves", "a move behind the restart")
+        want("a spectator sees one game", "hens" not in seen.partition(">drop")[2], seen)
+        anna.close()
+        terminal.wait(r"session 5: the game was closed.*status 1", "a game that is closed")
+        want("a spectator's keys aren't given", files.games_of(host.folder)[6].inputs == 1)
+        wrong = script("play.py", *words[2:], "0" * 16, stdin=subprocess.DEVNULL)
+        want("another word", wrong.returncode == 1 and "no game of that number with that word" in wrong.stderr, wrong.stderr)
+    finally:
+        terminal.end()
+        host.kill()
+
+
 def words_that_do_not_go_together(room):
     for words in (["--connect", "x:1", COTTAGE], [COTTAGE, "--session", "1"], [COTTAGE, COTTAGE, "--seed", "5"],
                   [COTTAGE, "--unkept", "--new"], [], [room / "no.ulx"], ["--connect", "x:1", "--dir", room]):
@@ -437,6 +477,7 @@ def main():
             played_alone(room)
             told_of_ends(room)
             played_on_a_host(room)
+            watched_on_a_terminal(room)
     except (Otherwise, Refused, OSError, subprocess.TimeoutExpired) as cause:
         print(f"people: {cause}; the folder is {room}")
         return 1

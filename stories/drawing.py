@@ -97,8 +97,9 @@ class View:
         self.seen = 0       # how many lines the player has seen
         self.end = None     # where the lines that are shown end, where these aren't the last ones
 
-    def take(self, window):
-        """Takes what came to a window; what is there already isn't broken into lines again."""
+    def take(self, window, most=None):
+        """Takes what came to a window, up to so many of its runs; what is there already isn't broken into lines
+        again."""
         if self.runs is not window.runs:
             if self.runs is None:
                 for style, text in window.past:
@@ -111,7 +112,7 @@ class View:
             self.floor = len(self.text.lines) - 1
             self.seen = max(self.seen, self.floor)
             self.runs, self.taken, self.past = window.runs, 0, len(window.past)
-        fresh = window.runs[self.taken :]
+        fresh = window.runs[self.taken : most]
         for style, text in fresh:
             self.text.add(style, text)
         self.taken += len(fresh)

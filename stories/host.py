@@ -61,6 +61,7 @@ SAVED_GAME = 1
 WRITE, READ = 1, 2
 GREATEST = 0xFFFFFFFF       # the greatest number of a command
 SHOWS = 8                   # the most shows of a reply to a spectator
+MOST_RECALLED = 1000        # moves of a game that a host is asked to play again for who comes back, which takes a second or so
 SLOW = 3                    # seconds, after which a player is told that the host hasn't answered
 # In the main window's text: what was printed in that turn before it was cleared isn't shown.
 CLEARED = "\f"
@@ -133,7 +134,8 @@ def launched(words):
     try:
         return subprocess.Popen(words, **pipes, start_new_session=True)
     except OSError as cause:
-        raise SystemExit(f"play.py: {words[0]} can't be run ({cause.strerror}). ./begin builds a program to look "
+        name = os.path.basename(sys.argv[0])
+        raise SystemExit(f"{name}: {words[0]} can't be run ({cause.strerror}). ./begin builds a program to look "
                          "around with, README.md says how the proved one is built; --host names another") from None
 
 
@@ -148,12 +150,26 @@ def close(pipe):
 def is_whole(reply):
     """Whether the bytes of a reply come to its end: a refusal has one line, each show ends with a line of its own."""
     head, _, _ = reply.partition(b"\n")
-    shows = 1
-    if head.startswith(b"SEEN ") and len(reply) > len(head):
-        shows = int(head.split()[3]) - int(head.split()[2]) + 1
     if head.startswith(b"NO "):
         return len(reply) > len(head)
-    return reply.endswith(b"\n.\n") and reply.count(b"\n.\n") == shows
+    return reply.endswith(b"\n.\n") and reply.count(b"\n.\n") == shows_in(head.decode())
+
+
+def shows_in(head):
+    """How many shows a reply has that begins with this line."""
+    word, *rest = head.split(" ")
+    return int(rest[2]) - int(rest[1]) + 1 if word == "SEEN" else 1
+
+
+def shows_of(lines):
+    """The shows of a reply to a spectator, each without its first line."""
+    shows, body = [], []
+    for line in lines[1:]:
+        body.append(line)
+        if line == ".":
+            shows.append(body[1:])
+            body = []
+    return shows
 
 
 def reply_of(file):
@@ -163,7 +179,9 @@ def reply_of(file):
         if not data.endswith(b"\n"):
             return None
         lines.append(data.decode().rstrip("\n"))
-        if lines[-1] == "." or len(lines) == 1 and lines[0].startswith(("NO ", "bad ", "not ")):
+        if len(lines) == 1 and lines[0].startswith(("NO ", "bad ", "not ")):
+            return lines
+        if lines[-1] == "." and lines.count(".") == shows_in(lines[0]):
             return lines
     return None
 
@@ -173,6 +191,7 @@ class Window:
         self.kind, self.x, self.y, self.width, self.height = kind, x, y, width, height
         self.runs = []      # of a buffer, since it was cleared: style and text
         self.past = []      # what stood there before
+        self.known = 0      # how many of the runs are of turns that the player has seen before
         self.rows = {}      # of a grid
 
     @property
@@ -201,7 +220,7 @@ class Game:
                 seen[int(rest[0])] = self.window(int(rest[0]), *map(int, rest[1:]))
             elif word == "C":
                 window = seen[int(rest[0])]
-                window.past, window.runs = [*window.past, *window.runs], []
+                window.past, window.runs, window.known = [*window.past, *window.runs], [], 0
                 self.add(int(rest[0]), CLEARED)
             elif word == "T":
                 text = unescaped(rest[2])
@@ -222,7 +241,8 @@ class Game:
     def window(self, number, kind, *place):
         made = Window(kind, *place)
         if number in self.windows:
-            made.runs, made.past = self.windows[number].runs, self.windows[number].past
+            before = self.windows[number]
+            made.runs, made.past, made.known = before.runs, before.past, before.known
         if self.main is None and kind == 3:
             self.main = number
         return made
@@ -364,10 +384,10 @@ class Linked(Game):
                 self.link.end()
                 if self.count is None and again == 9:
                     raise SystemExit(f"play.py: no host answers at {self.link}. Is it started?") from None
-                if self.count is None:
-                    self.say("[no host answers yet; it is waited for]")
-                else:
-                    self.say("[the host has stopped; it is waited for, a minute]")
+                if not again:
+                    self.say("[no host answers yet; it is waited for]" if self.count is None else
+                             "[the host has stopped; it is waited for, a minute]")
+                if self.count is not None:
                     self.note = "[the host had stopped; it is there again, and the game goes on]"
                 time.sleep(0.5 if again else 0)
         else:
@@ -387,8 +407,7 @@ class Session(Linked):
         self.key = key
 
     def play_on(self, story, seed, size):
-        """Shows what the story said last; where the session is free, opens it. Says whether it did so. (A host that
-        tells earlier turns would be asked for them here.)"""
+        """Shows what the story said last; where the session is free, opens it. Says whether it did so."""
         refusal = self.look()
         if refusal == "NO 2":
             self.must(self.ask(f"OPEN {self.number} {self.key} {story} {seed} {size[0]} {size[1]}"))
@@ -398,10 +417,27 @@ class Session(Linked):
         self.names = {usage: list(known) for usage in USAGES}
         return False
 
+    def recall(self):
+        """Shows the last eight moves in place of the last one, to who comes back: what the turns before have left on
+        the screen stands there again. Of a long game, and where the host can't tell them, the last one stands alone."""
+        if not 0 < self.count <= MOST_RECALLED:
+            return
+        first = max(self.count + 1 - SHOWS, 0)
+        lines = self.exchange(f"WATCH {self.number} {word_of(self.key)} {first}")
+        if lines[0] != f"SEEN {self.number} {first} {self.count}":
+            return
+        self.windows, self.main, self.text = {}, None, ""
+        *earlier, last = shows_of(lines)
+        for show in earlier:
+            self.show(show)
+        for window in self.windows.values():
+            window.known = len(window.runs)
+        self.show(last)
+
     def anew(self, story, seed, size):
         """Ends the game and begins another one."""
         self.close()
-        self.windows, self.main, self.count, self.names = {}, None, None, {}
+        self.windows, self.main, self.text, self.count, self.names = {}, None, "", None, {}
         self.must(self.ask(f"OPEN {self.number} {self.key} {story} {seed} {size[0]} {size[1]}"))
 
     def look(self):
@@ -430,6 +466,7 @@ class Session(Linked):
             raise SystemExit("play.py: there is no move to take back")
         self.windows, self.main, self.count = {}, None, None
         self.must(self.look())
+        self.recall()
         self.note = "[the last move is taken back]"
 
     def close(self):
@@ -481,13 +518,7 @@ class Watched(Linked):
                 return self.more()
             return False
         self.must(lines)
-        shows, body = [], []
-        for line in lines[1:]:
-            body.append(line)
-            if line == ".":
-                shows.append(body[1:])
-                body = []
-        for show in shows:
+        for show in shows_of(lines):
             self.show(show)
         self.count = int(lines[0].split()[3])
         return True

@@ -1,5 +1,5 @@
-! The Glk calls and numbers that our stories and the standard library name, each call by its
-! selector. Debian's inform6-library comes without a file of this name.
+! The Glk calls and numbers that stories name, each call by its selector: those that storyhost has. Calls of
+! pictures, sounds, dates and links aren't here. Debian's inform6-library comes without a file of this name.
 System_file;
 
 Constant style_Normal 0;
@@ -14,24 +14,81 @@ Constant style_Input 8;
 Constant style_User1 9;
 Constant style_User2 10;
 
+Constant gestalt_Version 0;
+Constant gestalt_CharInput 1;
+Constant gestalt_LineInput 2;
+Constant gestalt_CharOutput 3;
+Constant gestalt_MouseInput 4;
+Constant gestalt_Timer 5;
+Constant gestalt_Graphics 6;
+Constant gestalt_DrawImage 7;
 Constant gestalt_Sound 8;
+Constant gestalt_Hyperlinks 11;
+Constant gestalt_Unicode 15;
+Constant gestalt_UnicodeNorm 16;
+Constant gestalt_LineInputEcho 17;
+Constant gestalt_LineTerminators 18;
+Constant gestalt_LineTerminatorKey 19;
+Constant gestalt_DateTime 20;
+Constant gestalt_ResourceStream 22;
 
+Constant evtype_None 0;
+Constant evtype_Timer 1;
 Constant evtype_CharInput 2;
 Constant evtype_LineInput 3;
+Constant evtype_MouseInput 4;
 Constant evtype_Arrange 5;
+Constant evtype_Redraw 6;
+Constant evtype_SoundNotify 7;
+Constant evtype_Hyperlink 8;
 
-Constant keycode_Return $FFFFFFFA;
+Constant keycode_Unknown $FFFFFFFF;
+Constant keycode_Left $FFFFFFFE;
+Constant keycode_Right $FFFFFFFD;
 Constant keycode_Up $FFFFFFFC;
 Constant keycode_Down $FFFFFFFB;
+Constant keycode_Return $FFFFFFFA;
+Constant keycode_Delete $FFFFFFF9;
 Constant keycode_Escape $FFFFFFF8;
+Constant keycode_Tab $FFFFFFF7;
+Constant keycode_PageUp $FFFFFFF6;
+Constant keycode_PageDown $FFFFFFF5;
+Constant keycode_Home $FFFFFFF4;
+Constant keycode_End $FFFFFFF3;
+Constant keycode_Func1 $FFFFFFEF;
 
+Constant winmethod_Left 0;
+Constant winmethod_Right 1;
+Constant winmethod_Above 2;
+Constant winmethod_Below 3;
+Constant winmethod_Fixed $10;
+Constant winmethod_Proportional $20;
+Constant winmethod_NoBorder $100;
 Constant winmethod_RightProportional $21;
 Constant winmethod_AboveFixed $12;
 Constant winmethod_BelowFixed $13;
 
+Constant wintype_AllTypes 0;
+Constant wintype_Pair 1;
 Constant wintype_Blank 2;
 Constant wintype_TextBuffer 3;
 Constant wintype_TextGrid 4;
+Constant wintype_Graphics 5;
+
+Constant fileusage_Data 0;
+Constant fileusage_SavedGame 1;
+Constant fileusage_Transcript 2;
+Constant fileusage_InputRecord 3;
+Constant fileusage_TextMode $100;
+
+Constant filemode_Write 1;
+Constant filemode_Read 2;
+Constant filemode_ReadWrite 3;
+Constant filemode_WriteAppend 5;
+
+Constant seekmode_Start 0;
+Constant seekmode_Current 1;
+Constant seekmode_End 2;
 
 [ glk_exit _vararg_count r;
     @glk $0001 _vararg_count r;
@@ -330,5 +387,130 @@ Constant wintype_TextGrid 4;
 
 [ glk_set_terminators_line_event _vararg_count r;
     @glk $0151 _vararg_count r;
+    return r;
+];
+
+[ glk_set_interrupt_handler _vararg_count r;
+    @glk $0002 _vararg_count r;
+    return r;
+];
+
+[ glk_tick _vararg_count r;
+    @glk $0003 _vararg_count r;
+    return r;
+];
+
+[ glk_gestalt_ext _vararg_count r;
+    @glk $0005 _vararg_count r;
+    return r;
+];
+
+[ glk_stream_get_rock _vararg_count r;
+    @glk $0041 _vararg_count r;
+    return r;
+];
+
+[ glk_stream_open_resource _vararg_count r;
+    @glk $0049 _vararg_count r;
+    return r;
+];
+
+[ glk_fileref_create_temp _vararg_count r;
+    @glk $0060 _vararg_count r;
+    return r;
+];
+
+[ glk_fileref_get_rock _vararg_count r;
+    @glk $0065 _vararg_count r;
+    return r;
+];
+
+[ glk_fileref_create_from_fileref _vararg_count r;
+    @glk $0068 _vararg_count r;
+    return r;
+];
+
+[ glk_put_string _vararg_count r;
+    @glk $0082 _vararg_count r;
+    return r;
+];
+
+[ glk_put_string_stream _vararg_count r;
+    @glk $0083 _vararg_count r;
+    return r;
+];
+
+[ glk_set_style_stream _vararg_count r;
+    @glk $0087 _vararg_count r;
+    return r;
+];
+
+[ glk_stylehint_clear _vararg_count r;
+    @glk $00B1 _vararg_count r;
+    return r;
+];
+
+[ glk_style_distinguish _vararg_count r;
+    @glk $00B2 _vararg_count r;
+    return r;
+];
+
+[ glk_style_measure _vararg_count r;
+    @glk $00B3 _vararg_count r;
+    return r;
+];
+
+[ glk_buffer_to_lower_case_uni _vararg_count r;
+    @glk $0120 _vararg_count r;
+    return r;
+];
+
+[ glk_buffer_to_upper_case_uni _vararg_count r;
+    @glk $0121 _vararg_count r;
+    return r;
+];
+
+[ glk_buffer_to_title_case_uni _vararg_count r;
+    @glk $0122 _vararg_count r;
+    return r;
+];
+
+[ glk_put_string_uni _vararg_count r;
+    @glk $0129 _vararg_count r;
+    return r;
+];
+
+[ glk_put_buffer_uni _vararg_count r;
+    @glk $012A _vararg_count r;
+    return r;
+];
+
+[ glk_put_char_stream_uni _vararg_count r;
+    @glk $012B _vararg_count r;
+    return r;
+];
+
+[ glk_put_string_stream_uni _vararg_count r;
+    @glk $012C _vararg_count r;
+    return r;
+];
+
+[ glk_put_buffer_stream_uni _vararg_count r;
+    @glk $012D _vararg_count r;
+    return r;
+];
+
+[ glk_get_char_stream_uni _vararg_count r;
+    @glk $0130 _vararg_count r;
+    return r;
+];
+
+[ glk_get_line_stream_uni _vararg_count r;
+    @glk $0132 _vararg_count r;
+    return r;
+];
+
+[ glk_stream_open_resource_uni _vararg_count r;
+    @glk $013A _vararg_count r;
     return r;
 ];

@@ -5,13 +5,15 @@ usage: keeper.py DIR [STORY ..] [--host PROGRAM]    the sessions: number, key, s
                                                     files also which they are, and whether each game is over
        keeper.py wants DIR FILE ..                  which of some files the folder's journal wants, and in what order
        keeper.py watch DIR                          tells each command that a host keeps there from now on, with the time
+       keeper.py texts DIR STORY .. [--session N]   writes the main window's text of each game that was played there, or
+                                                    of those of a session, with the files in the order of the host's words
        keeper.py close DIR SESSION HOST:PORT        ends a game of a host that runs there, with the key of the journal
        keeper.py repair DIR COPY                    writes a copy of DIR without what is damaged, and says what is lost
        keeper.py back DIR SESSION MOVES COPY        writes a copy of DIR without the last moves of a session's game, as
                                                     where a story has failed, or its player said `quit`
 
-Listing only reads, also while a host runs. To tell whether a game is over the journal is copied, and a host of the
-copy plays it. `repair` and `back` leave DIR as it is, want a COPY that isn't there, and refuse while a host runs on DIR.
+Listing only reads, also while a host runs, and so does `texts`. To tell whether a game is over, or its text, the journal
+is copied, and the program plays the copy. `repair` and `back` leave DIR as it is, want a COPY that isn't there, and refuse while a host runs on DIR.
 All reading is by docs/FORMATS.md ("The journal", "Snapshot files"), with drills/folder.py."""
 
 import argparse
@@ -27,7 +29,8 @@ import sys
 import tempfile
 import time
 
-from host import HOST, Address, Pipe, Refused, Session, files, refused
+from host import CLEARED, HOST, Address, Game, Pipe, Refused, Session, bad_words, files, refused
+from wrapping import wrapped
 
 # A game of the journal: where and how it was opened, its inputs so far, and how many rows its number has.
 Kept = collections.namedtuple("Kept", "place opening inputs rows")
@@ -205,6 +208,45 @@ def wants(given):
     return 1 if missing or twice else 0
 
 
+def games_shown(lines):
+    """Each game of a transcript: its session, its place in the journal, and what came of its shows, or none where its
+    story isn't there."""
+    number = place = game = None
+    show = []
+    for line in lines:
+        word, _, rest = line.partition(" ")
+        if word in ("GAME", "done") and number is not None:
+            yield number, place, game
+        if word == "GAME":
+            number, place, game = *map(int, rest.split(" ")), Game()
+        elif word == "NO":
+            game = None
+        elif word == "SHOW":
+            show = []
+        elif line == ".":
+            game.show(show)
+        else:
+            show.append(line)
+
+
+def texts(given):
+    with tempfile.TemporaryDirectory(prefix="keeper-") as room:
+        (pathlib.Path(room) / "journal").write_bytes(journal_of(given.dir))
+        ran = subprocess.run([given.host, "replay", room, *given.files], capture_output=True, text=True)
+    said = ran.stdout.strip()
+    if ran.returncode == 8:
+        raise Wrong(f"the journal is damaged ({said}). `keeper.py repair` first")
+    if ran.returncode:
+        raise Wrong(bad_words(said, given.files[int(said.split()[1])]) if ran.returncode == 3 else ran.stderr.strip())
+    for number, place, game in games_shown(ran.stdout.splitlines()):
+        if given.session in (None, number):
+            print(f"==== session {number}, the game from place {place} of the journal\n")
+            lines = wrapped(game.text.replace(CLEARED, "\n----\n"), 80).strip("\n").split("\n") if game else [
+                "its story isn't among these files, or not at its place"]
+            print("\n".join(line.rstrip() for line in lines), end="\n\n")
+    return 0
+
+
 def watch(given):
     """A line for each row that is added, with its time: whose it is, and nothing of what was typed."""
     keys, counts, told, changed = {}, {}, None, None
@@ -307,7 +349,7 @@ def reset(folder, session, game):
 def main():
     about, _, rest = __doc__.partition("\n\nusage: ")
     usage, _, more = rest.partition("\n\n")
-    tasks = {"wants": wants, "watch": watch, "close": close, "repair": repair, "back": back}
+    tasks = {"wants": wants, "watch": watch, "texts": texts, "close": close, "repair": repair, "back": back}
     task = sys.argv[1] if len(sys.argv) > 1 and sys.argv[1] in tasks else None
     words = argparse.ArgumentParser(usage=usage, description=about, epilog=more,
                                     formatter_class=argparse.RawDescriptionHelpFormatter)
@@ -322,8 +364,10 @@ def main():
         words.add_argument("moves", type=int)
     if task in ("repair", "back"):
         words.add_argument("copy", type=pathlib.Path)
-    if task in ("wants", None):
+    if task in ("wants", "texts", None):
         words.add_argument("files", nargs="+" if task else "*")
+    if task == "texts":
+        words.add_argument("--session", type=int)
     words.add_argument("--host", default=HOST)
     given = words.parse_args()
     try:

@@ -38,8 +38,10 @@ class Onlooker(Screen):
         if host is None:
             text = self.remark
         else:
-            state = host.end_words() if host.ended or host.is_stuck() else "Control and C leaves"
-            text = f"[you look at session {host.number}, after {host.count} moves. {state}]"
+            ended = host.end_words() if host.ended or host.is_stuck() else ""
+            seen = f"you look at session {host.number}, after {host.count} moves"
+            text = f"[{seen}. {ended or 'Control and C leaves'}]"
+            text = text if ended or len(text) <= canvas.columns else f"[{seen}]"
             text = f"{self.remark}\n{text}" if self.remark else text
         self.draw_words(canvas, canvas.rows - 1, text)
 

@@ -45,7 +45,7 @@ import tempfile
 import time
 
 from host import CLEARED, HOST, Address, Host, Pipe, Refused, Session, Watched, word_of
-from wrapping import wrapped
+from wrapping import shown, wrapped
 
 ALONE = (0, "player")       # the session and key of a game that is kept alone
 PLAIN_SIZE = (80, 24)
@@ -129,7 +129,9 @@ def play_moves(host, moves, is_told):
     left = play(host, moves)
     host.finish()
     if is_told:
-        print(host.text.replace(CLEARED, "\n----\n").strip("\n"))
+        text = host.text.replace(CLEARED, "\n----\n").strip("\n")
+        # A terminal would take a story's control characters as its own.
+        print("".join(code if code == "\n" else shown(code) for code in text) if sys.stdout.isatty() else text)
     if host.ended != "quit":
         waits = f"the story waits for more; {len(left)} moves weren't given" if left else "the story waits for more"
         print(f"play.py: {host.end_words() if host.ended or host.is_stuck() else waits}", file=sys.stderr)
@@ -321,7 +323,9 @@ class Place:
         is_new = session.play_on(story, self.seed(), size)
         if given.new and not is_new:
             session.anew(story, self.seed(), size)
-        elif given.seed is not None and not is_new:
+        elif not is_new:
+            session.recall()
+        if given.seed is not None and not (is_new or given.new):
             session.note = "[this game goes on with its own seed: --seed is for a new one]"
         return session
 

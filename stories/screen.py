@@ -235,8 +235,11 @@ class Screen:
             view, width = self.views.get(number), max(self.places[number][2], 1)
             if view is None or view.text.width != width:
                 fresh = View(width)
+                fresh.take(window, window.known)
+                fresh.seen = fresh.count() - 1 if window.known else fresh.floor
                 fresh.take(window)
-                fresh.seen = fresh.count() - 1 if view else fresh.floor
+                if view:
+                    fresh.seen = fresh.count() - 1
                 if view and view.end is not None and self.mode != "more":   # Who looks back stays about there.
                     fresh.end = view.end * fresh.count() // view.count()
                 self.views[number] = fresh

@@ -136,8 +136,7 @@ class Host:
         return None
 
     async def watch(self, session, word, first):
-        """The one place that asks to see a session, at one link at a time: the host plays the game again for
-        it. A host of before answers NO 1."""
+        """The one place that asks to see a session, at one link at a time: the host plays the game again for it."""
         async with self.watching:
             return await self.ask(f"WATCH {session} {word} {first}")
 

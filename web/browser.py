@@ -11,10 +11,10 @@ from aiohttp import WSMsgType
 
 from archive import IN_USE, SESSIONS, SPENT, Full, new_key, say
 from links import Strange, Unreached
-from remglk import Measure, Refused, Show, key_of, message_of, move_of, number_of, text_in, update_of, windows_of
+from remglk import Measure, Refused, Show, key_of, message_of, move_of, number_of, text_in, update_of, windows_of, with_earlier
 from watched import SHOWS_AT_ONCE, word_of
 
-from host import REFUSALS  # of stories/, which remglk puts on the path
+from host import MOST_RECALLED, REFUSALS  # of stories/, which remglk puts on the path
 
 MOST_WAITING = 8            # messages of a browser that wait for their turn
 BURST = 40                  # messages of a browser that are taken at once
@@ -24,8 +24,9 @@ MOST_UNSEEN = 16            # shows that wait for a spectator's browser
 LATE = {"5", "6", "7"}
 GAME = re.compile(r"([A-Za-z0-9_-]{1,32})/([0-9]|[1-9][0-9])")
 NO_GAME = "there is no such game"
-NO_WATCH = "this host can't be watched: it has no spectators"
 STOPPED = "The host has stopped. It is waited for, and what you gave is sent to it again."
+AWAY = "The host has stopped. It is waited for."
+THERE = "The host is there again; the game goes on."
 BUSY = "The host is busy; what you gave waits for its turn."
 
 
@@ -168,7 +169,7 @@ class Browser:
             later.cancel()
             if telling:
                 telling.cancel()
-                await self.note("The host is there again; the game goes on." if self.told == STOPPED else "", False)
+                await self.note(THERE if self.told == STOPPED else "", False)
 
     async def tell_waits(self, host):
         while True:
@@ -231,8 +232,8 @@ class Browser:
         return not reply.refusal
 
     async def resume(self, wanted, is_new):
-        """Shows what a session's story said last. A display that is new has its size told to the host; one
-        that comes again first has to see whether its last move was kept."""
+        """Shows what a session's story said last. A display that is new is shown the moves before that too, and
+        has its size told to the host; one that comes again first has to see whether its last move was kept."""
         place, key = self.place_of(wanted), key_of(wanted)
         if place is None:
             await asyncio.sleep(WRONG_KEY_SECONDS)
@@ -243,9 +244,21 @@ class Browser:
             raise Refused(NO_GAME)
         if reply.refusal:
             return await self.send(refused(reply))
+        if is_new:
+            await self.recall(session, key, reply)
         await self.seat(self.host, session, key, reply)
         if is_new:
             await self.tell_size(self.gen)
+
+    async def recall(self, session, key, reply):
+        """Puts what the moves before have left in its buffers before a last show, where the game isn't long."""
+        n, _ = reply.show
+        if n > MOST_RECALLED:
+            return
+        seen = await self.wait_for(self.host.watch(session, word_of(key), max(n + 1 - SHOWS_AT_ONCE, 0)), self.host)
+        shows = [lines for number, lines in seen.shows if number <= n]
+        if shows and not seen.refusal:
+            reply.shows = [(n, with_earlier([*shows[:-1], reply.show[1]]))]
 
     async def last_of(self, host, session, key):
         """What a session says last, to who has its key. Who hasn't is answered late."""
@@ -343,15 +356,19 @@ class Browser:
             self.unseen.put_nowait(seen)
 
     async def look_on(self):
-        watched = self.watched
-        getting = None
+        watched, getting, is_there = self.watched, None, True
         try:
             while True:
-                getting = asyncio.ensure_future(self.unseen.get())
-                done, _ = await asyncio.wait({getting, watched.task}, return_when=asyncio.FIRST_COMPLETED)
-                if getting not in done:
+                getting = getting or asyncio.ensure_future(self.unseen.get())
+                done, _ = await asyncio.wait({getting, watched.task}, timeout=NOTE_SECONDS, return_when=asyncio.FIRST_COMPLETED)
+                if is_there != self.host.links.is_there:
+                    is_there = not is_there
+                    await self.note(THERE if is_there else AWAY, not is_there)
+                if getting in done:
+                    await self.look(getting.result())
+                    getting = None
+                elif watched.task in done:
                     return await self.look_away(watched.task)
-                await self.look(getting.result())
         finally:
             if getting:
                 getting.cancel()
@@ -375,5 +392,4 @@ class Browser:
             return await self.leave("what the host answers isn't understood")
         if refusal == "2":
             await asyncio.sleep(WRONG_KEY_SECONDS)
-        cause = {"1": NO_WATCH, "2": NO_GAME}
-        await self.leave(cause.get(refusal, REFUSALS.get(refusal, f"the host answers NO {refusal}")))
+        await self.leave(NO_GAME if refusal == "2" else REFUSALS.get(refusal, f"the host answers NO {refusal}"))

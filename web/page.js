@@ -191,6 +191,11 @@ function update(message) {
   tries = 0;
   const first = isFirst;
   isFirst = isArranging = false;
+  if (first && game.watch) {
+    // The last shows come again, of this game or of another one.
+    gen = 0;
+    clearWindows();
+  }
   if (message.gen > gen) {
     if (gen && message.gen > gen + 1) aside("[The game went on elsewhere. What was said in between isn't shown.]");
     const given = pending;

@@ -190,6 +190,21 @@ class Show:
                 max(window.y + window.height for window in self.windows))  # fmt: skip
 
 
+def with_earlier(shows):
+    """The lines of the last of these shows, with what the others have left in its buffers."""
+    *_, last = shows
+    there, left = {line.split(" ")[1] for line in last if line.startswith("W ")}, {}
+    for line in (line for lines in shows for line in lines):
+        word, _, rest = line.partition(" ")
+        number = rest.partition(" ")[0]
+        if word == "C":
+            left[number] = [line]
+        elif word == "T":
+            left.setdefault(number, []).append(line)
+    kept = [line for number, lines in left.items() if number in there for line in lines]
+    return [line for line in last if not line.startswith(("C ", "T "))] + kept
+
+
 def spans(pieces):
     return {"content": [{"style": style, "text": text} for style, text in pieces]} if pieces else {}
 

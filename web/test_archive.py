@@ -13,6 +13,7 @@ haproxy."""
 
 import argparse
 import asyncio
+import contextlib
 import pathlib
 import shutil
 import subprocess
@@ -235,10 +236,11 @@ async def strange_host(name, said):
     """Begins a host that answers so; its part of a file of hosts."""
 
     async def answer(reader, writer):
-        await reader.readline()
-        writer.write(said)
-        if name != "halfLine":
-            await reader.read(-1)
+        with contextlib.suppress(ConnectionError):
+            await reader.readline()
+            writer.write(said)
+            if name != "halfLine":
+                await reader.read(-1)
         writer.close()
 
     server = await asyncio.start_server(answer, "127.0.0.1", 0)

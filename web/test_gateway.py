@@ -6,9 +6,9 @@
 So many players, 64 unless told otherwise, play The Well House by script over four links, by the moves of
 stories/cottage.moves or the first N of them: every update must be what `run` shows. Then bad messages, each
 behind and before a look at the game, which must be as it was; browsers that vanish or read nothing; pages of
-elsewhere. Screen sizes and spectators are tried on a host of this script's own, since the program answers
-`NO 1` to their lines: and that is tried too. It ends with 1 where something is otherwise. Wants Debian's
-python3-aiohttp."""
+elsewhere; spectators, and displays that come back. Screen sizes are tried on a host of this script's own, since the
+program answers `NO 1` to their lines: and that is tried too. It ends with 1 where something is otherwise. Wants
+Debian's python3-aiohttp."""
 
 import argparse
 import asyncio
@@ -152,21 +152,41 @@ async def bad(client, gateway, program):
         await other.close()
         count += 1
 
-    await flood(client, gateway, session, update)
-    await vanish(client, gateway, session, update, window)
-    await deaf(client, gateway, session, update)
+    updates = [first, update]
+    await flood(client, gateway, session, updates)
+    await vanish(client, gateway, session, updates, window)
+    await deaf(client, gateway, session, updates)
     return count + 5
 
 
-async def want_game(client, gateway, session, what, update):
+def text_of(*updates):
+    """What each buffer was given in these updates, one behind the other."""
+    text = {}
+    for update in updates:
+        for part in update["content"]:
+            if "text" in part:
+                words = "\n".join("".join(span["text"] for span in line.get("content", [])) for line in part["text"])
+                text[part["id"]] = ("" if part.get("clear") else text.get(part["id"], "")) + words
+    return text
+
+
+def want_back(what, got, *updates):
+    """What a new display of a game is given: the last of these updates, and in buffers the text of all."""
+    grids, *wanted = ([part for part in one["content"] if "lines" in part] for one in (got, updates[-1]))
+    want(f"{what}: its grids", [grids], wanted)
+    want(f"{what}: its text", text_of(got), text_of(*updates))
+    want(what, {**got, "content": None}, {**updates[-1], "content": None})
+
+
+async def want_game(client, gateway, session, what, updates):
     player = await connected(client, gateway)
-    want(f"the game behind {what}", await player.init(resume=session), update)
+    want_back(f"the game behind {what}", await player.init(resume=session), *updates)
     return player
 
 
-async def flood(client, gateway, session, update):
+async def flood(client, gateway, session, updates):
     """10,000 messages at once."""
-    player = await want_game(client, gateway, session, "bad messages", update)
+    player = await want_game(client, gateway, session, "bad messages", updates)
     sent = 0
     while sent < 10000 and not player.socket._writer.transport.is_closing():
         with contextlib.suppress(ConnectionError):
@@ -180,22 +200,23 @@ async def flood(client, gateway, session, update):
         raise Otherwise("one of 10,000 messages of a wrong number was taken")
 
 
-async def vanish(client, gateway, session, update, window):
+async def vanish(client, gateway, session, updates, window):
     """A browser that is gone in the middle: its move was kept once, or not."""
-    player = await want_game(client, gateway, session, "10,000 messages", update)
-    await player.send({"type": "line", "gen": update["gen"], "window": window, "value": "examine bench"})
+    player, gen = await want_game(client, gateway, session, "10,000 messages", updates), updates[-1]["gen"]
+    move = {"type": "line", "gen": gen, "window": window, "value": "examine bench"}
+    await player.send(move)
     player.socket._writer.transport.abort()
     player = await connected(client, gateway)
     now = await player.init(resume=session)
-    if now["gen"] == update["gen"]:
-        now = await player.give({"type": "line", "gen": update["gen"], "window": window, "value": "examine bench"})
-    want("the number behind a browser that vanished", now["gen"], update["gen"] + 1)
-    update.clear()
-    update.update(now)
+    if now["gen"] == gen:
+        now = await player.give(move)
+    want("the number behind a browser that vanished", now["gen"], gen + 1)
+    await player.send({"type": "refresh"})
+    updates.append(await player.read("update"))
     await player.close()
 
 
-async def deaf(client, gateway, session, update):
+async def deaf(client, gateway, session, updates):
     """A browser that asks on and on and reads nothing holds nobody up."""
     link = socket.socket()
     link.setsockopt(socket.SOL_SOCKET, socket.SO_RCVBUF, 4096)
@@ -215,7 +236,7 @@ async def deaf(client, gateway, session, update):
         if not writer.transport.is_closing():
             writer.write(framed({"type": "refresh", "filled": "x" * 200}) * 4)
         await asyncio.sleep(0.01)
-    player = await asyncio.wait_for(want_game(client, gateway, session, "a browser that reads nothing", update), 10)
+    player = await asyncio.wait_for(want_game(client, gateway, session, "a browser that reads nothing", updates), 10)
     await player.close()
     writer.transport.abort()
 
@@ -263,7 +284,7 @@ async def pages(client, gateway):
         await one.close()
 
 
-# Sizes and spectators, on a host that knows them
+# Sizes and spectators, on a host that knows both
 
 class StandIn:
     """A host of one story, which prints what it was given and its size. It knows the lines SIZE and WATCH."""
@@ -400,7 +421,7 @@ async def spectators(client):
 
 
 async def known(client, gateway):
-    """What this host knows of SIZE and WATCH. Where it answers NO 1 the screen stays, and a spectator is told."""
+    """A display of another size, one that comes back and a spectator. Where the host doesn't know SIZE the screen stays."""
     player = await connected(client, gateway)
     updates = [await player.begin(KEY + "s")]
     small = {"width": 40, "height": 12, "charwidth": 1, "charheight": 1}
@@ -412,16 +433,16 @@ async def known(client, gateway):
     for text in ("look", "inventory"):
         line = {"type": "line", "gen": updates[-1]["gen"], "window": updates[0]["input"][0]["id"], "value": text}
         updates.append(await player.give(line))
+    other = await connected(client, gateway)
+    back = await other.init(resume={"game": player.game, "key": KEY + "s"})
+    want("the number of a display that is new", back["gen"], updates[-1]["gen"])
+    want("the text of a display that is new", text_of(back), text_of(*updates))
     spectator = await connected(client, gateway)
     await spectator.send({"type": "init", "gen": 0, "metrics": small, "watch": {"game": player.game, "word": player.word}})
-    told = await spectator.read("update", "error")
-    if told["type"] == "error":
-        want("a spectator of it", told["message"], "this host can't be watched: it has no spectators")
-    else:
-        seen = [told] + [await spectator.read("update") for _ in updates[1:]]
-        for got, wanted in zip(seen, updates):
-            want("what a spectator sees", (got["gen"], got["content"]), (wanted["gen"], wanted["content"]))
-    return f"this host knows {'SIZE' if now['gen'] == 2 else 'no SIZE'} and {'WATCH' if told['type'] == 'update' else 'no WATCH'}"
+    for wanted in updates:
+        got = await spectator.read("update")
+        want("what a spectator sees", (got["gen"], got["content"]), (wanted["gen"], wanted["content"]))
+    return f"a spectator saw the same; this host {'knows' if now['gen'] == 2 else 'does not know'} SIZE"
 
 
 async def run(asked, room):

@@ -6,8 +6,8 @@
 Begins the game from the menu and gives the moves of stories/cottage.moves by the keyboard, menu windows among
 them, and between them a saved game that is restored. On the way the display's size changes, the host is killed
 with a move under way and started again, so is the gateway, the page is loaded anew and comes back from its menu,
-and a second browser watches. What the program doesn't know, other sizes of the screen and spectators, is tried on
-the stand-in of test_gateway.py. The Workbench is played too. Behind each move every window of the page must have the text of `run`. Then the
+and meanwhile a second browser watches. What the program doesn't know, other sizes of the screen, is tried on the
+stand-in of test_gateway.py. The Workbench is played too. Behind each move every window of the page must have the text of `run`. Then the
 game is ended, and the story's text may not have become markup. With --pictures it leaves pictures of three sizes.
 Wants Debian's chromium, chromium-driver, python3-selenium and python3-aiohttp. It ends with 1 where something
 is otherwise."""
@@ -38,6 +38,7 @@ NAMES = {"{Return}": Keys.RETURN, "{Space}": Keys.SPACE, "{Up}": Keys.UP, "{Down
 WORKBENCH = TOP / "stories" / "workbench.ulx"
 BARS = 84       # pixels of the page's bars
 LARGE, MIDDLE, PHONE = (1100, 740), (820, 1000), (390, 760)
+LOOKED_ON = (15, 18, 20, 22, 24, 34, 38)    # the moves behind which a second browser has to show what was played
 # What happens before a move of the story, by its place.
 SAVED = ["save", "first", "drop rosemary", "restore", "first", "inventory"]
 MARKUP = "<b>hens</b><img src=x onerror=alert(1)>"
@@ -200,12 +201,12 @@ def links_of(page):
 
 
 def watch(address, page):
-    """A second browser looks on, by the link alone. A host of before can't be watched, and the page says so."""
+    """A second browser looks on, by the link alone."""
     _, link = links_of(page)
     second = Page(address, MIDDLE, dark=True)
     try:
         second.submit("link", text=link)
-        second.wait("the spectator is answered", lambda: second.gen() > 0 or "can't be watched" in second.note())
+        second.wait("the spectator is answered", lambda: second.gen() > 0)
     except BaseException:
         second.driver.quit()
         raise
@@ -213,14 +214,14 @@ def watch(address, page):
 
 
 def see(second, game):
-    """Whether the spectator sees the last move."""
-    if second.gen() == 0:
-        return "was told that this host can't be watched"
+    """Whether the spectator sees the last move, and in each window what `run` shows."""
     gen = game.page.gen()
     second.wait("the spectator sees the last move", lambda: second.gen() == gen)
     if second.driver.find_elements(By.CSS_SELECTOR, "#windows input"):
         raise Otherwise("a spectator is asked for a move")
-    return "saw each move that was looked for"
+    seen = Game(second, game.run)
+    seen.whole = False
+    seen.look("what a spectator sees")
 
 
 def by_keyboard(page, title):
@@ -238,26 +239,32 @@ def see_menu(page):
 
 
 def by_link(page, game):
-    """The game by its link alone, in a browser that keeps nothing of it. The address doesn't show the key."""
+    """The game by its link alone, in a browser that keeps nothing of it: its last eight moves are there. The address
+    doesn't show the key."""
     link, _ = links_of(page)
     page.driver.execute_script("localStorage.clear()")
     page.driver.get("about:blank")
     page.driver.get(link)
     page.wait("the page came back by the link", page.is_ready)
     game.look("coming back by the link")
+    texts = [window["text"] for window in page.windows() if window["type"] == "buffer"]
+    if texts[0].count("\n>") != 8:
+        raise Otherwise(f"who comes back doesn't see eight moves: {texts[0]!r}")
     if "#" in page.driver.current_url:
         raise Otherwise(f"the address is {page.driver.current_url}")
 
 
 def play(address, host, gateway, story, program, pictures):
-    page = Page(address, LARGE)
+    pages = [Page(address, LARGE)]
     try:
-        return play_in(page, address, host, gateway, story, program, pictures)
+        return play_in(pages, address, host, gateway, story, program, pictures)
     finally:
-        page.driver.quit()
+        for page in pages:
+            page.driver.quit()
 
 
-def play_in(page, address, host, gateway, story, program, pictures):
+def play_in(pages, address, host, gateway, story, program, pictures):
+    page = pages[0]
     see_menu(page)
     page.picture(pictures, "menu")
     run = Run(str(story), str(program))
@@ -266,13 +273,15 @@ def play_in(page, address, host, gateway, story, program, pictures):
     game = Game(page, run)
     game.look("begin")
     key = links_of(page)[0].rpartition("/")[2]
-    second, seen, moves = None, "", read_moves(TOP / "stories" / "cottage.moves")
+    moves = read_moves(TOP / "stories" / "cottage.moves")
 
     def stop_host():
-        """The host is killed with the move under way, or just behind it."""
+        """The host is killed with the move under way, or just behind it. The spectator is told, too."""
         host.kill()
         time.sleep(1.5)
+        pages[1].wait("the spectator is told that the host is gone", lambda: "has stopped" in pages[1].note())
         host.start()
+        pages[1].wait("the spectator is told that the host is there", lambda: "there again" in pages[1].note())
 
     for at, move in enumerate(moves):
         meanwhile = None
@@ -285,7 +294,7 @@ def play_in(page, address, host, gateway, story, program, pictures):
             game.look("a smaller size")
         if at == 14:
             page.picture(pictures, "phone")
-            second = watch(address, page)
+            pages.append(watch(address, page))
         if at == 16:
             game.give(MARKUP)
             if page.driver.find_elements(By.CSS_SELECTOR, "#windows img, #windows b"):
@@ -317,11 +326,9 @@ def play_in(page, address, host, gateway, story, program, pictures):
         game.give(move, meanwhile)
         if page.gen() != before + 1:
             raise Otherwise(f"{move!r} took more than one move of the session")
-        if at == 18:
-            seen = see(second, game)
-            if second.gen():
-                second.picture(pictures, "watch")
-            second.driver.quit()
+        if at in LOOKED_ON:
+            see(pages[1], game)
+            pages[1].picture(pictures, f"watch-{at}")
         if move == "help":
             look_at_places(page, LARGE)
             page.picture(pictures, "help")
@@ -336,7 +343,7 @@ def play_in(page, address, host, gateway, story, program, pictures):
     complaints = page.complaints()
     if complaints:
         raise Otherwise(f"the browser says: {complaints}")
-    return moves_taken, seen, key
+    return moves_taken, key
 
 
 def play_workbench(address, program):
@@ -413,7 +420,7 @@ def main():
         try:
             known = known_by_stand_in()
             others = play_workbench(gateway.address, asked.program.resolve())
-            moves, seen, key = play(gateway.address, host, gateway, COTTAGE, asked.program.resolve(), asked.pictures)
+            moves, key = play(gateway.address, host, gateway, COTTAGE, asked.program.resolve(), asked.pictures)
         except (Otherwise, WebDriverException) as cause:
             print(f"test_page: {cause}")
             return 1
@@ -423,7 +430,8 @@ def main():
     if key in said:
         print("test_page: the gateway's log has a key")
         return 1
-    print(f"test_page: {moves} moves to The Well House's end and {others} to The Workbench's, as by `run`; a spectator {seen}; {known}")
+    print(f"test_page: {moves} moves to The Well House's end and {others} to The Workbench's, as by `run`, "
+          f"and a spectator saw the same through stops of host and gateway; {known}")  # fmt: skip
     return 0
 
 

@@ -1,5 +1,5 @@
 -- A file that agrees with the first of a journal's rows agrees with all of them.
-use Rattle.std.proofs.Common.{◌≡◌, ℕ, ◌<◌, ◌==◌, ◌&&◌, Bool, true, false, cond, List, [], ◌∷◌, ◌++◌}
+use Rattle.std.proofs.Common.{ℕ, ◌<◌, ◌==◌, ◌&&◌, Bool, true, false, cond, List, [], ◌∷◌, ◌++◌}
 use Rattle.std.proofs.Common.{length, refl, sym, subst, append_assoc}
 use Rattle.std.specs.List.{Contains}
 use Rattle.std.proofs.lemmas.List.{append-nil}
@@ -10,7 +10,7 @@ use Rattle.gate_journal.specs.declared.row.Row.{Row}
 use Rattle.story_run.specs.declared.story.Story.{Story}
 use Rattle.session_core.specs.History.{game_of}
 use Rattle.snap_store.specs.File.{Stored}
-use Rattle.session_saves.specs.Agreement.{Agrees, IsAgreedFile, opens_of}
+use Rattle.session_saves.specs.Agreement.{Agrees, opens_of}
 use Rattle.session_desk.specs.Laws.{BeginningsStayAgreed}
 use Rattle.session_desk.proofs.FileLemmas.{first_rows}
 use Rattle.session_desk.proofs.JournalLemmas.{commands_of-append}

@@ -1,6 +1,6 @@
 -- The history in a journal's entries, with what a turn adds to it.
 use Rattle.std.proofs.Common.{◌≡◌, ℕ, ◌+◌, ◌==◌, Bool, true, false, cond, List, [], ◌∷◌, ◌++◌}
-use Rattle.std.proofs.Common.{Option, Some, None, refl, ap, ◌∙◌, arith}
+use Rattle.std.proofs.Common.{Some, refl, ap, ◌∙◌, arith}
 use Rattle.std.proofs.lemmas.Bool.Decides.{nat_tests}
 use Rattle.std.proofs.lemmas.List.{append-nil}
 use Rattle.gate_journal.specs.Log.{next_row, rows_of}
@@ -15,7 +15,7 @@ use Rattle.session_core.specs.declared.entry.Entry.TheVariants as entries
 use Rattle.session_core.specs.declared.entry.Outcome.{Outcome}
 use Rattle.session_core.specs.declared.entry.Outcome.TheVariants.{Answered, DiskFailed, OutOfMemory}
 use Rattle.session_core.specs.declared.entry.Outcome.TheVariants.{Forgotten}
-use Rattle.session_core.specs.Turning.{commands_in, MayMeet, turn_met}
+use Rattle.session_core.specs.Turning.{commands_in, turn_met}
 use Rattle.session_desk.specs.Turn.{entries_added, history_in}
 
 -- ---- entries behind entries
@@ -54,20 +54,15 @@ one_fault : (es : List JournalEntry) (rows : List Row) (s : ℕ) (c : Command) (
 one_fault es rows s c from to =
     history_in-append es (Faulted (next_row rows s c) from to ∷ []) s ∙ rw (same (s + 1)) refl
 
--- the session's history takes what its turn adds
-pub history_in-added : (es : List JournalEntry) (rows : List Row) (s : ℕ) (reply : Reply)
-    (accepted : Option Command) (outcome : Outcome)
-    → MayMeet accepted outcome
-    → history_in (es ++ entries_added rows s accepted outcome) s
-    ≡ (turn_met (history_in es s) 0 reply accepted outcome).history
-history_in-added es rows s reply None Answered may = no_more es s
-history_in-added es rows s reply None (DiskFailed from to) may = absurd may
-history_in-added es rows s reply None OutOfMemory may = no_more es s
-history_in-added es rows s reply None Forgotten may = absurd may
-history_in-added es rows s reply (Some c) Answered may = one_row es rows s c
-history_in-added es rows s reply (Some c) (DiskFailed from to) may = one_fault es rows s c from to
-history_in-added es rows s reply (Some c) OutOfMemory may = no_more es s
-history_in-added es rows s reply (Some c) Forgotten may = one_row es rows s c
+-- the session's history takes what a turn of its command adds
+pub history_in-taken : (es : List JournalEntry) (rows : List Row) (s : ℕ) (reply : Reply)
+    (c : Command) (outcome : Outcome)
+    → history_in (es ++ entries_added rows s (Some c) outcome) s
+    ≡ (turn_met (history_in es s) 0 reply (Some c) outcome).history
+history_in-taken es rows s reply c Answered = one_row es rows s c
+history_in-taken es rows s reply c (DiskFailed from to) = one_fault es rows s c from to
+history_in-taken es rows s reply c OutOfMemory = no_more es s
+history_in-taken es rows s reply c Forgotten = one_row es rows s c
 
 -- ---- commands
 

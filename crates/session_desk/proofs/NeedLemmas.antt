@@ -1,6 +1,6 @@
 -- Where an answer needs the world, it is by the world.
-use Rattle.std.proofs.Common.{◌≡◌, ◌⊎◌, inl, inr, refl, ℕ, Bool, true, false, ◌&&◌, List, [], ◌∷◌}
-use Rattle.std.proofs.Common.{◌++◌, Option, Some, None, is_none, ◌∙◌}
+use Rattle.std.proofs.Common.{◌≡◌, ◌⊎◌, inl, inr, refl, Bool, true, false, List, [], ◌∷◌}
+use Rattle.std.proofs.Common.{Option, Some, None, is_none}
 use Rattle.std.proofs.lemmas.Bool.{and_parts}
 use Rattle.gate_journal.specs.declared.command.Command.{Command}
 use Rattle.line_words.specs.declared.request.Request.{Request}

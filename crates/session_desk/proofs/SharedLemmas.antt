@@ -44,7 +44,7 @@ use Rattle.snap_store.specs.Store.{Snapshots}
 use Rattle.session_saves.specs.Saves.{SavesState}
 use Rattle.session_desk.proofs.MarkLemmas.{commands_in-woven, count-all, count-by, woven-all}
 use Rattle.session_desk.proofs.MarkLemmas.{woven-by}
-use Rattle.session_desk.proofs.HistoryLemmas.{commands_in-history, history_in-added}
+use Rattle.session_desk.proofs.HistoryLemmas.{commands_in-history, history_in-taken}
 use Rattle.session_desk.proofs.HistoryLemmas.{history_in-append}
 
 -- the state of a desk with these fields
@@ -152,7 +152,7 @@ pub history_in-behind : (s : ℕ) (log seen new : List JournalEntry) (c : Comman
     → history_in new s ≡ history_met (history_in seen s) 0 (Some c) outcome
 history_in-behind s log seen new c outcome journal on is =
     ap (λ (es : List JournalEntry). history_in es s) is
-    ∙ history_in-added log (rows_of log) s (replies.No no.NoMemory) (Some c) outcome tt
+    ∙ history_in-taken log (rows_of log) s (replies.No no.NoMemory) c outcome
     ∙ ap (λ (h : List Entry). history_met h 0 (Some c) outcome)
     (history_in-since s log seen journal on)
 
@@ -349,9 +349,10 @@ why_unplaced (Err why) P p = p
 pub has_risen : {D : Type 0} (faults : D → ℕ) (session : ℕ) (command : Command) (old new : Log D)
     (done : Result ℕ Refused)
     → IfErr done (λ why. RefusalLeaves faults session command old new why) → IfErr done HasRisen
-has_risen faults session command old new (Ok place) leaves = tt
-has_risen faults session command old new (Err (DiskFault fault)) leaves = leaves.0.rose
-has_risen faults session command old new (Err NoMemory) leaves = tt
+has_risen faults session command old new (Ok place) left = tt
+has_risen faults session command old new (Err (DiskFault fault)) left =
+    rw (left.0.at_start, left.0.at_end) left.0.rose
+has_risen faults session command old new (Err NoMemory) left = tt
 
 pub met_unplaced : (done : Result ℕ Refused) → met_by done ≡ met_by (unplaced done)
 met_unplaced (Ok place) = refl

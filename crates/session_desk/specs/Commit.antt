@@ -1,5 +1,5 @@
 -- A command that a desk commits to a journal (own).
-use Rattle.std.specs.Prelude.{◌≡◌, ◌⊎◌, ℕ, ◌+◌, Bool, IsTrue, List, [], ◌∷◌, ◌++◌}
+use Rattle.std.specs.Prelude.{◌≡◌, ◌⊎◌, ℕ, Bool, IsTrue, List, [], ◌∷◌, ◌++◌}
 use Rattle.std.specs.Prelude.{length, Result, Ok, Err, Some, None}
 use Rattle.disk_model.specs.Disk.{LeavesOnly}
 use Rattle.gate_journal.specs.Command.{IsCommand}

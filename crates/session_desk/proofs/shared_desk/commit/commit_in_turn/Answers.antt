@@ -1,4 +1,4 @@
-use Rattle.std.proofs.Common.{◌∙◌, ap, sym, Some, rules}
+use Rattle.std.proofs.Common.{◌∙◌, Some, rules}
 use Rattle.turn_cell.specs.Passes.{seen, view}
 use Rattle.session_desk.specs.Shared.{met_by}
 use Rattle.session_desk.proofs.AlikeLemmas.{accepts}
