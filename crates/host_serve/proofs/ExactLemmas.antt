@@ -79,6 +79,6 @@ module _ (stories : List Story) (budget : ℕ) (holders : List Holder) (new : Li
         f.0,
         f.1,
         reply ∙ f.2,
-        stands_there (Faulted (holder_at holders t.mark.session).number f.0 f.1) adds f.3.0,
-        f.3.1,
+        stands_there (Faulted (holder_at holders t.mark.session).number f.0 f.1) adds f.3,
+        f.4,
       ))

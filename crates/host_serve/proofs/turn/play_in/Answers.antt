@@ -1,5 +1,4 @@
-use Rattle.std.proofs.Common.{ap, sym, subst, ◌∙◌, Some, inl, inr, ⊎_elim, ◌++◌, List, [], ◌∷◌, rules}
-use Rattle.session_core.specs.declared.entry.Entry.{Entry}
+use Rattle.std.proofs.Common.{ap, sym, subst, ◌∙◌, inl, inr, ⊎_elim, rules}
 use Rattle.session_desk.specs.Shared.{DeskTag}
 use Rattle.session_desk.specs.Sound.{IsSoundDesk}
 use Rattle.host_serve.proofs.ListLemmas.{same_some}

@@ -1,4 +1,4 @@
-use Rattle.std.proofs.Common.{refl, inl, inr, rules}
+use Rattle.std.proofs.Common.{refl, rules}
 use Rattle.host_serve.specs.Serves.{own_world}
 use Rattle.host_serve.proofs.TurnLemmas.{watches_in}
 use Rattle.host_serve.proofs.turn.watch_in.Goals as goal
