@@ -185,7 +185,7 @@ pub tasked_cause : {D : Type 0} (disks : DiskWords D) (action : Action)
 tasked_cause disks action (Ok stories) budget disk folder into bytes written status w =
     does_cause disks action stories budget disk folder into bytes written _ status w
 tasked_cause disks action (Err refusal) budget disk folder into bytes written status w =
-    refused_cause _ bytes written _ _ status tt w
+    refused_cause _ bytes written _ _ status refl w
 
 -- with what the counts say
 cause_of : {D : Type 0} (disks : DiskWords D) (asked : Asked) (files : List (List ℕ))

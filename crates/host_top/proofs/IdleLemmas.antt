@@ -1,6 +1,7 @@
 -- Where no history has an entry more, the journal has no row more.
 use Rattle.std.proofs.Common.{◌≡◌, ◌<◌, ◌+◌, ◌==◌, ℕ, List, [], ◌∷◌, ◌++◌, length, map, sym, ap, ◌∙◌}
 use Rattle.std.proofs.Common.{arith, cond, Bool, true, false, refl, subst}
+use Rattle.std.proofs.lemmas.Bool.Decides.{nat_tests}
 use Rattle.std.proofs.lemmas.List.{length-append, length-map}
 use Rattle.disk_model.specs.declared.disk.Disk.{Ghosts as DiskWords}
 use Rattle.gate_journal.specs.Log.{rows_kept, rows_of}
@@ -17,7 +18,7 @@ use Rattle.session_core.specs.declared.entry.Entry.{Entry}
 use Rattle.session_core.specs.declared.entry.Entry.TheVariants as entries
 use Rattle.session_desk.specs.Shared.{unnumbered}
 use Rattle.session_desk.specs.Turn.{history_in}
-use Rattle.session_desk.proofs.HistoryLemmas.{history_in-append, same}
+use Rattle.session_desk.proofs.HistoryLemmas.{history_in-append}
 use Rattle.story_run.specs.declared.story.Story.{Story}
 use Rattle.host_top.specs.DoorServed.{AddsNoEntry}
 use Rattle.host_top.specs.Rejoining.{AreAllHeld, SeeNoMore}
@@ -41,13 +42,14 @@ no_rows : (front : List Row) (added : List JournalEntry) → EachNext front (row
 no_rows front [] each none = refl
 no_rows front (Kept r ∷ added) each none =
     let h = history_in added r.session in
+    let own : (r.session == r.session) ≡ true = grind (arith, nat_tests) in
     let there : length (cond true (entries.Accepted 0 r.command ∷ h) h) ≡ 0 =
     subst (λ (b : Bool). length (cond b (entries.Accepted 0 r.command ∷ h) h) ≡ 0)
-    (same r.session) (none r.session each.0.stands.below) in
+    own (none r.session each.0.stands.below) in
     absurd (omega arith)
-no_rows front (Faulted by from to ∷ added) each none =
+no_rows front (Faulted r from to ∷ added) each none =
     no_rows front added each
-    (λ s low. fewer (by == s + 1) (entries.Faulted 0 from to) (history_in added s) (none s low))
+    (λ s low. fewer (r.by == s + 1) (entries.Faulted 0 from to) (history_in added s) (none s low))
 
 -- a journal that has of each session what the rows give has no row more
 no_more_rows : (journal added : List JournalEntry) (rows : List Row) (finals : List (List Entry))

@@ -1,6 +1,6 @@
 -- What each command writes where it ends with 0, from what is told.
 use Rattle.std.proofs.Common.{◌≡◌, ℕ, List, [], ◌∷◌, map, take, refl, subst, sym, ap, ◌∙◌, arith}
-use Rattle.std.proofs.Common.{Some, None, IsTrue, IfSome, Option, Result, Ok, cc}
+use Rattle.std.proofs.Common.{Some, None, IsTrue, IfSome, Option, Result, Ok}
 use Rattle.command_words.specs.Words.{Asked}
 use Rattle.command_words.specs.declared.words.Action.{Action}
 use Rattle.command_words.specs.declared.words.Action.TheVariants.{Run, Check, Pipe, Init, Help}

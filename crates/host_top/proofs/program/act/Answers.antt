@@ -48,6 +48,11 @@ returns-in-Serve-clause-value g c =
     rw (c.in-Serve.is, c.in-Ok-stories_of.ensures.ok, ← c.deref-in-Serve.ensures.value)
     (both (c.serve.ensures.value (g.S.Source.source c.args.input.now)) c.serve.ensures.doors)
 
+pub returns-in-Replay-clause-value : goal.returns-in-Replay-clause-value
+returns-in-Replay-clause-value g c =
+    rw (c.in-Replay.is, c.in-Ok-stories_of.ensures.ok, ← c.deref-in-Replay.ensures.value)
+    (both (c.replay.ensures.value (g.S.Source.source c.args.input.now)) c.replay.ensures.doors)
+
 pub returns-in-Drill-clause-value : goal.returns-in-Drill-clause-value
 returns-in-Drill-clause-value g c =
     let said =

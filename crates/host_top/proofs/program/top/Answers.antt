@@ -19,7 +19,7 @@ returns-in-Err-clause-told g c =
 
 pub returns-in-Err-clause-writes : goal.returns-in-Err-clause-writes
 returns-in-Err-clause-writes g c =
-    writes_no_memory _ (asked_by (map string_bytes c.args.words.now)) c.code-in-Err.result
+    writes_no_memory g.O.Disk.Disk (asked_by (map string_bytes c.args.words.now)) c.code-in-Err.result
     (g.O.Outside.outside c.args.outside.now) (g.O.Outside.outside c.args.outside.now)
     (g.S.Source.source c.args.input.now) (g.S.Source.source c.args.input.now)
     (g.K.Sink.sink c.args.output.now) (g.K.Sink.sink c.args.output.now)
@@ -27,7 +27,7 @@ returns-in-Err-clause-writes g c =
 
 pub returns-in-Err-clause-causes : goal.returns-in-Err-clause-causes
 returns-in-Err-clause-causes g c =
-    cause_no_memory _ (asked_by (map string_bytes c.args.words.now)) c.code-in-Err.result
+    cause_no_memory g.O.Disk.Disk (asked_by (map string_bytes c.args.words.now)) c.code-in-Err.result
     (g.O.Outside.outside c.args.outside.now) (g.O.Outside.outside c.args.outside.now)
     (g.S.Source.source c.args.input.now) (g.S.Source.source c.args.input.now)
     (g.K.Sink.sink c.args.output.now) (g.K.Sink.sink c.args.output.now)
