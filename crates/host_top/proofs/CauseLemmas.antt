@@ -1,5 +1,5 @@
 -- The status of a disk that failed.
-use Rattle.std.proofs.Common.{◌≡◌, ◌∙◌, ℕ, zero, suc, Bool, inl, inr, List, [], ◌∷◌, length}
+use Rattle.std.proofs.Common.{◌≡◌, ◌⊎◌, ◌∙◌, ℕ, zero, suc, Bool, inl, inr, List, [], ◌∷◌, length}
 use Rattle.std.proofs.Common.{slice_get, refl, sym, subst, arith, Some, Result, Ok, Err}
 use Rattle.gate_journal.specs.Faults.{HasCause, HasInitCause}
 use Rattle.gate_journal.specs.declared.fault.InitFault.{InitFault}
