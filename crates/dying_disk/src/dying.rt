@@ -4,9 +4,9 @@ ghost use Rattle.std.specs.Prelude.{◌≡◌, max, false};
 
 use disk_model::{Disk, Failed};
 
-/// A disk that makes so many calls of another one. From then on each call fails and leaves all as it
-/// was, but for the count of faults and the reach. Where its last call was a write, a stop leaves of
-/// that write's range what it leaves of the other disk's: it may be torn.
+/// A disk that makes so many calls of another one. From then on each call fails and leaves all as
+/// it was, but for the count of faults and the reach. Where its last call was a write, a stop leaves
+/// of that write's range what it leaves of the other disk's: it may be torn.
 #[derive(Drop)]
 pub struct Dying<D: Disk> {
     disk: D,

@@ -18,7 +18,7 @@ use Rattle.host_top.specs.declared.status.Status.TheVariants.{DiskFault, BadFold
 use Rattle.line_talk.specs.Causes.{Rose}
 use Rattle.line_talk.specs.Lines.{ReachesLimit}
 
--- the journal's bytes spell no rows, or stop to at some place
+-- the journal's bytes have no journal's header, or are corrupt at some place
 abbrev pub IsRefusedJournal : {D : Type 0} → DiskWords D → Told D → Type 0
 IsRefusedJournal disks journal = (line : List ℕ) × RefusesJournal disks journal line
 
@@ -35,8 +35,8 @@ HasBadJournal disks (Drill number) journal = ⊥
 HasBadJournal disks (Help topic) journal = ⊥
 HasBadJournal disks Version journal = ⊥
 
--- The cause of each status, by the files and the input. Want of memory (7) needs none, and 2 comes
--- where nothing was asked for.
+-- The cause of each status, by the files and the input. Done (0) and want of memory (7) need none
+-- here, and 2 comes where nothing was asked for.
 abbrev pub CauseOf : {D : Type 0} → DiskWords D → Asked → List (List ℕ) → List ℕ → Scene D
     → Scene D → Status → Type 0
 CauseOf disks asked files bytes old new Done = Unit {0}
