@@ -89,7 +89,7 @@ def longest(text):
     opening = (b"\1k\0\0" + hashlib.sha256(echo_story()).digest() + (7).to_bytes(8, "big") + bytes([80, 24])
                + (50_000_000).to_bytes(8, "big"))
     line = (1).to_bytes(4, "big") + bytes(4) + text
-    journal = bytearray(bytes.fromhex("5354484A00000001") + bytes(8))
+    journal = bytearray(bytes.fromhex("5354484A0000000101") + bytes(7))
     for row in range(8192):
         kind, payload = (2, line) if row else (1, opening)
         for session in range(64):

@@ -3,16 +3,17 @@
 
     drills/crash.py [ROUNDS] [--serve] [--seed N] [--sessions N] [--moves N] [--story FILE] [--starts]
 
-A round: `init` makes a folder; `pipe` serves it; each session plays a game, closes it and plays another
-one, the requests are sent one after the other to sessions in turn, and the host is killed (signal 9) at
-moments drawn from the seed, up to three times on the way (a kill that comes late may pass the next one's
-place); about half of the kills are aimed at an input behind which a snapshot is put. After each start `LAST`
-must show the last request whose reply had been read, or the one that was under way; then that one is sent
-again. Behind each fifth request a spectator asks for the session's last shows, which must be those that its player
-got. With `--serve` it is `serve` with four workers, and each session's player, eight unless told
-otherwise, has a connection and a thread of its own; all of them are at work when the host is killed. At the
-end the host is started once more, and each session's shows must be those that `run` writes for the same
-moves, each applied once.
+A round: `init` makes a folder, whose journal is marked as one of before in every other round or so; `pipe`
+serves it; each session plays a game of lines and, among them, sizes of its screen, closes it and plays
+another one, the requests are sent one after the other to sessions in turn, and the host is killed (signal
+9) at moments drawn from the seed, up to three times on the way (a kill that comes late may pass the next
+one's place); about half of the kills are aimed at an input behind which a snapshot is put. After each start
+`LAST` must show the last request whose reply had been read, or the one that was under way; then that one is
+sent again. Behind each fifth request a spectator asks for the session's last shows, which must be those
+that its player got. With `--serve` it is `serve` with four workers, and each session's player, eight unless
+told otherwise, has a connection and a thread of its own; all of them are at work when the host is killed.
+At the end the host is started once more, and each session's shows must be those that `run` writes for the
+same moves, each applied once.
 
 Before each start it reads the folder by a reader of its own: which areas of the snapshot files are open, how
 many inputs each session has behind the newest one of its game, which must be 16 at most, and how many puts
@@ -163,8 +164,8 @@ class Server:
 
 
 class Session:
-    """What a player of one session knows. A step is a request, and the number of the show that LAST
-    has behind it, if any."""
+    """What a player of one session knows. Moves are lines of `run`. A step is a request, and the number of the show
+    that LAST has behind it, if any."""
 
     def __init__(self, number, games):
         self.number, self.games = number, games
@@ -172,7 +173,8 @@ class Session:
         for moves in games:
             self.steps.append((f"OPEN {number} k{number} 0 1 80 24", 0))
             for n, move in enumerate(moves, 1):
-                self.steps.append((f"LINE {number} k{number} {n} 1 ={move}", n))
+                word, _, rest = move.partition(" ")
+                self.steps.append((f"{word} {number} k{number} {n} {rest}", n))
             self.steps.append((f"CLOSE {number} k{number} {len(moves) + 1}", None))
         self.steps.pop()
         self.shows = []
@@ -298,7 +300,7 @@ def is_one_more(session, reply):
 
 def alone(story, moves):
     """The shows of `run` on these moves."""
-    lines = "".join(f"LINE 1 ={move}\n" for move in moves)
+    lines = "".join(f"{move}\n" for move in moves)
     ran = subprocess.run([PROGRAM, "run", story], input=lines.encode(), capture_output=True, timeout=60)
     shows, show = [], ""
     for line in ran.stdout.decode().splitlines(keepends=True):
@@ -311,6 +313,12 @@ def alone(story, moves):
 def begin(folder):
     if subprocess.run([PROGRAM, "init", folder], capture_output=True).stdout != b"ready\n":
         raise Lost("init didn't write `ready`")
+
+
+def age(draw, folder):
+    """Makes the journal one of before now and then, which a host marks as it opens it."""
+    if draw.random() < 1 / 2:
+        files.write_at(pathlib.Path(folder) / "journal", 8, bytes([draw.choice((0, 0, 2, 255))]))
 
 
 def draw_kills(draw, turns, kills):
@@ -334,6 +342,7 @@ def play(draw, folder, story, sessions, kills, starts):
     requests were kept though their reply wasn't read."""
     killed = met = 0
     begin(folder)
+    age(draw, folder)
     starts.begin_round(folder)
     turns = [(session, step) for step in range(len(sessions[0].steps)) for session in sessions]
     stops = draw_kills(draw, turns, kills)
@@ -415,6 +424,7 @@ def play_session(server, session, kept, lost):
 def play_links(draw, folder, story, sessions, kills, starts):
     """The same over `serve`, with all sessions at work at once."""
     begin(folder)
+    age(draw, folder)
     starts.begin_round(folder)
     server, kept, lost, killed = Server(folder, story), [], [], 0
     players = [
@@ -450,8 +460,14 @@ def play_links(draw, folder, story, sessions, kills, starts):
     return killed, len(kept)
 
 
-def draw_moves(draw, count):
+def draw_words(draw, count):
     return ["".join(draw.choices("abcdefgh", k=draw.randint(1, 19))) for _ in range(count)]
+
+
+def draw_moves(draw, count):
+    """Lines for window 1 and, one in six or so, sizes of the screen."""
+    return [f"SIZE {draw.randint(1, 255)} {draw.randint(1, 255)}" if draw.random() < 1 / 6 else f"LINE 1 ={word}"
+            for word in draw_words(draw, count)]
 
 
 def main():
@@ -479,6 +495,8 @@ def main():
             played = play_links if asked.serve else play
             kills, kept = played(draw, str(room / "d"), str(story), sessions, 3, starts)
             killed, met = killed + kills, met + kept
+            if not files.is_second(files.journal_of(room / "d")):
+                raise Lost("the journal isn't marked as of version 2")
             for session in sessions:
                 if session.shows != session.wanted(str(story)):
                     raise Lost(f"session {session.number}: its shows aren't those of its moves played alone")

@@ -105,8 +105,8 @@ class Disk:
 
 # The journal: rows of one OPEN and one LINE are enough here.
 
-HEADER = bytes.fromhex("5354484A00000001") + bytes(8)
-GATE = 76
+HEADER = bytes.fromhex("5354484A0000000101") + bytes(7)
+GATE, VERSION = 76, 8
 
 
 def row_of(command):
@@ -140,6 +140,9 @@ class Journal:
         self.rows, self.gate = rows_in(disk.seen)
         if disk.seen.byte(self.gate) != 0:
             disk.write(self.gate, b"\0")
+            disk.sync()
+        if disk.seen.byte(VERSION) != 1:
+            disk.write(VERSION, b"\1")
             disk.sync()
 
     def append(self, command):
@@ -201,13 +204,17 @@ def host(disk, lines):
 OPEN, GO, NO = "OPEN 0 k1 0 7 80 24", "LINE 0 k1 1 1 =go", "LINE 0 k1 1 1 =no"
 OTHER, LAST, OTHER_LAST = "OPEN 1 k2 0 7 80 24", "LAST 0 k1", "LAST 1 k2"
 
-# what a journal has rows of, whether its second gate is torn, and the lines that are answered
+# what a journal has rows of, whether its second gate is torn, whether it is of version 1, and the lines that
+# are answered
 JOURNALS = {
-    "open": ([OPEN, GO], False, [LAST]),
-    "close": ([OPEN, GO], True, [LAST]),
-    "append": ([OPEN], False, [GO]),
-    "append-two": ([OPEN], False, [GO, OTHER]),
-    "append-three": ([OPEN], False, [GO, OTHER, OTHER]),
+    "open": ([OPEN, GO], False, False, [LAST]),
+    "close": ([OPEN, GO], True, False, [LAST]),
+    "append": ([OPEN], False, False, [GO]),
+    "append-two": ([OPEN], False, False, [GO, OTHER]),
+    "append-three": ([OPEN], False, False, [GO, OTHER, OTHER]),
+    "migrate": ([OPEN, GO], False, True, [LAST]),
+    "close-migrate": ([OPEN, GO], True, True, [LAST]),
+    "migrate-append": ([OPEN], False, True, [GO]),
 }
 
 
@@ -219,7 +226,7 @@ def held_of(image):
 
 def journal_case(work, fails, choice):
     """What comes of a case, and how many commands each session then has."""
-    before, torn, lines = JOURNALS[work]
+    before, torn, older, lines = JOURNALS[work]
     made = Disk(Bytes())
     made.write(0, HEADER + b"\0")
     made.sync()
@@ -227,9 +234,13 @@ def journal_case(work, fails, choice):
     if torn:
         made.write(GATE, b"\7")
         made.sync()
+    if older:
+        made.write(VERSION, b"\0")
+        made.sync()
     disk = Disk(made.seen, fails)
     told = [host(disk, lines)]
     image = held_of(Image(disk, choice))
+    told.append(f"version byte {image.byte(VERSION)}")
     for after in ([LAST, OTHER_LAST], [GO], [NO]):
         other = Disk(image)
         told.append(f"{host(other, after)}, {other.seen.length} bytes")
@@ -348,7 +359,8 @@ def store_case(work, fails, choice):
 
 # The ways in which a case ends over all choices: for a journal how many commands the two sessions then have,
 # for a snapshot file its newest areas. An opening makes the calls 0 to 2, and an append the next four; where
-# a gate is uncertain two more before them, and so does an opening that finds a torn gate. The opening of a
+# a gate is uncertain two more before them, and so does an opening that finds a torn gate; one that finds a
+# journal of version 1 makes two more behind these. The opening of a
 # snapshot file makes the calls 0 to 4, a put six, or seven where the area's gate isn't known to be 0.
 BEFORE, BOTH = (1, 0), (2, 0)
 REPAIRED = (1, 1)
@@ -365,6 +377,21 @@ ENDS = {
     ("close", (2,)): {BEFORE},
     ("close", (3,)): {BEFORE},
     ("close", (4,)): {BEFORE},
+    ("migrate", ()): {BOTH},
+    ("migrate", (0,)): {BOTH},
+    ("migrate", (3,)): {BOTH},
+    ("migrate", (4,)): {BOTH},
+    ("close-migrate", ()): {BEFORE},
+    ("close-migrate", (3,)): {BEFORE},
+    ("close-migrate", (4,)): {BEFORE},
+    ("close-migrate", (5,)): {BEFORE},
+    ("close-migrate", (6,)): {BEFORE},
+    ("migrate-append", ()): {BOTH},
+    ("migrate-append", (4,)): {BEFORE},
+    ("migrate-append", (5,)): {BEFORE},
+    ("migrate-append", (6,)): {BEFORE},
+    ("migrate-append", (7,)): {BEFORE, BOTH},
+    ("migrate-append", (8,)): {BEFORE, BOTH},
     ("append", ()): {BOTH},
     ("append", (3,)): {BEFORE},
     ("append", (4,)): {BEFORE},

@@ -249,6 +249,7 @@ def other_folders(room, story):
         for words in commands(name, story)[1:]:
             ran = run(*words, cwd=room)
             want(f"{words[0]} of a name that isn't there", (ran.returncode, ran.stdout), (8, "bad journal\n"))
+            want("and its words", f"{name}/journal: it isn't there" in ran.stderr, True)
     (room / "closed").chmod(0o755)
     want("what stands there", seen(room), before)
     return user is not None
@@ -483,6 +484,7 @@ def logged_files(room, story):
         usual = resource.prlimit(pid, resource.RLIMIT_FSIZE)
         resource.prlimit(pid, resource.RLIMIT_FSIZE, ((room / "small" / "journal").stat().st_size, usual[1]))
         want("a move on a full disk", link.ask("LINE 0 k 1 1 =one")[:5], "NO 11")
+        want("a size on a full disk", link.ask("SIZE 0 k 1 40 10")[:5], "NO 11")
         # A snapshot has more bytes than the journal comes to.
         resource.prlimit(pid, resource.RLIMIT_FSIZE, (4000, usual[1]))
         for n in range(1, 18):
@@ -490,7 +492,7 @@ def logged_files(room, story):
         link.close()
         told = events(host)
     journal, snap = (room / "small" / name for name in ("journal", "snap00"))
-    want("the log", told[1:], [f"{file}: a write failed: File too large (os error 27)" for file in (journal, snap)])
+    want("the log", told[1:], [f"{file}: a write failed: File too large (os error 27)" for file in (journal, journal, snap)])
 
 
 MISUSED = [

@@ -7,12 +7,13 @@ import struct
 
 SESSIONS = 64
 MOST_ROWS = 8_192
-OPEN, LINE, CHAR, FILE, CLOSE = 1, 2, 3, 4, 5
+OPEN, LINE, CHAR, FILE, CLOSE, SIZE = 1, 2, 3, 4, 5, 6
 # keys of a CHAR, and those that may end a line (with 0 for none): Func1 to Func12, Unknown to End
 FUNCTIONS = range(0xFFFFFFE4, 0xFFFFFFF0)
 KEYCODES = {*FUNCTIONS, *range(0xFFFFFFF3, 0x100000000)}
 ENDS = {0, 0xFFFFFFF8, *FUNCTIONS}
-JOURNAL_HEADER = bytes.fromhex("5354484A00000001") + bytes(8)
+JOURNAL_FRONT = bytes.fromhex("5354484A00000001")
+JOURNAL_HEADER = JOURNAL_FRONT + b"\x01" + bytes(7)      # of version 2; byte 8 is anything else in version 1
 SNAPSHOT_HEADER = bytes.fromhex("5354485300000001")
 MADE = 4096
 STARTS = (4096, 8_392_720)
@@ -49,7 +50,12 @@ def opening_of(payload):
     return Opening(payload[1 : 1 + size].decode("ascii"), *fields)
 
 
-def fault_of(kind, payload):
+def is_second(journal):
+    """Whether a journal is of version 2, in which a session's screen may change."""
+    return journal[8] == 1
+
+
+def fault_of(kind, payload, takes_sizes):
     """What is wrong with a row by itself, or nothing."""
     try:
         if kind == OPEN:
@@ -71,6 +77,8 @@ def fault_of(kind, payload):
             return "" if known else "a CHAR that is neither a character nor a key"
         if kind == CLOSE:
             return "a CLOSE with a payload" if payload else ""
+        if kind == SIZE and takes_sizes:
+            return "" if len(payload) == 2 and all(payload) else "a size that is no screen's"
         return f"a row of kind {kind}"
     except (ValueError, struct.error) as cause:
         return str(cause)
@@ -78,7 +86,7 @@ def fault_of(kind, payload):
 
 def rows_of(journal):
     """The rows of a journal's bytes, one after the other; `Damaged` where the next one isn't whole."""
-    if not journal.startswith(JOURNAL_HEADER):
+    if journal[:8] != JOURNAL_FRONT or journal[9:16] != bytes(7):
         raise Damaged(None, "it doesn't begin as a journal does" if journal else "it is empty")
     counts, used, at = collections.Counter(), set(), len(JOURNAL_HEADER)
     while True:
@@ -91,7 +99,7 @@ def rows_of(journal):
         session, kind, length = struct.unpack_from(">BBH", journal, at + 1)
         payload = journal[at + 5 : at + 5 + length]
         counts[session] += 1
-        why = "its last row is cut" if len(payload) < length else fault_of(kind, payload)
+        why = "its last row is cut" if len(payload) < length else fault_of(kind, payload, is_second(journal))
         if not why and session >= SESSIONS:
             why = f"a session of number {session}"
         elif not why and (kind == OPEN) == (session in used):
@@ -136,7 +144,8 @@ def games_of(folder):
 
 
 def without_last(journal, session, moves):
-    """The journal's bytes without the last moves of a session's game; none where it hasn't so many."""
+    """The journal's bytes without the last moves of a session's game, sizes of its screen among them; none where it
+    hasn't so many."""
     rows = list(rows_of(journal))
     inputs = []
     for at, row in enumerate(rows):
@@ -146,7 +155,7 @@ def without_last(journal, session, moves):
         return None
     gone = set(inputs[-moves:])
     kept = [journal[row.place : row.place + 5 + len(row.payload)] for at, row in enumerate(rows) if at not in gone]
-    return JOURNAL_HEADER + b"".join(kept) + b"\0"
+    return journal[: len(JOURNAL_HEADER)] + b"".join(kept) + b"\0"
 
 
 def snapshot_file(folder, session):

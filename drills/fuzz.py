@@ -136,11 +136,13 @@ class Fuzz:
         self.echo, self.saver, self.caller = story("echo"), story("restores_a_changed_save"), story("calls_glk")
         self.tables = calls_of_rows()
         self.container = bytes.fromhex(FRONT) + story("hi")
-        self.pieces = [b"OPEN", b"LINE", b"CHAR", b"FILE", b"LAST", b"CLOSE", b"0", b"1", b"2", b"63", b"64", b"k", b"=go",
+        self.pieces = [b"OPEN", b"LINE", b"CHAR", b"FILE", b"SIZE", b"LAST", b"CLOSE", b"0", b"1", b"2", b"63", b"64", b"k", b"=go",
                        b"=%41", b"=%zz", b"=", b"65", b"4294967295", b"4294967296", b"80", b"24", b"", b"\xff", b"-1", b"01"]
-        self.played = self.folder_of([b"OPEN 0 k 0 7 80 24", *(b"LINE 0 k %d 1 =go%d" % (n, n) for n in range(1, 34))])
+        self.played = self.folder_of([b"OPEN 0 k 0 7 80 24", b"SIZE 0 k 1 40 10",
+                                      *(b"LINE 0 k %d 1 =go%d" % (n, n) for n in range(2, 34))])
         self.kept = self.folder_of([b"OPEN 0 k 0 7 80 24", b"LINE 0 k 1 1 =a", b"OPEN 5 key 0 1 20 9", b"LINE 5 key 1 1 =bb",
-                                    b"CLOSE 0 k 2", b"OPEN 0 q 0 2 80 24", b"LINE 0 q 1 1 =c", b"OPEN 63 z 0 9 255 255"])
+                                    b"CLOSE 0 k 2", b"OPEN 0 q 0 2 80 24", b"LINE 0 q 1 1 =c", b"SIZE 0 q 2 255 1",
+                                    b"OPEN 63 z 0 9 255 255", b"SIZE 63 z 1 1 1"])
 
     def ran(self, words, given=b"", statuses=(0,)):
         """The status and the output of a run."""
@@ -186,12 +188,14 @@ class Fuzz:
         """Inputs as `run` takes them."""
         window = draw.choice((1, 1, 1, 2, 3))
         for _ in range(draw.choice((3, 20, 40))):
-            way = draw.randrange(20)
+            way = draw.randrange(22)
             text = draw.choice((b"go", b"look", b"n", b"save", b"restore", b"undo", b"dice", b"%C3%A9", b"", b"x" * 30))
             if way == 0:
                 yield b"CHAR %d %d" % (window, draw.choice((65, 10, 0x1F600, 0xFFFFFFFE)))
             elif way == 1:
                 yield b"FILE =" + draw.choice((b"", b"first", b"a%2Fb"))
+            elif way < 4:
+                yield b"SIZE %d %d" % (draw.choice((1, 2, 40, 80, 255)), draw.choice((1, 2, 10, 24, 255)))
             else:
                 yield b"LINE %d =%s" % (window, text)
 
@@ -301,6 +305,7 @@ class Fuzz:
         lines = []
         for count in range(draw.randint(2, 30)):
             line = draw.choice((b"OPEN 0 k 0 7 80 24", b"LAST 0 k", b"LINE 0 k %d 1 =go" % draw.randint(1, 5), b"CLOSE 0 k 3",
+                                b"SIZE 0 k %d 40 %d" % (draw.randint(1, 5), draw.choice((0, 1, 10, 255, 256))),
                                 b" ".join(draw.choice(self.pieces) for _ in range(draw.randint(0, 8))), b"x" * draw.choice((2047, 2048, 9000))))
             lines.append(Damage(draw).some(line).replace(b"\n", b"\t") if draw.randrange(3) == 0 else line)
         (self.place / "s.ulx").write_bytes(self.echo)

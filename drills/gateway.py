@@ -4,7 +4,7 @@
     drills/gateway.py [KILLS] [--seed N] [--players N] [--program PROGRAM]
 
 Eight players by script play games of the Echo story over WebSocket through a gateway of four links: each begins
-a game, gives moves, ends the game and begins another. KILLS times, 40 unless told otherwise, the host (signal 9)
+a game, gives moves, sizes of its display among them, ends the game and begins another. KILLS times, 40 unless told otherwise, the host (signal 9)
 or, in a third of the cases, the gateway is killed at a moment drawn from the seed, and started again. A player
 whose connection went comes back as the page does: by the game's name and key, with the number that it has; where its
 last move isn't kept it is sent again as it was. Each update must be the one that `run` shows for the same moves,
@@ -45,20 +45,27 @@ class Player:
         """One game; what it was shown is in `finished`."""
         updates, lines = [await self.opened(key)], []
         self.wanted = {"resume": {"game": self.display.game, "key": key}}
-        for move in crash.draw_moves(self.draw, self.draw.randint(5, MOST_MOVES)):
-            event = players.event_of(updates[-1], move)
+        for word in crash.draw_words(self.draw, self.draw.randint(5, MOST_MOVES)):
+            event = self.event(updates[-1], word)
             lines.append(players.line_of(event))
             updates.append(await self.answered(event))
             self.drill.answers += 1
         await self.ended(updates[-1]["gen"])
         self.finished = updates, lines
 
+    def event(self, update, word):
+        """A line or, one in six or so, another size of the display."""
+        size = self.draw.randint(1, 255), self.draw.randint(1, 255)
+        if self.draw.random() > 1 / 6 or size == (self.display.metrics["width"], self.display.metrics["height"]):
+            return players.event_of(update, word)
+        return players.arrange_of(update["gen"], *size)
+
     async def connect(self):
         """A connection, however long that takes: the gateway may be gone."""
-        gen, game = (self.display.gen, self.display.game) if self.display else (0, None)
+        before = self.display or players.Player(None, "")
         while True:
             self.display = players.Player(self.drill.client, self.drill.address)
-            self.display.gen, self.display.game = gen, game
+            self.display.gen, self.display.game, self.display.metrics = before.gen, before.game, before.metrics
             try:
                 return await self.display.connect()
             except GONE:
@@ -68,7 +75,7 @@ class Player:
         """The first update of a game. Asked for again, the same game is found."""
         if not self.display or self.display.socket.closed:
             await self.connect()
-        self.display.gen, self.display.game = 0, None
+        self.display.gen, self.display.game, self.display.metrics = 0, None, players.UNIT
         while True:
             try:
                 return await self.display.begin(key, 1 + self.number)

@@ -7,8 +7,8 @@ and looks whether each reply is one that want of memory may give.
 A run is `pipe` over a folder of its own with a journal and a snapshot file. The program is run with the C library's
 calls for memory replaced by some that count, of which the one of that number answers nothing; the kit's clang makes
 them. The lines are an OPEN, a LINE and a LAST of the Echo story; with `--long` the 20 inputs of
-rows/an_ordinary_session.row (two windows, a save, undo, a restore, a snapshot) and a CLOSE, each line followed by a LAST
-and then given again. What each show has to be stands in the rows; which line is answered how by the rules of
+rows/an_ordinary_session.row (two windows, a save, undo, a restore, a snapshot), two sizes of the screen and a CLOSE, each
+line followed by a LAST and then given again. What each show has to be stands in the rows; which line is answered how by the rules of
 docs/FORMATS.md. A run ends with 0 or 7. With 0 each line has one reply: the usual one for a history that some of the
 lines before may be missing from, or `NO 12`; behind that the line's command may be accepted or not, and what is said
 later has to fit one of the two. With 7 an end of the replies is missing. Then a host without such a refusal opens the
@@ -208,9 +208,18 @@ def echo_script():
     return Script("k1", commands, shows, [*commands.values(), "LAST 0 k1"])
 
 
+def asked_again(n, columns, rows):
+    """The show of Two Rooms behind a size of its screen: it takes that for a line of nothing."""
+    status = ("Cellar".ljust(20) + "3").ljust(columns).replace(" ", "%20")
+    return (f"SHOW 0 {n}\nW 1 3 0 1 {columns} {rows - 1}\nW 2 4 0 0 {columns} 1\nT 1 0 =What?%0A>\nG 2 0 ={status}\n"
+            "I 1 line 20 =\n.\n")
+
+
 def long_script():
     commands, shows = lines_and_shows("an_ordinary_session")
-    commands[21], shows[21] = "CLOSE 0 k 21", "SHOW 0 21\nE closed\n.\n"
+    for n, columns, rows in (21, 30, 6), (22, 24, 5):
+        commands[n], shows[n] = f"SIZE 0 k {n} {columns} {rows}", asked_again(n, columns, rows)
+    commands[23], shows[23] = "CLOSE 0 k 23", "SHOW 0 23\nE closed\n.\n"
     return Script("k", commands, shows, [line for command in commands.values() for line in (command, "LAST 0 k", command)])
 
 

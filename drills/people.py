@@ -8,11 +8,15 @@
   move that its player had been shown, or from the one that was under way. keeper.py lists them all.
 - keeper.py: a journal is damaged and repaired, which story files it wants is asked, and what its players were shown; a
   game is closed over the port, and a folder that is held as a host holds it is refused.
+- Sizes of the screen whose answers are lost, by play.py's own requests: each is kept once, or not at all, and no line is
+  given to a game that went on elsewhere meanwhile.
 - stories/client.py, the small client, plays over a host that is killed and started again, and loses nothing.
 - play.py on a terminal of 80 by 24 (tmux): a line is edited, a game saved and restored at its prompts, the terminal
-  grows and shrinks, the text is looked back at, `quit` says what can be done, and a new game is begun; a host is
-  killed under a line that is half typed; a wrong key, a failed story, and one that waits for nothing are told; a
-  spectator looks at one of two games while the host is killed and started again, until the game is closed.
+  grows and shrinks, under a line that is half typed and at a prompt too, and its story is told the last size of many
+  that follow each other; a page that is read stays; the text is looked back at, `quit` says what can be done, and a new game is begun; a host is
+  killed under a line that is half typed, and before a size of the terminal; a wrong key, a failed story, and one that
+  waits for nothing are told; a spectator looks at one of two games while the host is killed and started again, and the
+  player's screen gets another size, until the game is closed.
 
 Without tmux or python3-prompt-toolkit the last part is left out, and a word says so. It ends with 1 where something
 is otherwise."""
@@ -38,7 +42,7 @@ STORIES = TOP / "stories"
 sys.path.append(str(STORIES))
 
 import folder as files  # noqa: E402
-from host import Address, Pipe, Refused, Session  # noqa: E402
+from host import Address, Pipe, Refused, Session, Stopped  # noqa: E402
 
 COTTAGE, MILL = STORIES / "cottage.ulx", STORIES / "mill.ulx"
 PLAYERS, MOVES, WORKERS = 64, 8, 4
@@ -219,6 +223,44 @@ def keeper(room):
     want("and it goes on", host.stdout.startswith(f"SHOW {number} {moves[number] - 2}\n"), host.stdout[:80])
 
 
+# Sizes whose answers are lost.
+
+class Lossy(Pipe):
+    """A host that is gone at a size, before that is read or behind it."""
+    is_lost_behind = None
+
+    def exchange(self, line, say):
+        behind, self.is_lost_behind = self.is_lost_behind, None
+        if behind is None or not line.startswith("SIZE"):
+            return super().exchange(line, say)
+        if behind:
+            super().exchange(line, say)
+        raise Stopped()
+
+
+def lost_sizes(room):
+    for behind in False, True:
+        link = Lossy(room / f"lost{behind}", str(COTTAGE), str(PROGRAM))
+        link.begin_folder()
+        player, other = (Session(link, 0, "k", lambda text: None) for _ in range(2))
+        player.play_on(0, 1, (80, 24))
+        link.is_lost_behind = behind
+        want("a size whose answer is lost", not player.resize((50, 15)) and not player.wants_size((60, 20)))
+        want("a line behind it", player.give("look") and player.count == 2, player.note)
+        want("the size was told before", player.screen() == (50, 15) and player.wants_size((60, 20)), str(player.screen()))
+        link.is_lost_behind = behind
+        player.resize((60, 20))
+        other.play_on(0, 1, (80, 24))
+        want("another display plays on", other.give("wait"), other.note)
+        want("a line isn't given to what wasn't seen", not player.give("inventory") and "another place" in player.note, player.note)
+        want("and is given then", player.give("save"), player.note)
+        want("a size at a prompt", not player.wants_size((70, 20)) and not player.resize((70, 20)) and player.give("first"))
+        want("a size behind it", player.wants_size((70, 20)) and player.resize((70, 20)), player.note)
+        want("each was kept once", sizes_told(room / f"lost{behind}", 0) == [(50, 15), *[(60, 20)] * behind, (70, 20)],
+             sizes_told(room / f"lost{behind}", 0))
+        link.end()
+
+
 # The small client.
 
 def small_client(room):
@@ -294,6 +336,20 @@ class Terminal:
         self.tmux("kill-server", may_fail=True)
 
 
+def sizes_told(folder, session):
+    """The sizes of the screen that a session's story was told behind its OPEN."""
+    rows = [row for row in files.rows_of(files.journal_of(folder)) if row.session == session]
+    return [tuple(row.payload) for row in rows if row.kind == files.SIZE]
+
+
+def told(folder, session, size):
+    """Waits until a session's story is told this size."""
+    until = time.monotonic() + LONGEST
+    while sizes_told(folder, session)[-1:] != [size]:
+        want(f"{size} is told", time.monotonic() < until, sizes_told(folder, session))
+        time.sleep(0.05)
+
+
 def played_alone(room):
     """The Well House alone, kept in a folder of the player's."""
     words = (sys.executable, STORIES / "play.py", COTTAGE)
@@ -315,12 +371,30 @@ def played_alone(room):
         terminal.move("restore", r"Restore which saved game\? first")
         terminal.type("", "Enter")
         terminal.wait(r">restore\nOk\.", "a restored game")
-        terminal.size(50, 16)
-        terminal.wait(r"(?m)^ Garden +Score: 0 +Moves: \d+ *$", "a small terminal's status line")
+        folder, = [one for one in (room / "own/storyhost").iterdir() if one.is_dir()]
+        terminal.type("loo")
+        terminal.wait(r">loo$", "half a line")
+        for columns, rows in (90, 30), (70, 20), (60, 18), (50, 16):
+            terminal.size(columns, rows)
+        terminal.wait(r"(?m)^ Garden +0/\d+ *$.*>loo$", "a small terminal's status line")
+        want("the story is told the last size of many", sizes_told(folder, 0) == [(50, 15)], sizes_told(folder, 0))
+        terminal.move("k", r">look\n\nGarden.*The house\n")
+        terminal.move("save", r"Save the game under which name\?")
         terminal.size(100, 30)
+        terminal.wait(r"Save the game under which name\? first$", "a prompt on a larger terminal")
+        terminal.type("", "Escape")
+        terminal.wait(r"^ Garden {50,}Score: 0.*Save failed\.", "a larger terminal behind a prompt")
+        want("the size was told behind the prompt", sizes_told(folder, 0) == [(50, 15), (100, 29)], sizes_told(folder, 0))
         terminal.move("look", r"The house stands to the north with its door open, the well\n")
         terminal.size(80, 24)
         terminal.wait(r"door open, the well is east along the flagstones, and hens mutter behind the\n", "80 columns again")
+        terminal.type("", "PageUp")
+        terminal.wait(r"PageDown goes on", "PageUp")
+        terminal.size(80, 20)
+        terminal.wait(r"PageDown goes on[^\n]*$", "who looks back on another size")
+        told(folder, 0, (80, 19))
+        want("looks back still", "PageDown goes on" in terminal.screen(), terminal.screen())
+        terminal.size(80, 24)
         for _ in range(3):
             terminal.move("look", r">look\n\nGarden")
         terminal.type("", "PageUp", "PageUp")
@@ -334,9 +408,22 @@ def played_alone(room):
         terminal.wait("The game is kept.*status 0", "control and D")
     finally:
         terminal.end()
-    terminal = Terminal(room, *words)
+    terminal = Terminal(room, *words, columns=60, rows=40)
     try:
-        terminal.wait(r">look\n\nGarden.*You put the leaflet away\.\n\n>", "a game that goes on, below its last moves")
+        terminal.wait(r"^ Garden +0/\d+ *\n.*>look\n\nGarden.*You put the leaflet away\.\n\n>", "a game that goes on, below its last moves")
+        want("its size was told first", sizes_told(folder, 0)[-1] == (60, 39), sizes_told(folder, 0))
+        for columns in range(61, 71):
+            terminal.size(columns, 40)
+            told(folder, 0, (columns, 39))
+        terminal.type("", "C-d")
+        terminal.wait("The game is kept.*status 0", "control and D behind sizes")
+    finally:
+        terminal.end()
+    terminal = Terminal(room, *words, columns=70, rows=40)
+    try:
+        terminal.wait(r"^ Garden +Score.*>look\n\nGarden.*You put the leaflet away\.\n\n>", "a game that goes on behind ten sizes")
+        terminal.size(80, 24)
+        terminal.wait(r"^ Garden +Score", "80 columns again")
         terminal.move("restore", r"so far: first")
         terminal.type("", "Enter")
         terminal.wait(r">restore\nOk\.", "a file of yesterday")
@@ -351,6 +438,23 @@ def played_alone(room):
         terminal.wait(r"THE WELL HOUSE.*\n>", "a new game")
         terminal.type("", "C-c")
         terminal.wait("status 0", "control and C")
+    finally:
+        terminal.end()
+
+
+def read_on(room):
+    """A terminal that changes while a page is read, which stays."""
+    terminal = Terminal(room, sys.executable, STORIES / "play.py", COTTAGE, "--unkept", columns=50, rows=9)
+    try:
+        page = r"Your aunt's letter.*least\.\n+\[more\]$"
+        terminal.wait(page, "the first page")
+        for columns, rows in (51, 8), (60, 9), (45, 8), (50, 9):
+            terminal.size(columns, rows)
+            terminal.wait(page, f"the page on {columns} by {rows}")
+        terminal.type("", "Space")
+        terminal.wait(r"\nTHE WELL HOUSE\n.*\[more\]$", "the second page")
+        terminal.size(80, 24)
+        terminal.wait(r"^ Garden {40,}Score: 0.*\nTHE WELL HOUSE\n.*\n>$", "all of it")
     finally:
         terminal.end()
 
@@ -394,6 +498,21 @@ def played_on_a_host(room):
         host.start()
         terminal.wait(r"Taken\..*the host had stopped; it is there again", "a host that is there again")
         want("the move was kept once", files.games_of(host.folder)[5].inputs == 1)
+        host.kill()
+        terminal.type("wai")
+        terminal.size(60, 20)
+        time.sleep(1)
+        want("a size is no cause to wait for a host", "waited for" not in terminal.screen(), terminal.screen())
+        host.start()
+        terminal.type("t", "Enter")
+        terminal.wait(r"^ Garden +0/\d+ *\n.*>wait\nTime passes\.", "a size and a line behind a stop")
+        want("both were kept once", files.games_of(host.folder)[5].inputs == 3)
+        want("the size was told", sizes_told(host.folder, 5) == [(60, 19)], sizes_told(host.folder, 5))
+        terminal.size(100, 30)
+        told(host.folder, 5, (100, 29))
+        host.kill()
+        host.start()
+        terminal.move("look", r"^ Garden {60,}Score: 0 .*>look\n\nGarden")
         other = host.session(5, "anna")
         other.play_on(0, 1, (80, 24))
         want("another place plays on", other.give("drop rosemary"))
@@ -435,6 +554,9 @@ def watched_on_a_terminal(room):
         host.start()
         want("a word behind a restart", anna.give("examine bench"), anna.note)
         seen = terminal.wait(r">examine bench\nOak.*after 13 moves", "a move behind the restart")
+        want("another size", anna.resize((50, 10)), anna.note)
+        terminal.wait(r"^ Garden +0/\d+ *\n.*after 14 moves", "a player's other screen")
+        want("a size that is the screen's", not anna.wants_size((50, 10)))
         want("a spectator sees one game", "hens" not in seen.partition(">drop")[2], seen)
         anna.close()
         terminal.wait(r"session 5: the game was closed.*status 1", "a game that is closed")
@@ -471,10 +593,12 @@ def main():
         longest, copies, tried = many_players(room)
         keeper(room)
         small_client(room)
+        lost_sizes(room)
         words_that_do_not_go_together(room)
         missing = has_terminals()
         if not missing:
             played_alone(room)
+            read_on(room)
             told_of_ends(room)
             played_on_a_host(room)
             watched_on_a_terminal(room)

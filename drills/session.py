@@ -3,8 +3,8 @@
 
     drills/session.py [PROGRAM]
 
-A session is given 20 inputs: it looks round, saves to a file at the prompt, undoes, restores that file and
-goes on. The host is killed (signal 9) behind the 17th reply and started again. Each show must be that of
+A session is given 22 inputs: it looks round, saves to a file at the prompt, undoes, restores that file and
+goes on, and twice its screen has another size. The host is killed (signal 9) behind the 17th reply and started again. Each show must be that of
 `run` on the same inputs, and as the host is started again one input must stand behind the newest snapshot
 of the game, read by `folder.py`. It ends with 1 where that isn't so."""
 
@@ -20,8 +20,8 @@ import folder as files
 
 STORY = crash.TOP / "stories" / "cottage.ulx"
 INPUTS = (
-    "look", "take rosemary", "save", "first", "n", "undo", "n", "take jug", "inventory", "restore", "first",
-    "inventory", "look", "n", "wait", "s", "undo", "undo", "inventory", "look",
+    "look", "take rosemary", "save", "first", "n", "undo", "n", "take jug", "inventory", (50, 15), "restore", "first",
+    "inventory", "look", "n", "wait", "s", "undo", "undo", (100, 30), "inventory", "look",
 )  # fmt: skip
 KILLED_BEHIND = 17
 
@@ -41,13 +41,16 @@ def asked_for(show):
 
 
 def of_run(window, text):
+    if isinstance(text, tuple):
+        return "SIZE {} {}".format(*text)
     text = urllib.parse.quote(text, safe="")
     return f"FILE ={text}" if window is None else f"LINE {window} ={text}"
 
 
-def of_pipe(n, window, text):
-    text = urllib.parse.quote(text, safe="")
-    return f"FILE 0 k {n} ={text}" if window is None else f"LINE 0 k {n} {window} ={text}"
+def of_pipe(n, line):
+    """The request for a line of `run`."""
+    word, _, rest = line.partition(" ")
+    return f"{word} 0 k {n} {rest}"
 
 
 def show_in(reply, n):
@@ -70,7 +73,7 @@ def played(room):
     for n, text in enumerate(INPUTS, 1):
         window = asked_for(shows[-1])
         lines.append(of_run(window, text))
-        shows.append(show_in(host.ask(of_pipe(n, window, text)), n))
+        shows.append(show_in(host.ask(of_pipe(n, lines[-1])), n))
         if n == KILLED_BEHIND:
             host.process.kill()
             host.end()
@@ -97,8 +100,9 @@ def main():
         except (Differs, crash.Lost) as cause:
             print(f"session: {cause}")
             return 1
-    kinds = sum(line.startswith("FILE") for line in lines)
-    print(f"session: {len(lines)} inputs, {kinds} of them names of files, as by `run`; one turn behind the restart")
+    names, sizes = (sum(line.startswith(word) for line in lines) for word in ("FILE", "SIZE"))
+    print(f"session: {len(lines)} inputs, {names} of them names of files and {sizes} sizes of the screen, as by `run`; one turn "
+          "behind the restart")
     return 0
 
 

@@ -6,10 +6,11 @@
 `init`, `pipe` and `serve` run under `strace`. Before `ready` each file of the folder was written and then
 synced, and each folder synced after the last of its files was made. Before each SHOW of an accepted request
 stand four calls on the journal's own descriptor, each of which had ended well: a write behind the closing
-gate, a sync, a write of the gate alone, a sync; a repeat makes none. A put makes its calls in order on the
-snapshot file's own descriptor: a zero to the gate unless it is closed, a sync, the area's first 16 bytes,
-the others, a sync, the gate, a sync. The listener of `serve` is at 127.0.0.1. It ends with 1 where something
-is otherwise, and says so and ends with 0 where `strace` isn't there or may not trace."""
+gate, a sync, a write of the gate alone, a sync; a repeat makes none. A journal of before is synced, marked
+and synced before its first row; each of these calls fails once, or has the host killed, and the next one goes on. A put makes its calls in order on the snapshot file's own descriptor: a zero
+to the gate unless it is closed, a sync, the area's first 16 bytes, the others, a sync, the gate, a sync. The
+listener of `serve` is at 127.0.0.1. It ends with 1 where something is otherwise, and says so and ends with 0
+where `strace` isn't there or may not trace."""
 
 import argparse
 import collections
@@ -184,7 +185,8 @@ def shows_of(calls):
 def lines_of(session):
     yield f"OPEN {session} k{session} 0 7 80 24"
     for move in range(1, MOVES + 1):
-        yield f"LINE {session} k{session} {move} 1 =m{move}"
+        word, rest = ("SIZE", "40 10") if move % 5 == 0 else ("LINE", f"1 =m{move}")
+        yield f"{word} {session} k{session} {move} {rest}"
 
 
 def check_pipe(program, root, story, folder):
@@ -249,6 +251,45 @@ def check_serve(program, root, story, folder):
         raise Otherwise(f"serve listens at {[call.words for call in bound]}")
 
 
+def check_older(program, story, folder, gate):
+    """A journal of before is marked behind a sync, and behind its closing gate where that isn't 0, before any row."""
+    root = folder / f"older{gate}"
+    journal = root / "journal"
+    subprocess.run([program, "init", root], stdout=subprocess.DEVNULL, check=True)
+    files.write_at(journal, 8, b"\0")
+    files.write_at(journal, 16, bytes([gate]))
+    calls, text = run([program, "pipe", root, story], "OPEN 9 k 0 7 80 24\nSIZE 9 k 1 40 10\n", folder, 3 + gate)
+    of_journal = [call for call in calls if call.path == str(journal) and (call.name == "pwrite64" or call.name in SYNCS)]
+    written = [(16, 0), (8, 1)] if gate else [(8, 1)]
+    opening = of_journal[: 1 + 2 * len(written)]
+    in_order = all(map(is_good_sync, opening[::2])) and all(
+        is_byte(call, place, byte) and is_good_write(call) for call, (place, byte) in zip(opening[1::2], written))
+    if not in_order:
+        raise Otherwise(f"a journal of before is opened by the calls {[(call.name, call.words) for call in opening]}")
+    behind = [call for call in calls if call.began > opening[-1].ended]
+    if text.count("SHOW 9 ") != 2 or len(appends_of(behind, str(journal))) != 2:
+        raise Otherwise("a journal of before takes no rows behind its mark")
+
+
+def check_marks(program, story, folder):
+    """Each call by which a journal of before is marked fails, or has the host killed: the next host goes on as before."""
+    root = folder / "marked"
+    journal = root / "journal"
+    subprocess.run([program, "init", root], stdout=subprocess.DEVNULL, check=True)
+    words, asked = [program, "pipe", root, story], b"LAST 0 k\n"
+    subprocess.run(words, input=b"OPEN 0 k 0 7 80 24\nLINE 0 k 1 1 =go\n", stdout=subprocess.DEVNULL, check=True)
+    wanted = subprocess.run(words, input=asked, capture_output=True, check=True).stdout
+    for call, number in ("fdatasync", 1), ("pwrite64", 1), ("fdatasync", 2):
+        for what, status in ("error=EIO", 6), ("signal=KILL", -signal.SIGKILL):
+            files.write_at(journal, 8, b"\0")
+            met = ["strace", "-f", "-o", os.devnull, "-P", journal, "-e", f"trace={CALLS}", "-e", f"inject={call}:{what}:when={number}"]
+            done = subprocess.run(met + words, input=asked, capture_output=True)
+            if (done.returncode, done.stdout) != (status, b""):
+                raise Otherwise(f"{call} {number} of a mark, {what}: status {done.returncode} and {done.stdout[:80]}")
+            if subprocess.run(words, input=asked, capture_output=True).stdout != wanted or not files.is_second(journal.read_bytes()):
+                raise Otherwise(f"behind {call} {number} of a mark, {what}: the next host isn't as before")
+
+
 def may_trace():
     """Whether `strace` is there and the system lets it trace."""
     if not shutil.which("strace"):
@@ -271,6 +312,9 @@ def main():
         root = check_init(program, folder)
         check_pipe(program, root, story, folder)
         check_serve(program, root, story, folder)
+        for gate in 0, 9:
+            check_older(program, story, folder, gate)
+        check_marks(program, story, folder)
         print("synced: ok")
         return 0
     except Otherwise as why:

@@ -3,9 +3,9 @@
 
     drills/transcripts.py [ROUNDS] [--seed N] [--moves N]
 
-- A round kills a host of `pipe` and one of `serve` while they play, as drills/crash.py does. `replay` of each folder
-  must write, game by game, the line with the session and the place of its OPEN, and the shows that `run` writes for
-  the same moves; and the folder must stand as it stood.
+- A round kills a host of `pipe` and one of `serve` while they play, sizes of the screen among the moves, as
+  drills/crash.py does. `replay` of each folder must write, game by game, the line with the session and the place of
+  its OPEN, and the shows that `run` writes for the same moves; and the folder must stand as it stood.
 - A name under which nothing stands is no journal, and nothing is made of it. A journal that may not be written is
   read, as on a medium that is read-only. A folder that a host holds is refused with 6, and says why. An output that
   is closed in the middle is 5. On a terminal standard error has a line for each 16 games; the first texts are out

@@ -1,27 +1,31 @@
 #!/usr/bin/env python3
 """Plays the same moves in storyhost and in glulxe, side by side, and compares what both show.
 
-usage: compare.py STORY MOVES [--host PROGRAM] [--glulxe PROGRAM] [--but FORM] [--keep]
+usage: compare.py STORY MOVES [--sizes SEED] [--host PROGRAM] [--glulxe PROGRAM] [--but FORM] [--keep]
 
 Wants `apt-get install -y --no-install-recommends glulxe`. At each wait every window of the host's
-show is compared with its rectangle of glulxe's screen of 80 by 24: a grid cell by cell, a buffer by
+show is compared with its rectangle of glulxe's screen, of 80 by 24 or, behind a move as {size 50 15}, of that size: a grid cell by cell, a buffer by
 its text without its white space, since glulxe breaks lines for its screen: what glulxe shows is the
 end of the host's text where that window waits for input, and else a part of it. Where the
 moves made a transcript (the command script, and a file's name), that file's characters are compared
-with the host's main window, each one. The status is 0 where all agree.
+with the host's main window, each one. With --sizes the screen has another size, drawn by that number, before
+some of the moves that are lines. The status is 0 where all agree.
 """
 import argparse
+import itertools
 import os
+import random
 import re
 import shutil
 import sys
 import tempfile
 
-from host import CLEARED, HOST, Host
+from host import CLEARED, HOST, SIZE, Host
 from play import read_moves
 from terminal import Program
 
 COLUMNS, ROWS = 80, 24
+SECONDS = 5         # in which glulxe draws anew on a screen of another size
 MOST_PAGES = 200
 # Keys of glulxe's Glk library: the screen drawn anew, the next page (nothing at a text's end), and
 # the line that was begun taken away.
@@ -48,21 +52,32 @@ class Glulxe:
     """A story in glulxe, on a terminal of its own."""
 
     def __init__(self, story, folder, program="/usr/games/glulxe"):
-        size = ["-width", str(COLUMNS), "-height", str(ROWS + 1)]
-        words = [program, *size, "-border", "no", "-defprompt", "no", os.path.abspath(story)]
+        self.size = COLUMNS, ROWS
+        words = [program, "-border", "no", "-defprompt", "no", os.path.abspath(story)]
         self.program = Program(words, folder, COLUMNS, ROWS + 1)
         self.program.settle()
 
     def message(self):
         """The screen's last line, where questions of the library itself stand."""
-        return self.program.screen.region(0, ROWS, COLUMNS, 1)[0].strip()
+        columns, rows = self.size
+        return self.program.screen.region(0, rows, columns, 1)[0].strip()
 
     def type(self, text):
         self.program.send(text)
         self.program.settle()
 
+    def resize(self, columns, rows):
+        """Another terminal, of which glulxe is told by a signal: it draws its windows then."""
+        self.size = columns, rows
+        self.program.resize(columns, rows + 1)
+        self.program.read(SECONDS)
+        self.program.settle()
+        self.type(REDRAW)
+
     def give(self, kind, move, begun=""):
         """Types a move, after a line that the story began was taken away."""
+        if size := SIZE.fullmatch(move):
+            return self.resize(int(size[1]), int(size[2]))
         if begun:
             self.type(TAKE_AWAY)
         move = "" if move == "{empty}" and kind != "char" else move
@@ -72,6 +87,9 @@ class Glulxe:
 
     def rows(self, window):
         return self.program.screen.region(window.x, window.y, window.width, window.height)
+
+    def whole(self):
+        return self.program.screen.region(0, 0, *self.size)
 
 
 def differences(host, other):
@@ -105,9 +123,9 @@ def agree(host, other):
     for key in [REDRAW] + MOST_PAGES * [PAGE_DOWN]:
         if not found or host.ended:
             break
-        before = other.program.screen.region(0, 0, COLUMNS, ROWS)
+        before = other.whole()
         other.type(key)
-        if key == PAGE_DOWN and before == other.program.screen.region(0, 0, COLUMNS, ROWS):
+        if key == PAGE_DOWN and before == other.whole():
             break
         found = differences(host, other)
     return found
@@ -141,12 +159,21 @@ def compared_transcript(host, file):
     return None
 
 
+def with_sizes(host, moves, draw):
+    """The moves, and before some of them sizes. Glulxe takes a size for a key where one is waited for."""
+    for move in moves:
+        if draw and host.wanted()[0] == "line" and draw.random() < 0.6:
+            yield f"{{size {draw.randint(20, 94)} {draw.randint(7, 60)}}}"
+        yield move
+
+
 def main():
     words = argparse.ArgumentParser(usage=__doc__)
     words.add_argument("story")
     words.add_argument("moves")
     words.add_argument("--host", default=HOST)
     words.add_argument("--glulxe", default="/usr/games/glulxe")
+    words.add_argument("--sizes", type=int, metavar="SEED", help="draw sizes of the screen")
     words.add_argument("--but", metavar="FORM", help="pass over what fits, in a text without white space")
     words.add_argument("--keep", action="store_true", help="keep glulxe's folder, and say where it is")
     given = words.parse_args()
@@ -156,7 +183,8 @@ def main():
     host, other = Host(given.story, given.host), Glulxe(given.story, folder, given.glulxe)
     bad = waits = 0
     move = "(opening)"
-    for turn, move in enumerate(["(opening)"] + read_moves(given.moves)):
+    draw = random.Random(given.sizes) if given.sizes is not None else None
+    for turn, move in enumerate(itertools.chain(["(opening)"], with_sizes(host, read_moves(given.moves), draw))):
         if turn:
             if host.ended:
                 break

@@ -130,6 +130,11 @@ class View:
         self.end = self.seen
         return True
 
+    def turn_back(self, height):
+        """Counts the page that is shown as one that wasn't seen."""
+        if self.end is not None:
+            self.seen = max(self.seen - max(height - 1, 1), 0)
+
     def scroll(self, pages, height):
         end = self.count() if self.end is None else self.end
         end += pages * max(height - 1, 1)

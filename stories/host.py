@@ -2,6 +2,7 @@
 import hashlib
 import os
 import pathlib
+import re
 import socket
 import subprocess
 import sys
@@ -59,8 +60,10 @@ BAD_STORIES = {
 USAGES = {0: "data", 1: "saved game", 2: "transcript", 3: "commands"}
 SAVED_GAME = 1
 WRITE, READ = 1, 2
+SIZE = re.compile(r"\{size ([0-9]+) ([0-9]+)\}")     # a move that gives the story another screen
 GREATEST = 0xFFFFFFFF       # the greatest number of a command
 SHOWS = 8                   # the most shows of a reply to a spectator
+LOOKS_BACK = 4              # such replies at most, for the last moves in which something was printed
 MOST_RECALLED = 1000        # moves of a game that a host is asked to play again for who comes back, which takes a second or so
 SLOW = 3                    # seconds, after which a player is told that the host hasn't answered
 # In the main window's text: what was printed in that turn before it was cleared isn't shown.
@@ -172,6 +175,12 @@ def shows_of(lines):
     return shows
 
 
+def recent_from(shows):
+    """Where the last eight of these shows begin in which something was printed; None where there are fewer."""
+    printed = [at for at, lines in enumerate(shows) if any(line.startswith("T ") for line in lines)]
+    return printed[-SHOWS] if len(printed) >= SHOWS else None
+
+
 def reply_of(file):
     """The lines of a reply, or None where it doesn't come to its end."""
     lines = []
@@ -280,6 +289,12 @@ class Game:
         named = USAGES.get(usage, "file")
         return f"Read which file of {named}?" if mode == READ else f"Write the {named} to which file?"
 
+    def screen(self):
+        """The columns and rows of the game's screen, which its windows fill; None where it has no window."""
+        if not self.windows:
+            return None
+        return (max(it.x + it.width for it in self.windows.values()), max(it.y + it.height for it in self.windows.values()))
+
     def begun(self):
         """The line that the story began for the player, where a line is wanted."""
         return unescaped(self.wait()[4]) if self.wanted()[0] == "line" else ""
@@ -315,6 +330,8 @@ class Game:
 
     def give(self, move):
         """Gives a move as the story waits for it; says whether it was taken."""
+        if size := SIZE.fullmatch(move):
+            return self.put("SIZE", f"{size[1]} {size[2]}")
         kind = self.wanted()[0]
         move = "" if move == "{empty}" and kind != "char" else move
         if kind == "P":
@@ -372,9 +389,10 @@ class Linked(Game):
         self.link, self.number, self.say = link, number, say
         self.count = None       # of the commands that were accepted, where the game was seen
 
-    def exchange(self, line):
+    def exchange(self, line, is_patient=True):
         """The lines of the reply to a request. Where the host is gone it is started again, or waited for a
-        minute, and the request is sent again: a host that has kept it shows it, and applies it once."""
+        minute, and the request is sent again: a host that has kept it shows it, and applies it once. To who isn't
+        patient a host that is gone is `Stopped`."""
         for again in range(121):
             try:
                 self.told([line], "< ")
@@ -382,6 +400,9 @@ class Linked(Game):
                 break
             except (Stopped, OSError):
                 self.link.end()
+                self.host_stopped()
+                if not is_patient:
+                    raise Stopped() from None
                 if self.count is None and again == 9:
                     raise SystemExit(f"play.py: no host answers at {self.link}. Is it started?") from None
                 if not again:
@@ -395,6 +416,23 @@ class Linked(Game):
         self.told(lines)
         return lines
 
+    def last_shows(self, word, count):
+        """The last shows of a session of so many moves, by its word for spectators, and a refusal where there is one:
+        eight in which something was printed, since a size of the screen mostly prints nothing, and those between."""
+        shows, first = [], count + 1
+        for _ in range(LOOKS_BACK):
+            if not first or recent_from(shows) is not None:
+                break
+            behind, first = first, max(first - SHOWS, 0)
+            lines = self.exchange(f"WATCH {self.number} {word} {first}")
+            if not lines[0].startswith("SEEN "):
+                return [], lines[0]
+            shows = shows_of(lines)[: behind - first] + shows
+        return shows[recent_from(shows) or 0 :], None
+
+    def host_stopped(self):
+        """The host is gone; the next one may be another."""
+
     def finish(self):
         self.link.end()
 
@@ -405,14 +443,19 @@ class Session(Linked):
     def __init__(self, link, number, key, say, shows=None):
         super().__init__(link, number, say, shows)
         self.key = key
+        self.size = None            # columns and rows of the screen, as the host was told last
+        self.knows_size = True      # whether the host takes another size, as far as is known
+        self.refused_behind = None  # the number of moves behind which it wasn't taken
+        self.unanswered = None      # a size whose answer was lost: it may be the session's next move
 
     def play_on(self, story, seed, size):
         """Shows what the story said last; where the session is free, opens it. Says whether it did so."""
         refusal = self.look()
         if refusal == "NO 2":
-            self.must(self.ask(f"OPEN {self.number} {self.key} {story} {seed} {size[0]} {size[1]}"))
+            self.open(story, seed, size)
             return True
         self.must(refusal)
+        self.size = self.screen()
         known = self.link.names(self.number)
         self.names = {usage: list(known) for usage in USAGES}
         return False
@@ -422,12 +465,11 @@ class Session(Linked):
         the screen stands there again. Of a long game, and where the host can't tell them, the last one stands alone."""
         if not 0 < self.count <= MOST_RECALLED:
             return
-        first = max(self.count + 1 - SHOWS, 0)
-        lines = self.exchange(f"WATCH {self.number} {word_of(self.key)} {first}")
-        if lines[0] != f"SEEN {self.number} {first} {self.count}":
+        shows, refusal = self.last_shows(word_of(self.key), self.count)
+        if refusal:
             return
         self.windows, self.main, self.text = {}, None, ""
-        *earlier, last = shows_of(lines)
+        *earlier, last = shows
         for show in earlier:
             self.show(show)
         for window in self.windows.values():
@@ -438,7 +480,11 @@ class Session(Linked):
         """Ends the game and begins another one."""
         self.close()
         self.windows, self.main, self.text, self.count, self.names = {}, None, "", None, {}
+        self.open(story, seed, size)
+
+    def open(self, story, seed, size):
         self.must(self.ask(f"OPEN {self.number} {self.key} {story} {seed} {size[0]} {size[1]}"))
+        self.size, self.refused_behind, self.unanswered = size, None, None
 
     def look(self):
         """Asks for the last show, and takes it where it is of another move than the one that was seen."""
@@ -446,6 +492,8 @@ class Session(Linked):
 
     def put(self, word, rest):
         """Says whether the command was taken. Where it wasn't, the game is looked at again."""
+        if self.unanswered:
+            self.resize(self.unanswered, is_patient=True)
         refusal = self.ask(f"{word} {self.number} {self.key} {self.count + 1} {rest}")
         if refusal is None:
             return True
@@ -457,6 +505,33 @@ class Session(Linked):
             return True     # It was kept all the same, and its show is there now.
         self.note = f"[not taken: {refused(refusal)}]"
         return False
+
+    def wants_size(self, size):
+        """Whether the host is to be told this size of the screen: it wasn't told yet, and the story may take it."""
+        is_new = size != self.size and self.count != self.refused_behind and not self.unanswered
+        return self.knows_size and is_new and self.wanted()[0] in ("char", "line")
+
+    def resize(self, size, is_patient=False):
+        """Tells the host the size of the screen, which is a move; says whether it was taken. Where it wasn't the player,
+        who has given nothing, is told nothing: a host of before doesn't know it (NO 1), and where the story doesn't
+        wait for it (NO 8) it may be told behind the next move. Where it may have been kept it is told again before that."""
+        turn, self.unanswered = self.turn, size
+        try:
+            refusal = self.ask(f"SIZE {self.number} {self.key} {self.count + 1} {size[0]} {size[1]}", is_patient)
+        except Stopped:
+            return False
+        if refusal and code_of(refusal) == "12":
+            return False
+        self.unanswered = None
+        if refusal:
+            self.knows_size = code_of(refusal) != "1"
+            self.refused_behind = self.count
+            return False
+        self.size, self.turn = size, turn
+        return True
+
+    def host_stopped(self):
+        self.knows_size = True
 
     def back(self):
         """Takes the last move back, on a folder of this program's own: it goes on from its journal without that."""
@@ -480,9 +555,9 @@ class Session(Linked):
         if refusal:
             raise Refused(refusal)
 
-    def ask(self, line):
+    def ask(self, line, is_patient=True):
         """The refusal of a request, or None where its show was taken."""
-        lines = self.exchange(line)
+        lines = self.exchange(line, is_patient)
         if lines[0].startswith("NO "):
             return lines[0]
         if not lines[0].startswith("SHOW "):
@@ -507,15 +582,14 @@ class Watched(Linked):
 
     def more(self):
         """Takes the shows that weren't seen, at most eight; says whether there were any. Of a game that wasn't seen
-        it begins with the last eight."""
+        it begins with the last ones."""
         if self.count is None:
-            self.begin(self.at(GREATEST))
+            return self.begin(self.at(GREATEST))
         lines = self.at(self.count + 1)
         if lines[0].startswith("NO 5 "):
             if int(lines[0].split()[2]) < self.count:
                 self.windows, self.main, self.note = {}, None, "[another game was begun]"
-                self.begin(lines)
-                return self.more()
+                return self.begin(lines)
             return False
         self.must(lines)
         for show in shows_of(lines):
@@ -524,10 +598,17 @@ class Watched(Linked):
         return True
 
     def begin(self, lines):
-        """Takes from the refusal of a number that is too great how many commands there are."""
+        """Takes the last shows, by the refusal of a number that is too great, which tells how many moves there are."""
         if not lines[0].startswith("NO 5 "):
             self.must(lines)
-        self.count = max(int(lines[0].split()[2]) - SHOWS, -1)
+        count = int(lines[0].split()[2])
+        shows, refusal = self.last_shows(self.word, count)
+        if refusal:
+            self.must([refusal])
+        for show in shows:
+            self.show(show)
+        self.count = count
+        return True
 
     def must(self, lines):
         if code_of(lines[0]) == "2":

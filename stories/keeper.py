@@ -10,7 +10,8 @@ usage: keeper.py DIR [STORY ..] [--host PROGRAM]    the sessions: number, key, s
        keeper.py close DIR SESSION HOST:PORT        ends a game of a host that runs there, with the key of the journal
        keeper.py repair DIR COPY                    writes a copy of DIR without what is damaged, and says what is lost
        keeper.py back DIR SESSION MOVES COPY        writes a copy of DIR without the last moves of a session's game, as
-                                                    where a story has failed, or its player said `quit`
+                                                    where a story has failed, or its player said `quit`; a size of
+                                                    the screen that its player's terminal told is a move, too
 
 Listing only reads, also while a host runs, and so does `texts`. To tell whether a game is over, or its text, the journal
 is copied, and the program plays the copy. `repair` and `back` leave DIR as it is, want a COPY that isn't there, and refuse while a host runs on DIR.
@@ -268,6 +269,8 @@ def watch(given):
             else:
                 counts[row.session] += 1
                 done = "is closed" if row.kind == files.CLOSE else f"has its move {counts[row.session]}"
+                if row.kind == files.SIZE:
+                    done += ", a screen of {} by {}".format(*row.payload)
             if told is not None:
                 now = time.strftime("%Y-%m-%d %H:%M:%S")
                 print(f"{now} session {row.session} ({keys[row.session]}) {done}", flush=True)

@@ -33,6 +33,9 @@ class Onlooker(Screen):
     def tell(self):
         """The word is the spectator's own."""
 
+    def resized(self):
+        """The game's size is its player's."""
+
     def draw_remark(self, canvas):
         host = self.host
         if host is None:

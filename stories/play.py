@@ -25,12 +25,14 @@ story saved go with its game. A new game has a seed of chance, unless it is give
 no right to play. The word for that is made of the session's key: --tell says it to a player, and so does control
 and T while the windows are drawn.
 
-On a terminal the story's windows are drawn (screen.py, over Debian's python3-prompt-toolkit). With --plain,
-without that library, or where input or output is no terminal, each line of the input is a move, and the text
-is written as it comes, other windows before it. MOVES is a file with one move a line; a blank line or one that
-begins with # is none. A move is given as the story waits: as a line, as a file's name, or as a character.
-{Return}, {Up}, {Down}, {Escape}, {Space} and other keys of Glk name characters, {empty} is a line or name of no
-characters. With --shows the shows are written as they come.
+On a terminal the story's windows are drawn (screen.py, over Debian's python3-prompt-toolkit), and the story is told
+the terminal's size, also as it changes. With --plain, without that library, or where input or output is no
+terminal, each line of the input is a move, and the text is written as it comes, other windows before it.
+
+MOVES is a file with one move a line; a blank line or one that begins with # is none. A move is given as the
+story waits: as a line, as a file's name, or as a character. {Return}, {Up}, {Down}, {Escape}, {Space} and other
+keys of Glk name characters, {empty} is a line or name of no characters, and {size 50 15} is another screen. With
+--shows the shows are written as they come.
 """
 import argparse
 import fcntl

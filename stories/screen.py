@@ -26,6 +26,7 @@ from wrapping import wrapped
 
 BUFFER, GRID = 3, 4
 LEAST_SIZE = (40, 12)
+RESIZE_SECONDS = 0.3    # behind the last of many sizes of the terminal, until the host is told it
 INPUT = 8       # the style in which a line that is typed stands
 # How a style of Glk is drawn: emphasized, header, subheader, alert, note and input stand out.
 STYLES = {1: "underline", 3: "bold", 4: "bold", 5: "reverse", 6: "italic", INPUT: "bold"}
@@ -49,6 +50,7 @@ class Screen:
         self.busy, self.keys, self.mode = True, deque(), "start"
         self.remark = "[the story is begun, or where it is kept played to where it was]"
         self.views, self.size, self.places = {}, (80, 24), {}
+        self.resizing = None    # what will tell the host the terminal's size
         self.windows, self.wants = {}, (None, 0)    # as they are drawn, while the host is asked too
         self.line = Buffer(multiline=False, on_text_changed=self.limit)
         self.name = Buffer(multiline=False)
@@ -172,8 +174,8 @@ class Screen:
     # The host.
 
     def game_size(self):
-        """The columns and rows of a game that is begun on this terminal: its last row is for remarks. On a very
-        small one it is begun larger, since windows that had no room then would have none later."""
+        """The columns and rows of a game on this terminal: its last row is for remarks. On a very small one it is
+        larger, and is drawn together."""
         columns, rows = self.size
         return max(min(columns, 255), LEAST_SIZE[0]), max(min(rows - 1, 255), LEAST_SIZE[1])
 
@@ -210,23 +212,55 @@ class Screen:
         self.busy = False
         if work in (self.place.anew, getattr(before, "back", None)):
             self.views = {}
-        if value is not False:
-            self.line.reset(append_to_history=bool(self.mode == "line" and self.line.text))
-            self.name.reset()
-        self.shown(value is not False)
+        if work == getattr(before, "resize", None):
+            self.arranged()
+        else:
+            if value is not False:
+                self.line.reset(append_to_history=bool(self.mode == "line" and self.line.text))
+                self.name.reset()
+            self.shown(value is not False)
         self.process_keys()
 
     def shown(self, is_new=True):
         """Behind a show: what it says is paged, and then what the story waits for is asked."""
         self.remark, self.host.note = self.host.note or ("" if is_new else self.remark), ""
+        self.take_windows()
+        self.turn_page()
+
+    def arranged(self):
+        """Behind another size: what was typed stays, and who looks back goes on so."""
+        self.remark, self.host.note = self.host.note or self.remark, ""
+        self.take_windows()
+        if any(view.end is not None for view in self.views.values()):
+            self.wait()
+        else:
+            self.turn_page()
+
+    def take_windows(self):
         self.windows = dict(self.host.windows)
         self.views = {number: view for number, view in self.views.items() if number in self.windows}
         self.fit()
-        self.turn_page()
+
+    def resized(self):
+        """The terminal has another size. Of many that follow each other the host is told the last one."""
+        if self.resizing:
+            self.resizing.cancel()
+        self.resizing = asyncio.get_running_loop().call_later(RESIZE_SECONDS, self.resizes_no_more)
+
+    def resizes_no_more(self):
+        self.resizing = None
+        self.tell_size()
+
+    def tell_size(self):
+        """Tells the host the terminal's size, where it is to be told. It is a move, which goes behind the one that is
+        under way, and behind the last page."""
+        size = self.game_size()
+        if self.host and not (self.busy or self.resizing) and self.mode in ("line", "char") and self.host.wants_size(size):
+            self.busy = True
+            self.app.create_background_task(self.asked(self.host.resize, (size,)))
 
     def fit(self):
-        """Puts the windows of the game on this terminal, whatever the size with which it was opened. (A game
-        that may change its size would be asked for it here.)"""
+        """Puts the windows of the game on this terminal, also where the game has another size."""
         columns, rows = self.size
         self.places = fitted(self.windows, columns, max(rows - 1, 1))
         for number, window in self.windows.items():
@@ -240,11 +274,18 @@ class Screen:
                 fresh.take(window)
                 if view:
                     fresh.seen = fresh.count() - 1
-                if view and view.end is not None and self.mode != "more":   # Who looks back stays about there.
+                if view and view.end is not None:       # Who reads on, or looks back, stays about there.
                     fresh.end = view.end * fresh.count() // view.count()
+                    fresh.seen = fresh.end if self.mode == "more" else fresh.seen
                 self.views[number] = fresh
             else:
                 view.take(window)
+
+    def show_page_again(self):
+        """Shows the page that a player reads, which ends where it did, or further down if all fits now."""
+        for number, view in self.views.items():
+            view.turn_back(self.places[number][3])
+        self.turn_page()
 
     def turn_page(self):
         """Shows the next page of each buffer, or waits for the player once all was shown."""
@@ -270,6 +311,7 @@ class Screen:
             self.turn_to("line")
             if not self.line.text:
                 self.line.document = Document(self.host.begun())
+        self.tell_size()
 
     def turn_to(self, mode):
         self.mode = mode
@@ -286,7 +328,8 @@ class Screen:
             if self.host:
                 self.fit()
                 if self.mode == "more":
-                    self.turn_page()
+                    self.show_page_again()
+            self.resized()
         canvas, place = Canvas(columns, rows), (rows - 1, 0)
         for number, window in sorted(self.windows.items()):
             if window.kind == GRID:

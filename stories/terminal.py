@@ -15,11 +15,15 @@ class Screen:
     """The characters of a VT52's screen, by row and column."""
 
     def __init__(self, columns, rows):
+        self.resize(columns, rows)
+        self.reader = codecs.getincrementaldecoder("utf-8")("replace")
+        self.pending = ""
+
+    def resize(self, columns, rows):
+        """Another size, on which nothing stands yet."""
         self.columns, self.rows = columns, rows
         self.x = self.y = 0
         self.cells = [[" "] * columns for _ in range(rows)]
-        self.reader = codecs.getincrementaldecoder("utf-8")("replace")
-        self.pending = ""
 
     def feed(self, data):
         self.pending += self.reader.decode(data)
@@ -101,10 +105,10 @@ class Program:
         self.screen = Screen(columns, rows)
         self.number, self.end = pty.fork()
         if self.number == 0:
+            resize(0, columns, rows)
             os.chdir(folder)
             os.environ.update(TERM="vt52", LANG="C.UTF-8", LC_ALL="C.UTF-8")
             os.execvp(words[0], words)
-        fcntl.ioctl(self.end, termios.TIOCSWINSZ, struct.pack("HHHH", rows, columns, 0, 0))
         number = struct.unpack("i", fcntl.ioctl(self.end, NUMBER_OF_TERMINAL, bytes(4)))[0]
         self.typed = os.open(f"/dev/pts/{number}", os.O_RDWR | os.O_NOCTTY)
         self.over = False
@@ -131,6 +135,8 @@ class Program:
 
     def read(self, seconds):
         """Reads what comes within this time; says whether something came."""
+        if self.over:
+            return False
         if not select.select([self.end], [], [], seconds)[0]:
             return False
         try:
@@ -160,6 +166,12 @@ class Program:
             self.wanted = self.has_read() + len(data)
             os.write(self.end, data)
 
+    def resize(self, columns, rows):
+        """The terminal has another size, of which the program is told by a signal."""
+        if not self.over:
+            resize(self.end, columns, rows)
+        self.screen.resize(columns, rows)
+
     def finish(self):
         """Waits for the end, and keeps what the program used."""
         if not self.over:
@@ -171,6 +183,10 @@ class Program:
     def peak(self):
         """The most memory that it held, in kilobytes."""
         return peak_of(self.number)
+
+
+def resize(end, columns, rows):
+    fcntl.ioctl(end, termios.TIOCSWINSZ, struct.pack("HHHH", rows, columns, 0, 0))
 
 
 def peak_of(number):

@@ -12,7 +12,7 @@ from aiohttp import WSMsgType
 from archive import IN_USE, SESSIONS, SPENT, Full, new_key, say
 from links import Strange, Unreached
 from remglk import Measure, Refused, Show, key_of, message_of, move_of, number_of, text_in, update_of, windows_of, with_earlier
-from watched import SHOWS_AT_ONCE, word_of
+from watched import MOST_SHOWS, last_shows, word_of
 
 from host import MOST_RECALLED, REFUSALS  # of stories/, which remglk puts on the path
 
@@ -255,8 +255,8 @@ class Browser:
         n, _ = reply.show
         if n > MOST_RECALLED:
             return
-        seen = await self.wait_for(self.host.watch(session, word_of(key), max(n + 1 - SHOWS_AT_ONCE, 0)), self.host)
-        shows = [lines for number, lines in seen.shows if number <= n]
+        seen = await self.wait_for(last_shows(self.host, session, word_of(key), n), self.host)
+        shows = [lines for _, lines in seen.shows]
         if shows and not seen.refusal:
             reply.shows = [(n, with_earlier([*shows[:-1], reply.show[1]]))]
 
@@ -342,7 +342,7 @@ class Browser:
             raise Refused(NO_GAME)
         self.host, session = place
         self.watched = self.gateway.watched_at(self.host, session, word)
-        self.unseen = asyncio.Queue(MOST_UNSEEN + SHOWS_AT_ONCE)
+        self.unseen = asyncio.Queue(MOST_UNSEEN + MOST_SHOWS)
         for seen in self.watched.shows:
             self.unseen.put_nowait(seen)
         self.watched.spectators.add(self)

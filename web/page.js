@@ -189,7 +189,7 @@ function note(text, isAlert = false) {
 
 function update(message) {
   tries = 0;
-  const first = isFirst;
+  const first = isFirst, hadPrompt = !$("file").hidden;
   isFirst = isArranging = false;
   if (first && game.watch) {
     // The last shows come again, of this game or of another one.
@@ -211,6 +211,8 @@ function update(message) {
     if (first) note("The game goes on.");
     if (!pending) lockInput(false);
   }
+  // A story that waits for a file's name takes no size: it is told the display's behind that.
+  if (hadPrompt && $("file").hidden) measured = "";
   if (pending && (first || !isSent)) sendPending();
   else if (!pending && measured !== JSON.stringify(measure())) arrange();
 }
@@ -242,10 +244,12 @@ function placeWindows(told) {
       $("windows").append(window.box);
     }
     const { box } = window;
+    const isAtEnd = box.scrollHeight - box.scrollTop - box.clientHeight < lineHeight(box);
     for (const side of ["left", "top", "width", "height"]) box.style[side] = `${one[side]}px`;
     if (one.type === "grid") {
       fitGrid(window, one);
     } else {
+      if (isAtEnd) box.scrollTop = box.scrollHeight;
       box.tabIndex = 0;
       box.setAttribute("role", "log");
       box.setAttribute("aria-live", one.id === buffers[0].id ? "polite" : "off");

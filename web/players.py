@@ -124,7 +124,7 @@ class Player:
 
     def __init__(self, client, address):
         self.client, self.address, self.gen, self.socket = client, address, 0, None
-        self.notes, self.game = [], None
+        self.notes, self.game, self.metrics = [], None, UNIT
 
     async def connect(self):
         self.socket = await self.client.ws_connect(self.address + "/socket", origin=self.address, max_msg_size=0)
@@ -154,7 +154,7 @@ class Player:
                 self.word = told["word"]
 
     async def init(self, **wanted):
-        await self.send({"type": "init", "gen": self.gen, "metrics": UNIT, **wanted})
+        await self.send({"type": "init", "gen": self.gen, "metrics": self.metrics, **wanted})
         return await self.read("update")
 
     async def begin(self, key=None, seed=1, title=None):
@@ -164,12 +164,18 @@ class Player:
         return await self.init(begin={"title": title or self.stories[0]["title"], "seed": seed, **more})
 
     async def give(self, event):
+        self.metrics = event.get("metrics", self.metrics)
         await self.send(event)
         return await self.read("update")
 
     async def close(self):
         if self.socket:
             await self.socket.close()
+
+
+def arrange_of(gen, columns, rows):
+    """The event of a display that has room for so many characters."""
+    return {"type": "arrange", "gen": gen, "metrics": {**UNIT, "width": columns, "height": rows}}
 
 
 def event_of(update, move):
@@ -189,6 +195,8 @@ def line_of(event):
     """The line of `run` for an event."""
     from host import escaped
 
+    if event["type"] == "arrange":
+        return f"SIZE {event['metrics']['width']} {event['metrics']['height']}"
     if event["type"] == "line":
         return f"LINE {event['window']} {escaped(event['value'])}"
     if event["type"] == "char":

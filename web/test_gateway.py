@@ -284,13 +284,14 @@ async def pages(client, gateway):
         await one.close()
 
 
-# Sizes and spectators, on a host that knows both
+# Sizes and spectators, before a stand-in
 
 class StandIn:
-    """A host of one story, which prints what it was given and its size. It knows the lines SIZE and WATCH."""
+    """A host of one story, which prints what it was given and its size. It knows the line WATCH, and SIZE unless told
+    otherwise."""
 
-    def __init__(self):
-        self.games = {}
+    def __init__(self, knows_size=True):
+        self.games, self.knows_size, self.sizes = {}, knows_size, 0
 
     async def start(self):
         self.server = await asyncio.start_server(self.serve, "127.0.0.1", 0)
@@ -310,6 +311,9 @@ class StandIn:
     def answer(self, line):
         word, s, key, *rest = line.split(" ")
         game = self.games.get(s)
+        self.sizes += word == "SIZE"
+        if word == "SIZE" and not self.knows_size:
+            return "NO 1\n"
         if word == "OPEN":
             if game and game["line"] != line:
                 return "NO 3\n"
@@ -356,6 +360,10 @@ def size_of(update):
     return [(one["gridwidth"], one["gridheight"]) for one in update["windows"] if one["type"] == "grid"][0]
 
 
+def places_in(update):
+    return [(one["left"], one["top"], one["width"], one["height"]) for one in update["windows"]]
+
+
 async def sizes(client):
     """A display that changes its size, on a host that knows SIZE."""
     host = StandIn()
@@ -367,8 +375,7 @@ async def sizes(client):
         small = {"width": 401, "height": 300, "gridcharwidth": 10, "gridcharheight": 20, "gridmarginx": 1, "gridmarginy": 20}
         now = await player.give({"type": "arrange", "gen": 1, "metrics": small})
         want("the update of a size", (now["gen"], size_of(now)), (2, (40, 1)))
-        want("where its windows are", [(one["left"], one["top"], one["width"], one["height"]) for one in now["windows"]],
-             [(0, 40, 401, 260), (0, 0, 401, 40)])  # fmt: skip
+        want("where its windows are", places_in(now), [(0, 40, 401, 260), (0, 0, 401, 40)])
         want("since when the line is asked for", now["input"][0]["gen"], 1)
         again = await player.give({"type": "arrange", "gen": 2, "metrics": small})
         want("the same size again", (again["gen"], "content" in again), (2, False))
@@ -384,6 +391,25 @@ async def sizes(client):
         back = await connected(client, gateway)
         back.gen = 4
         want("a display that comes back", (await back.init(resume={"game": player.game, "key": "k"}))["gen"], 4)
+    finally:
+        gateway.kill()
+        host.server.close()
+
+
+async def no_sizes(client):
+    """The same on a host of before: it is asked once, and its games keep their screen."""
+    host = StandIn(knows_size=False)
+    gateway = players.Gateway(await host.start())
+    try:
+        player = await connected(client, gateway)
+        await player.begin("k")
+        for width in (400, 500):
+            metrics = {"width": width, "height": 240, "charwidth": 10, "charheight": 20}
+            now = await player.give({"type": "arrange", "gen": 1, "metrics": metrics})
+            want("a size on a host of before", (now["gen"], size_of(now), "content" in now), (1, (80, 1), False))
+            want("where its windows are", places_in(now), [(0, 10, width, 230), (0, 0, width, 10)])
+        moved = await player.give({"type": "line", "gen": 1, "window": 1, "value": "go"})
+        want("a move behind it", (moved["gen"], size_of(moved), host.sizes), (2, (80, 1), 1))
     finally:
         gateway.kill()
         host.server.close()
@@ -421,28 +447,36 @@ async def spectators(client):
 
 
 async def known(client, gateway):
-    """A display of another size, one that comes back and a spectator. Where the host doesn't know SIZE the screen stays."""
+    """On the host itself a display of other sizes, also where a file's name is waited for; one that comes back, and a
+    spectator."""
     player = await connected(client, gateway)
     updates = [await player.begin(KEY + "s")]
-    small = {"width": 40, "height": 12, "charwidth": 1, "charheight": 1}
-    now = await player.give({"type": "arrange", "gen": 1, "metrics": small})
-    if now["gen"] == 2:
+    updates.append(await player.give(players.arrange_of(1, 40, 12)))
+    want("a size", (updates[1]["gen"], size_of(updates[1])), (2, (40, 1)))
+    window = updates[0]["input"][0]["id"]
+    want("the line that is asked for", (updates[1]["input"][0]["id"], updates[1]["input"][0]["gen"]), (window, 1))
+    for text in ("look", "save"):
+        updates.append(await player.give({"type": "line", "gen": updates[-1]["gen"], "window": window, "value": text}))
+    now = await player.give(players.arrange_of(4, 60, 20))
+    want("a size at a prompt", (now["gen"], "content" in now), (4, False))
+    updates.append(await player.give({"type": "specialresponse", "gen": 4, "response": "fileref_prompt", "value": "first"}))
+    updates.append(await player.give(players.arrange_of(5, 60, 20)))
+    want("a size behind it", (updates[-1]["gen"], size_of(updates[-1])), (6, (60, 1)))
+    for gen in range(6, 16):
+        now = await player.give(players.arrange_of(gen, 60 + gen, 20))
+        want("many sizes", (now["gen"], size_of(now)), (gen + 1, (60 + gen, 1)))
         updates.append(now)
-    else:
-        want("a size on a host of before", (size_of(now), now["windows"][1]["width"]), (size_of(updates[0]), 40))
-    for text in ("look", "inventory"):
-        line = {"type": "line", "gen": updates[-1]["gen"], "window": updates[0]["input"][0]["id"], "value": text}
-        updates.append(await player.give(line))
+    updates.append(await player.give({"type": "line", "gen": 16, "window": window, "value": "inventory"}))
     other = await connected(client, gateway)
     back = await other.init(resume={"game": player.game, "key": KEY + "s"})
     want("the number of a display that is new", back["gen"], updates[-1]["gen"])
     want("the text of a display that is new", text_of(back), text_of(*updates))
     spectator = await connected(client, gateway)
-    await spectator.send({"type": "init", "gen": 0, "metrics": small, "watch": {"game": player.game, "word": player.word}})
+    await spectator.send({"type": "init", "gen": 0, "metrics": UNIT, "watch": {"game": player.game, "word": player.word}})
     for wanted in updates:
         got = await spectator.read("update")
         want("what a spectator sees", (got["gen"], got["content"]), (wanted["gen"], wanted["content"]))
-    return f"a spectator saw the same; this host {'knows' if now['gen'] == 2 else 'does not know'} SIZE"
+    return "sizes of a display came to its story, and a spectator saw the same"
 
 
 async def run(asked, room):
@@ -459,6 +493,7 @@ async def run(asked, room):
             await restart(client, guarded, other)
             await pages(client, guarded)
             await sizes(client)
+            await no_sizes(client)
             await spectators(client)
             said_known = await known(client, guarded)
     finally:

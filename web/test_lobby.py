@@ -107,9 +107,10 @@ def links(page, game, archive, pictures):
             other.submit("link", text=link)
             other.wait(f"{link} is refused", lambda: other.note() == told)
         other.submit("link", text=own)
-        other.wait("the game is there", other.is_ready)
+        other.wait("the game is there, and has its size", lambda: other.gen() == page.gen() + 1 and other.is_ready())
         back = Game(other, game.run)
         back.whole = False
+        back.measured()
         back.look("coming back by the link")
         back.give("inventory")
         if "#" in other.driver.current_url or other.complaints():
@@ -127,6 +128,7 @@ def run(asked, room):
         by_keyboard(page, HOUSE)
         page.wait("the story is begun", page.is_ready)
         game = Game(page, Run(str(COTTAGE), str(asked.program)))
+        game.measured()
         game.look("begin")
         play(page, game, archive, asked.pictures)
         key = links(page, game, archive, asked.pictures)

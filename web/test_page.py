@@ -4,20 +4,18 @@
     web/test_page.py [PROGRAM] [--pictures FOLDER]
 
 Begins the game from the menu and gives the moves of stories/cottage.moves by the keyboard, menu windows among
-them, and between them a saved game that is restored. On the way the display's size changes, the host is killed
-with a move under way and started again, so is the gateway, the page is loaded anew and comes back from its menu,
-and meanwhile a second browser watches. What the program doesn't know, other sizes of the screen, is tried on the
-stand-in of test_gateway.py. The Workbench is played too. Behind each move every window of the page must have the text of `run`. Then the
+them, and between them a saved game that is restored. On the way the display's size changes, under a line that is half
+typed and where a file's name is waited for, too; the host is killed with a move under way and started again, so is the
+gateway, the page is loaded anew and comes back from its menu, and meanwhile a second browser watches. The Workbench is
+played too. Behind each move every window of the page must have the text of `run`, which is told the same sizes. Then the
 game is ended, and the story's text may not have become markup. With --pictures it leaves pictures of three sizes.
 Wants Debian's chromium, chromium-driver, python3-selenium and python3-aiohttp. It ends with 1 where something
 is otherwise."""
 
 import argparse
-import asyncio
 import pathlib
 import sys
 import tempfile
-import threading
 import time
 
 from players import COTTAGE, PROGRAM, TOP, Gateway, Host, Otherwise, read_moves
@@ -31,7 +29,7 @@ except ImportError:
     sys.exit("test_page: apt-get install chromium chromium-driver python3-selenium, and run it with /usr/bin/python3")
 
 from host import Host as Run  # noqa: E402
-from test_gateway import StandIn  # noqa: E402
+from remglk import Measure  # noqa: E402
 
 SECONDS = 60
 NAMES = {"{Return}": Keys.RETURN, "{Space}": Keys.SPACE, "{Up}": Keys.UP, "{Down}": Keys.DOWN, "{Escape}": Keys.ESCAPE}
@@ -48,6 +46,13 @@ return [...document.querySelectorAll("#windows .window")].map((box) => ({
   text: box.classList.contains("grid") ? [...box.children].map((line) => line.textContent).join("\\n")
     : [...box.querySelectorAll("p:not(.aside)")].map((line) => line.textContent).join("\\n"),
   left: box.offsetLeft, top: box.offsetTop, width: box.offsetWidth, height: box.offsetHeight}));
+"""
+# Whether the field of a line, where there is one, is inside its window.
+IS_PROMPT_SEEN = """
+const field = document.querySelector("#windows .buffer input");
+if (!field) return true;
+const place = field.getBoundingClientRect(), box = field.closest(".window").getBoundingClientRect();
+return place.top >= box.top - 1 && place.bottom <= box.bottom + 1;
 """
 
 
@@ -152,6 +157,20 @@ class Game:
         page.wait(f"move {move!r} is answered", lambda: page.gen() > before)
         self.look(move)
 
+    def size(self, size):
+        """The display has another size, which is a move."""
+        before = self.page.gen()
+        resized(self.page, size)
+        self.measured()
+        self.look("another size")
+        if self.page.gen() != before + 1:
+            raise Otherwise(f"a display of {size} took {self.page.gen() - before} moves")
+
+    def measured(self):
+        """`run` gets the screen that the display has."""
+        measure = Measure(self.page.driver.execute_script("return measure()"))
+        self.run.put("SIZE", f"{measure.columns} {measure.rows}")
+
     def look(self, move):
         """Whether each window of the page has what `run` shows. A page that was loaded anew has of a
         buffer what came since."""
@@ -190,6 +209,8 @@ def resized(page, size):
     time.sleep(0.6)
     page.wait("the page has told its size", page.is_ready)
     look_at_places(page, size)
+    if not page.driver.execute_script(IS_PROMPT_SEEN):
+        raise Otherwise(f"at {size} the line that is typed is out of sight")
 
 
 def links_of(page):
@@ -254,6 +275,20 @@ def by_link(page, game):
         raise Otherwise(f"the address is {page.driver.current_url}")
 
 
+def size_at_a_prompt(page, game):
+    """A story that waits for a file's name takes no size, and is told it behind the name."""
+    game.give("save")
+    before = page.gen()
+    resized(page, MIDDLE)
+    if page.gen() != before:
+        raise Otherwise("a size was taken where a file's name is waited for")
+    game.give("second")
+    page.wait("the size is told behind the name", lambda: page.gen() == before + 2 and page.is_ready())
+    game.measured()
+    game.look("a size behind a prompt")
+    game.size(LARGE)
+
+
 def play(address, host, gateway, story, program, pictures):
     pages = [Page(address, LARGE)]
     try:
@@ -271,6 +306,7 @@ def play_in(pages, address, host, gateway, story, program, pictures):
     by_keyboard(page, "The Well House")
     page.wait("the story is begun", page.is_ready)
     game = Game(page, run)
+    game.measured()
     game.look("begin")
     key = links_of(page)[0].rpartition("/")[2]
     moves = read_moves(TOP / "stories" / "cottage.moves")
@@ -289,9 +325,14 @@ def play_in(pages, address, host, gateway, story, program, pictures):
             for other in SAVED:
                 game.give(other)
             page.picture(pictures, "large")
+        if at == 8:
+            size_at_a_prompt(page, game)
         if at == 12:
-            resized(page, PHONE)
-            game.look("a smaller size")
+            page.type("half a line")
+            game.size(PHONE)
+            if page.driver.switch_to.active_element.get_attribute("value") != "half a line":
+                raise Otherwise("what was typed is gone behind another size")
+            page.blank()
         if at == 14:
             page.picture(pictures, "phone")
             pages.append(watch(address, page))
@@ -305,7 +346,7 @@ def play_in(pages, address, host, gateway, story, program, pictures):
         if at == 22:
             meanwhile = stop_host
         if at == 30:
-            resized(page, MIDDLE)
+            game.size(MIDDLE)
             page.dark(True)
             page.picture(pictures, "middle")
             page.dark(False)
@@ -321,7 +362,7 @@ def play_in(pages, address, host, gateway, story, program, pictures):
             game.look("the page's coming back")
             by_link(page, game)
         if at == 46:
-            resized(page, LARGE)
+            game.size(LARGE)
         before = page.gen()
         game.give(move, meanwhile)
         if page.gen() != before + 1:
@@ -370,45 +411,6 @@ def play_workbench(address, program):
         page.driver.quit()
 
 
-def known_by_stand_in():
-    """Sizes and spectators in browsers, before a stand-in that knows SIZE and WATCH."""
-    host, loop = StandIn(), asyncio.new_event_loop()
-    threading.Thread(target=loop.run_forever, daemon=True).start()
-    port = asyncio.run_coroutine_threadsafe(host.start(), loop).result()
-    gateway, pages = Gateway(port, "--story", "A stand-in"), []
-    try:
-        pages.append(Page(gateway.address, LARGE))
-        page = pages[0]
-        see_menu(page)
-        by_keyboard(page, "A stand-in")
-        page.wait("the story is begun", page.is_ready)
-        page.type("one" + Keys.RETURN)
-        page.wait("a move is answered", lambda: page.gen() == 2)
-        pages.append(watch(gateway.address, page))
-        second = pages[1]
-        page.type("half")
-        for gen, size in ((3, PHONE), (4, MIDDLE)):
-            resized(page, size)
-            page.wait("the host knows the size", lambda: page.gen() == gen)
-            look_at_places(page, size)
-            if page.driver.switch_to.active_element.get_attribute("value") != "half":
-                raise Otherwise("what was typed is gone behind another size")
-        page.type(" of it" + Keys.RETURN)
-        page.wait("a move behind the sizes is answered", lambda: page.gen() == 5)
-        second.wait("the spectator sees the last move", lambda: second.gen() == 5)
-        texts = [[window["text"] for window in one.windows() if window["type"] == "buffer"] for one in pages]
-        wanted = "begun\n>LINE one\n>SIZE \n>SIZE \n>LINE half%20of%20it\n>".replace("%20", " ")
-        if texts != [[wanted], [wanted]]:
-            raise Otherwise(f"the player and the spectator see {texts}")
-        if second.driver.find_elements(By.CSS_SELECTOR, "#windows input"):
-            raise Otherwise("a spectator is asked for a move")
-        return "before a stand-in two sizes and a spectator"
-    finally:
-        for page in pages:
-            page.driver.quit()
-        gateway.kill()
-
-
 def main():
     words = argparse.ArgumentParser(usage=__doc__)
     words.add_argument("program", nargs="?", default=PROGRAM, type=pathlib.Path)
@@ -418,7 +420,6 @@ def main():
         host = Host(pathlib.Path(room) / "d", [COTTAGE, WORKBENCH], program=asked.program.resolve())
         gateway = Gateway(host.port, "--story", "The Well House", "--story", "The Workbench")
         try:
-            known = known_by_stand_in()
             others = play_workbench(gateway.address, asked.program.resolve())
             moves, key = play(gateway.address, host, gateway, COTTAGE, asked.program.resolve(), asked.pictures)
         except (Otherwise, WebDriverException) as cause:
@@ -431,7 +432,7 @@ def main():
         print("test_page: the gateway's log has a key")
         return 1
     print(f"test_page: {moves} moves to The Well House's end and {others} to The Workbench's, as by `run`, "
-          f"and a spectator saw the same through stops of host and gateway; {known}")  # fmt: skip
+          "and a spectator saw the same through five sizes of the display, and stops of host and gateway")  # fmt: skip
     return 0
 
 

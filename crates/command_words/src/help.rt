@@ -75,6 +75,7 @@ Each line of input is the player's next move:
   LINE id =text                 a line that was typed in window id
   CHAR id code                  a key that was pressed in window id
   FILE =name                    the name of a file
+  SIZE width height             the screen has this size from now on
 It is answered by the next turn, or by a line that begins with NO:
   NO 1 it isn't understood, NO 8 the story doesn't wait for it, NO 14 too long
 ";
@@ -126,10 +127,13 @@ the player chooses, and N counts the session's moves from 1:
   LINE S key N id =text                 a line that was typed in window id
   CHAR S key N id code                  a key that was pressed in window id
   FILE S key N =name                    the name of a file
+  SIZE S key N width height             the screen has this size from now on
   LAST S key                            show the last turn again
   CLOSE S key N                         end the game
+  WATCH S word from                     show up to eight turns to a spectator
 Each is answered by the line SHOW S N, the turn as `run` writes it and the line
-`.`, or by a line NO with a number. A repeated request is played once.
+`.`, or by a line NO with a number; WATCH by the line SEEN S from to and then
+those turns. A repeated request is played once.
 ";
 
 /// What `serve` does.

@@ -9,12 +9,13 @@ use std::sync::Wait;
 use std::thread::Threads;
 
 /// What is done to a journal: the lines that it has rows of, whether a byte that is neither 0 nor 1
-/// stands at the gate of its second row, and the lines that a host then answers over a disk whose
-/// calls fail.
+/// stands at the gate of its second row, whether it is of version 1, and the lines that a host then
+/// answers over a disk whose calls fail.
 pub struct Work {
     pub name: &'static str,
     before: &'static str,
     torn: bool,
+    older: bool,
     lines: &'static str,
 }
 
@@ -24,36 +25,64 @@ const OPEN_AND_LINE: &str = "OPEN 0 k1 0 7 80 24\nLINE 0 k1 1 1 =go\n";
 
 const GATE: u64 = 76;
 
-pub const WORKS: [Work; 5] = [
+const VERSION: u64 = 8;
+
+pub const WORKS: [Work; 8] = [
     Work {
         name: "open",
         before: OPEN_AND_LINE,
         torn: false,
+        older: false,
         lines: "LAST 0 k1\n",
     },
     Work {
         name: "close",
         before: OPEN_AND_LINE,
         torn: true,
+        older: false,
         lines: "LAST 0 k1\n",
     },
     Work {
         name: "append",
         before: OPEN,
         torn: false,
+        older: false,
         lines: "LINE 0 k1 1 1 =go\n",
     },
     Work {
         name: "append-two",
         before: OPEN,
         torn: false,
+        older: false,
         lines: "LINE 0 k1 1 1 =go\nOPEN 1 k2 0 7 80 24\n",
     },
     Work {
         name: "append-three",
         before: OPEN,
         torn: false,
+        older: false,
         lines: "LINE 0 k1 1 1 =go\nOPEN 1 k2 0 7 80 24\nOPEN 1 k2 0 7 80 24\n",
+    },
+    Work {
+        name: "migrate",
+        before: OPEN_AND_LINE,
+        torn: false,
+        older: true,
+        lines: "LAST 0 k1\n",
+    },
+    Work {
+        name: "close-migrate",
+        before: OPEN_AND_LINE,
+        torn: true,
+        older: true,
+        lines: "LAST 0 k1\n",
+    },
+    Work {
+        name: "migrate-append",
+        before: OPEN,
+        torn: false,
+        older: true,
+        lines: "LINE 0 k1 1 1 =go\n",
     },
 ];
 
@@ -69,6 +98,9 @@ fn journal_of<R: Threads + Wait + Sync>(
     };
     let mut disk = answer(rt, alloc, disk, work.before)?.disk;
     if work.torn && (disk.write_at(GATE, &[7]).is_err() || disk.sync().is_err()) {
+        return Err(AllocError);
+    }
+    if work.older && (disk.write_at(VERSION, &[0]).is_err() || disk.sync().is_err()) {
         return Err(AllocError);
     }
     disk.after_stop(alloc, 0)
@@ -103,8 +135,16 @@ fn told_after<R: Threads + Wait + Sync>(
     Ok(format!(in alloc; "{told}, {size} bytes")?)
 }
 
-/// What a host answers over the failing disk, and what others answer over the image that a stop
-/// then leaves: to `LAST`, and to the LINE with the same text and with another one.
+/// The byte of a disk that tells its journal's version.
+fn version_of(alloc: Global, disk: &MemDisk) -> Result<u8, AllocError> {
+    let mut version = [0];
+    let _ = disk.after_stop(alloc, 0)?.read_at(VERSION, &mut version);
+    Ok(version[0])
+}
+
+/// What a host answers over the failing disk, what tells the version of the image that a stop then
+/// leaves, and what others answer over that: to `LAST`, and to the LINE with the same text and with
+/// another one.
 pub fn outcome<R: Threads + Wait + Sync>(
     rt: &R,
     alloc: Global,
@@ -121,5 +161,6 @@ pub fn outcome<R: Threads + Wait + Sync>(
     let last = told_after(rt, alloc, &image, "LAST 0 k1\nLAST 1 k2\n")?;
     let same = told_after(rt, alloc, &image, "LINE 0 k1 1 1 =go\n")?;
     let other = told_after(rt, alloc, &image, "LINE 0 k1 1 1 =no\n")?;
-    Ok(format!(in alloc; "{first}; {last}; {same}; {other}")?)
+    let version = version_of(alloc, &image)?;
+    Ok(format!(in alloc; "{first}; version byte {version}; {last}; {same}; {other}")?)
 }

@@ -181,8 +181,12 @@ fn a_new_journal_has_17_bytes(rt: HostRuntime) {
 }
 
 // A byte put at a place, and the refusal that follows.
-const SPOILED: [(u64, u8, Option<JournalFault>); 4] = [
+const SPOILED: [(u64, u8, Option<JournalFault>); 8] = [
     (0, 0, Some(JournalFault::NotJournal)),
+    (8, 0, None),
+    (8, 255, None),
+    (9, 1, Some(JournalFault::NotJournal)),
+    (15, 1, Some(JournalFault::NotJournal)),
     (78, 9, Some(JournalFault::Corrupt(76))),
     (91, 1, Some(JournalFault::Corrupt(91))),
     (91, 2, None),
@@ -192,6 +196,87 @@ const SPOILED: [(u64, u8, Option<JournalFault>); 4] = [
 fn bytes_that_spell_no_rows_are_refused(rt: HostRuntime) -> Result<(), Fail> {
     for (place, byte, refusal) in SPOILED {
         assert_eq!(rt; spoiled(rt.alloc(), place, byte)?, refusal);
+    }
+    Ok(())
+}
+
+// The disk of a journal with a row of this command behind the OPEN, at 76.
+fn with_size(alloc: Global) -> Result<MemDisk, Fail> {
+    let mut journal = begun(alloc, 1000)?;
+    let size = Command::Size { cols: 40, rows: 10 };
+    if added(alloc, &mut journal, 0, &size)? != Ok(76) {
+        return Err("the SIZE".into());
+    }
+    Ok(Box::into_inner(journal).into_disk())
+}
+
+const SIZE: [u8; 16] = [1, 0, 6, 0, 2, 40, 10, 0, 0, 0, 0, 0, 0, 0, 0, 0];
+
+// Whether the SIZE is the last of 84 bytes.
+fn has_size(disk: &mut MemDisk) -> Result<bool, Fail> {
+    Ok(disk.size() == Ok(84) && tail(disk, 76)? == SIZE)
+}
+
+// The refusal of that journal, where this byte tells its version.
+fn sized(alloc: Global, version: u8) -> Result<Option<JournalFault>, Fail> {
+    let mut disk = with_size(alloc)?;
+    disk.write_at(8, &[version]).ok().ok_or("write")?;
+    Ok(refused(alloc, disk))
+}
+
+#[test]
+fn a_size_has_a_row_in_version_2_alone(rt: HostRuntime) -> Result<(), Fail> {
+    assert!(rt; has_size(&mut with_size(rt.alloc())?)?);
+    for version in [0, 2, 255] {
+        assert_eq!(rt;
+            sized(rt.alloc(), version)?,
+            Some(JournalFault::Corrupt(76))
+        );
+    }
+    Ok(())
+}
+
+// A disk of which no call was made, with a journal of version 1: of two rows, the LINE behind a
+// gate of this byte.
+fn older(alloc: Global, gate: u8) -> Result<MemDisk, Fail> {
+    let mut disk = Box::into_inner(two_rows(alloc, 1000)?).into_disk();
+    disk.write_at(8, &[0]).ok().ok_or("write")?;
+    disk.write_at(76, &[gate]).ok().ok_or("write")?;
+    disk.sync().ok().ok_or("sync")?;
+    Ok(disk.after_stop(alloc, 0)?)
+}
+
+// The disk behind an opening.
+fn behind_opening(alloc: Global, disk: MemDisk) -> MemDisk {
+    match Journal::open(alloc, disk) {
+        Ok(journal) => journal.into_disk(),
+        Err((_, disk)) => disk,
+    }
+}
+
+// Whether an opening of it, where this call fails, leaves so many rows after a stop, and the next
+// opening makes it one of version 2.
+fn is_migrated(alloc: Global, gate: u8, fails: u64, choice: u64, rows: u64) -> Result<bool, Fail> {
+    let mut disk = older(alloc, gate)?;
+    disk.fail_at(fails)?;
+    let left = behind_opening(alloc, disk).after_stop(alloc, choice)?;
+    let journal = opened(alloc, left)?;
+    let found = journal.row_count();
+    let mut disk = Box::into_inner(journal).into_disk();
+    Ok(found == rows && tail(&mut disk, 0)?[8] == 1)
+}
+
+// The gate of the LINE, the calls of the opening, and how many rows it has.
+const MIGRATIONS: [(u8, u64, u64); 2] = [(1, 5, 2), (7, 7, 1)];
+
+#[test]
+fn a_stop_in_a_migration_leaves_the_rows(rt: HostRuntime) -> Result<(), Fail> {
+    for choice in 0..32 {
+        for (gate, calls, rows) in MIGRATIONS {
+            for fails in 0..=calls {
+                assert!(rt; is_migrated(rt.alloc(), gate, fails, choice, rows)?);
+            }
+        }
     }
     Ok(())
 }

@@ -7,14 +7,12 @@ use Rattle.std.proofs.lemmas.Bool.Decides.{nat_tests}
 use Rattle.std.specs.List.{Contains}
 use Rattle.turn_cell.specs.History.{Each}
 use Rattle.turn_cell.proofs.HistoryLemmas.{each_append, each_map}
-use Rattle.gate_journal.specs.Log.{MayFind, MayOpen}
-use Rattle.gate_journal.specs.Gate.{IsShut}
+use Rattle.gate_journal.specs.Log.{MayFind, MayOpen, StandsInEither}
 use Rattle.gate_journal.specs.Rows.{IsJournal, IsNext, SpellsRows, commands_of, journal_bytes}
-use Rattle.gate_journal.specs.Rows.{row_body}
 use Rattle.gate_journal.specs.declared.command.Command.{Command}
 use Rattle.gate_journal.specs.declared.row.Row.{Row}
-use Rattle.gate_journal.proofs.LogLemmas.{closed_shut}
 use Rattle.gate_journal.proofs.RowLemmas.{journal_push, one_list, opens, spells_not_open}
+use Rattle.gate_journal.proofs.RowLemmas.{spells_shut}
 use Rattle.gate_journal.proofs.StopLemmas.{finds_rows, found_in}
 use Rattle.story_run.specs.declared.story.Story.{Story}
 use Rattle.folder_runs.specs.Folder.{AgreeWith, FolderImage}
@@ -61,14 +59,13 @@ all_kept_on stories rows more shows kept =
 -- what an opening may meet has the rows, or these and the row behind their open gate
 settled : (rows : List Row) (c : List ℕ) → IsJournal rows → MayOpen rows c
     → SpellsRows c rows
-    ⊎ ((r : Row) × IsNext rows r × IsShut (journal_bytes (rows ++ r ∷ [])) c)
-settled rows c journal (inl shut) = inl (closed_shut rows c journal shut).spells
+    ⊎ ((r : Row) × IsNext rows r × StandsInEither (rows ++ r ∷ []) None c)
+settled rows c journal (inl shut) = inl (spells_shut rows c journal shut)
 settled rows c journal (inr (r, next, unsure)) =
     elim (cases_eq (get_or c (length (journal_bytes rows)) 0) 1) [
       | inl is_open ↦ inr (r, next, opens rows r c unsure is_open)
       | inr shut ↦
-          inl (spells_not_open rows (row_body r ++ 0 ∷ []) c journal unsure shut
-          (omega (arith, unsure.behind.within)))
+          inl (spells_not_open rows r c journal unsure shut)
     ]
 
 pub keeps : (stories : List Story) (folder : FolderImage) (rows : List Row) (shows : List Shown)
@@ -89,7 +86,7 @@ keeps stories folder rows shows journal may agree kept =
       }
       | inr (r, next, shut) ↦
           let all = journal_push rows r journal next in
-          let spells = (closed_shut (rows ++ r ∷ []) folder.journal all shut).spells in record {
+          let spells = spells_shut (rows ++ r ∷ []) folder.journal all shut in record {
             rows = rows ++ r ∷ [];
             journal = all;
             spells = spells;

@@ -1,6 +1,7 @@
 pub mod LimitLemmas
 pub mod PayloadLemmas
 pub mod Steps
+pub mod VersionLemmas
 pub mod RowLemmas
 pub mod CorruptLemmas
 pub mod LogLemmas

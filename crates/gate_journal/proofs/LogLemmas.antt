@@ -10,10 +10,12 @@ use Rattle.gate_journal.specs.declared.entry.Entry.{Entry}
 use Rattle.gate_journal.specs.declared.entry.Entry.TheVariants.{Kept, Faulted}
 use Rattle.gate_journal.specs.Gate.{IsShut, IsUnsure}
 use Rattle.gate_journal.specs.Rows.{row_body, journal_bytes, IsJournal, IsNext}
-use Rattle.gate_journal.specs.Log.{rows_of, rows_kept, Rises, StandsInImage}
+use Rattle.gate_journal.specs.Rows.{journal_front, version_byte}
+use Rattle.gate_journal.specs.Log.{rows_of, rows_kept, Rises, StandsInEither, StandsInImage}
 use Rattle.gate_journal.specs.Log.{IsClosedWell, MaySpell, MayOpen}
 use Rattle.gate_journal.proofs.RowLemmas.{shut_zero, spells_shut, spells_not_open}
 use Rattle.gate_journal.proofs.RowLemmas.{opens, journal_push, spelled-push}
+use Rattle.gate_journal.proofs.VersionLemmas.{are_front, stands_either}
 
 pub rises-kept : (entries : List Entry) (r : Row) (low high now : ℕ)
     → Rises low entries high → high ≤ now
@@ -32,37 +34,51 @@ rises-faulted (Kept x ∷ entries) r from to low rises le rose =
 rises-faulted (Faulted q f t ∷ entries) r from to low rises le rose =
     (rises.0, rises.1, rises.2, rises-faulted entries r from to t rises.3 le rose)
 
-pub closed_shut : (rows : List Row) (c : List ℕ)
-    → IsJournal rows → IsShut (journal_bytes rows) c
-    → IsClosedWell rows c
-closed_shut rows c all shut = record {
-  spells = spells_shut rows c all shut;
-  gate = inl (shut_zero (journal_bytes rows) c shut);
+-- what is spelled where rows and a closed gate stand
+well_shut : (rows : List Row) (c : List ℕ)
+    → IsJournal rows → StandsInEither rows None c → IsClosedWell rows c
+well_shut rows c all stands = record {
+  spells = spells_shut rows c all stands;
+  gate = inl (shut_zero (journal_front (version_byte c) rows) c stands.1);
 }
 
--- both, exactly where the gate is open
-pub closed_unsure : (rows : List Row) (r : Row) (c : List ℕ)
-    → IsJournal rows → IsNext rows r
-    → IsUnsure (journal_bytes rows) (row_body r ++ 0 ∷ []) c
-    → IsClosedWell rows c ⊎ IsClosedWell (rows ++ r ∷ []) c
-closed_unsure rows r c all next unsure =
+-- and where nothing is known of the gate: with the row behind it exactly where it is open
+pub closed_either : (rows : List Row) (uncertain : Option Row) (c : List ℕ)
+    → IsJournal rows → IfSome uncertain (IsNext rows)
+    → StandsInEither rows uncertain c → MaySpell rows uncertain c
+closed_either rows None c all next stands = well_shut rows c all stands
+closed_either rows (Some r) c all next stands =
     elim (cases_eq (get_or c (length (journal_bytes rows)) 0) 1) [
       | inl is_open ↦
-          inr (closed_shut (rows ++ r ∷ []) c (journal_push rows r all next)
-          (opens rows r c unsure is_open))
+          inr (well_shut (rows ++ r ∷ []) c (journal_push rows r all next)
+          (opens rows r c stands is_open))
       | inr shut ↦ inl (record {
-        spells =
-            spells_not_open rows (row_body r ++ 0 ∷ []) c all unsure shut
-            (omega (arith, unsure.behind.within));
-        gate = inr (r, next, unsure.behind);
+        spells = spells_not_open rows r c all stands shut;
+        gate = inr (
+          r,
+          next,
+          (are_front (version_byte c) rows r stands.0).1,
+          stands.1.behind,
+        );
       })
     ]
 
 pub stands_well : (rows : List Row) (uncertain : Option Row) (c : List ℕ)
     → IsJournal rows → IfSome uncertain (IsNext rows)
     → StandsInImage rows uncertain c → MaySpell rows uncertain c
-stands_well rows None c all next stands = closed_shut rows c all stands
-stands_well rows (Some r) c all next stands = closed_unsure rows r c all next stands
+stands_well rows uncertain c all next stands =
+    closed_either rows uncertain c all next (stands_either rows uncertain c stands)
+
+pub closed_shut : (rows : List Row) (c : List ℕ)
+    → IsJournal rows → IsShut (journal_bytes rows) c
+    → IsClosedWell rows c
+closed_shut rows c all shut = stands_well rows None c all tt shut
+
+pub closed_unsure : (rows : List Row) (r : Row) (c : List ℕ)
+    → IsJournal rows → IsNext rows r
+    → IsUnsure (journal_bytes rows) (row_body r ++ 0 ∷ []) c
+    → IsClosedWell rows c ⊎ IsClosedWell (rows ++ r ∷ []) c
+closed_unsure rows r c all next unsure = stands_well rows (Some r) c all next unsure
 
 -- the end behind one row more
 pub end_push : (rows : List Row) (r : Row) (end : ℕ)
@@ -88,8 +104,9 @@ rises-all (r ∷ rows) low high le = rises-all rows low high le
 pub stands_closed : (rows : List Row) (uncertain : Option Row) (c : List ℕ)
     → IfSome uncertain (IsNext rows)
     → StandsInImage rows uncertain c → MayOpen rows c
-stands_closed rows None c next stands = inl stands
-stands_closed rows (Some r) c next stands = inr (r, next, stands)
+stands_closed rows None c next stands = inl (stands_either rows None c stands)
+stands_closed rows (Some r) c next stands =
+    inr (r, next, stands_either rows (Some r) c stands)
 
 -- the repair of a gate that is uncertain, said of the rows
 pub repaired :

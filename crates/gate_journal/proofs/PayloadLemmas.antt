@@ -12,6 +12,7 @@ use Rattle.std.proofs.lemmas.Nat.{be_bytes_2, be_bytes_4, be_bytes_8}
 use Rattle.std.proofs.lemmas.List.{take_at, drop_at, append-nil, length-take}
 use Rattle.std.proofs.lemmas.List.{length-drop, get_or-take, get_or-drop, get_or_past}
 use Rattle.std.proofs.lemmas.List.{take-append-drop, drop-drop, take_all, drop_more}
+use Rattle.std.proofs.lemmas.List.{nil_from_length}
 use Rattle.std.proofs.lemmas.Bool.{cases_lt}
 use Rattle.byteorder.specs.Endian.{big_number}
 use Rattle.byteorder.specs.Numbers.{big_number-reads_back, big_from-take}
@@ -22,9 +23,11 @@ use Rattle.story_text.specs.Text.{IsText, is_short}
 use Rattle.story_text.specs.Reading.{text_of_bytes}
 use Rattle.gate_journal.specs.declared.command.Command.{Command}
 use Rattle.gate_journal.specs.declared.command.Command.TheVariants.{Open, Line, Char, File, Close}
+use Rattle.gate_journal.specs.declared.command.Command.TheVariants.{Size}
 use Rattle.gate_journal.specs.Command.{IsCommand}
 use Rattle.gate_journal.specs.Rows.{command_kind, payload_of}
 use Rattle.gate_journal.specs.Payload.{IsPayload, IsNoPayload, open_in, line_in, char_in, file_in}
+use Rattle.gate_journal.specs.Payload.{screen_in}
 
 -- the last number is read again
 last : (k n : ℕ) → n < 256 ^ k → big_number k (bytes_high_first k n) ≡ n
@@ -60,6 +63,11 @@ only_file p c is = absurd (omega (arith, is.number))
 pub only_close : (p : List ℕ) (c : Command) → IsPayload 5 p c → (p ≡ []) × (c ≡ Close)
 only_close p Close is = (sym is.bytes, refl)
 only_close p c is = absurd (omega (arith, is.number))
+
+pub only_size : (p : List ℕ) (c : Command) → IsPayload 6 p c → (length p ≡ 2) × (c ≡ screen_in p)
+only_size p (Size cols rows) is =
+    subst (λ (l : List ℕ). (length l ≡ 2) × (Size cols rows ≡ screen_in l)) is.bytes (refl, refl)
+only_size p c is = absurd (omega (arith, is.number))
 
 pub only_line : (p : List ℕ) (c : Command) → IsPayload 2 p c → (8 ≤ length p) × (c ≡ line_in p)
 only_line p (Line win term text) is =
@@ -176,6 +184,15 @@ spells_line p are le utf8 =
     seam 4 0 p (again_4 0 p are (omega arith)) (seam 4 4 p (again_4 4 p are le)
     (encodes-chars (drop 8 p) (IsUtf8-from_is_utf8 (drop 8 p) utf8)))
 
+pub spells_size : (p : List ℕ) → length p ≡ 2 → payload_of (screen_in p) ≡ p
+spells_size p is =
+    sym (drop_more p 0 0 (omega (arith, is))
+    ∙ ap (λ (l : List ℕ). get_or p 0 0 ∷ l)
+    (drop_more p 1 0 (omega (arith, is)) ∙ ap (λ (l : List ℕ). get_or p 1 0 ∷ l) rest))
+  where
+    rest : drop 2 p ≡ []
+    rest = nil_from_length (drop 2 p) (omega (arith, is, length-drop 2 p))
+
 pub spells_file : (p : List ℕ) → is_utf8 p ≡ true → payload_of (file_in p) ≡ p
 spells_file p utf8 = encodes-chars p (IsUtf8-from_is_utf8 p utf8)
 
@@ -204,6 +221,7 @@ command_in kind p =
     else if kind == 2 then line_in p
     else if kind == 3 then char_in p
     else if kind == 4 then file_in p
+    else if kind == 6 then screen_in p
     else Close
 
 only_command : (p : List ℕ) (c : Command)
@@ -214,6 +232,7 @@ only_command p (Line win term text) is = (only_line p _ is).1
 only_command p (Char win code) is = (only_char p _ is).1
 only_command p (File name) is = only_file p _ is
 only_command p Close is = refl
+only_command p (Size cols rows) is = (only_size p _ is).1
 
 -- commands of one kind with one payload are one
 pub same_command : (c d : Command)

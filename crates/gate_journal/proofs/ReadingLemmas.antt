@@ -20,19 +20,23 @@ use Rattle.gate_journal.specs.declared.command.Command.{Command}
 use Rattle.gate_journal.specs.declared.command.Command.TheVariants.{Close}
 use Rattle.gate_journal.specs.declared.row.Row.{Row}
 use Rattle.gate_journal.specs.Command.{IsCommand}
-use Rattle.gate_journal.specs.Rows.{journal_header, command_kind, payload_of}
+use Rattle.gate_journal.specs.Rows.{header_with, command_kind, payload_of}
+use Rattle.gate_journal.specs.Rows.{journal_front, version_byte, AreInVersion, IsInVersion}
 use Rattle.gate_journal.specs.Rows.{row_body, rows_behind_open_gates, journal_bytes}
 use Rattle.gate_journal.specs.Rows.{may_follow, commands_of, MayStand, IsJournal}
 use Rattle.gate_journal.specs.Payload.{IsPayload, IsNoPayload, open_in, line_in, char_in, file_in}
+use Rattle.gate_journal.specs.Payload.{screen_in}
 use Rattle.gate_journal.specs.Parsing.{BeginsWithRow, IsNoNext}
 use Rattle.gate_journal.specs.Laws.{Reading, Rows, CorruptAt, NoHeader, IsReading, HasOneReading}
 use Rattle.gate_journal.proofs.PayloadLemmas.{AreBytes, key_in, after_in, only_open, only_line}
-use Rattle.gate_journal.proofs.PayloadLemmas.{only_char, only_file, only_close, spells_whole}
+use Rattle.gate_journal.proofs.PayloadLemmas.{only_char, only_file, only_close, only_size}
+use Rattle.gate_journal.proofs.PayloadLemmas.{spells_size, spells_whole}
 use Rattle.gate_journal.proofs.PayloadLemmas.{spells_line, spells_char, spells_file, text_found}
 use Rattle.gate_journal.proofs.PayloadLemmas.{text_missing, line_text, file_text, same_command}
 use Rattle.gate_journal.proofs.PayloadLemmas.{bytes_drop, bytes_take, seam}
 use Rattle.gate_journal.proofs.RowLemmas.{length-body, body_parts, behind_rows, spells_split}
 use Rattle.gate_journal.proofs.RowLemmas.{parse_step, one_list, never_both}
+use Rattle.gate_journal.proofs.VersionLemmas.{has_it}
 use Rattle.gate_journal.proofs.CorruptLemmas.{corrupt_end, corrupt_row, no_header, one_place}
 
 -- it holds, or it doesn't
@@ -137,8 +141,18 @@ a_close (x ∷ p) = inr (λ c is. not_empty (only_close (x ∷ p) c is).0)
     not_empty : x ∷ p ≡ [] → ⊥
     not_empty is = cc
 
+a_size : (p : List ℕ) → HasCommand 6 p
+a_size p = elim (cases_eq (length p) 2) [
+  | inr other ↦ inr (λ c is. other (only_size p c is).0)
+  | inl size ↦
+      checked 6 p (screen_in p) refl (spells_size p size) (λ c is. (only_size p c is).1)
+      (again (λ n. assumption) (λ r. assumption)
+      (both (at_most 1 (get_or p 0 0)) (both (at_most (get_or p 0 0) 255)
+      (both (at_most 1 (get_or p 1 0)) (at_most (get_or p 1 0) 255)))))
+]
+
 -- the numbers of kinds
-kinds : (c : Command) → (1 ≤ command_kind c) × (command_kind c ≤ 5)
+kinds : (c : Command) → (1 ≤ command_kind c) × (command_kind c ≤ 6)
 kinds Close = omega arith
 kinds c = omega arith
 
@@ -149,7 +163,8 @@ has_command (suc (suc zero)) p are = a_line p are
 has_command (suc (suc (suc zero))) p are = a_char p are
 has_command (suc (suc (suc (suc zero)))) p are = a_file p
 has_command (suc (suc (suc (suc (suc zero))))) p are = a_close p
-has_command (suc (suc (suc (suc (suc (suc n)))))) p are =
+has_command (suc (suc (suc (suc (suc (suc zero)))))) p are = a_size p
+has_command (suc (suc (suc (suc (suc (suc (suc n))))))) p are =
     inr (λ c is. absurd (omega (arith, is.number, kinds c)))
 
 -- what stands past an open gate: its payload's length, and its payload
@@ -189,8 +204,8 @@ whole_row past c are long kind payload =
     low = omega (arith, size, are 2, are 3)
 
 -- the row past an open gate
-abbrev HasRow : List Row → List ℕ → Type 0
-HasRow rows past = ((r : Row) × BeginsWithRow rows past r) ⊎ IsNoNext rows past
+abbrev HasRow : ℕ → List Row → List ℕ → Type 0
+HasRow v rows past = ((r : Row) × BeginsWithRow v rows past r) ⊎ IsNoNext v rows past
 
 stands : (rows : List Row) (session : ℕ) (c : Command)
     → IsCommand c → Decided (MayStand rows session c)
@@ -201,9 +216,13 @@ stands rows session c ranges =
     (both (below session 64) (both (said (may_follow (commands_of rows session) c))
     (below (length (commands_of rows session)) 8192)))
 
-has_row : (rows : List Row) (past : List ℕ) → AreBytes past → HasRow rows past
-has_row rows past are = elim (cases_lt (length past) (4 + size_in past)) [
-  | inl short ↦ inr (λ r rest next is.
+stands_in : (v : ℕ) (rows : List Row) (session : ℕ) (c : Command)
+    → IsCommand c → Decided (MayStand rows session c × IsInVersion v c)
+stands_in v rows session c ranges = both (stands rows session c ranges) (has_it v c)
+
+has_row : (v : ℕ) (rows : List Row) (past : List ℕ) → AreBytes past → HasRow v rows past
+has_row v rows past are = elim (cases_lt (length past) (4 + size_in past)) [
+  | inl short ↦ inr (λ r rest next in_version is.
       let parts = body_parts r rest past next.stands.ranges is in
       absurd
       (omega (arith, short, parts.1, ap length is, length-append (row_body r) rest, length-body r)))
@@ -214,12 +233,12 @@ has_row rows past are = elim (cases_lt (length past) (4 + size_in past)) [
   where
     with_command : 4 + size_in past ≤ length past
         → HasCommand (get_or past 1 0) (payload_in past)
-        → HasRow rows past
-    with_command long (inr none) = inr (λ r rest next is.
+        → HasRow v rows past
+    with_command long (inr none) = inr (λ r rest next in_version is.
         let parts = body_parts r rest past next.stands.ranges is in
         none r.command
         (record { ranges = next.stands.ranges; number = sym parts.0; bytes = sym parts.2 }))
-    with_command long (inl (c, is)) = elim (stands rows (get_or past 0 0) c is.ranges) [
+    with_command long (inl (c, is)) = elim (stands_in v rows (get_or past 0 0) c is.ranges) [
       | inl may ↦
           let r : Row = record {
             place = length (journal_bytes rows);
@@ -240,73 +259,77 @@ has_row rows past are = elim (cases_lt (length past) (4 + size_in past)) [
           inl (
             r,
             record {
-              next = record { place = refl; by = refl; stands = may };
+              next = record { place = refl; by = refl; stands = may.0 };
+              in_version = may.1;
               bytes = whole ∙ ap (λ (k : ℕ). row_body r ++ drop k past) size;
             },
           )
-      | inr out ↦ inr (λ r rest next bytes.
+      | inr out ↦ inr (λ r rest next in_version bytes.
           let parts = body_parts r rest past next.stands.ranges bytes in
           let same_one : r.command ≡ c =
           same_command r.command c next.stands.ranges is.ranges (sym parts.0 ∙ sym is.number)
           (sym parts.2 ∙ sym is.bytes) in
           let session : r.session ≡ get_or past 0 0 =
           sym (ap (λ (l : List ℕ). get_or l 0 0) bytes) in
-          out (rw (← session, ← same_one) next.stands))
+          out (rw (← session, ← same_one) (next.stands, in_version)))
     ]
 
 -- of bytes that begin with these rows
 read_from :
-    (fuel : ℕ) (rows : List Row) (bytes rest : List ℕ)
-    → AreBytes bytes → bytes ≡ journal_bytes rows ++ rest
-    → IsJournal rows
+    (fuel v : ℕ) (rows : List Row) (bytes rest : List ℕ)
+    → AreBytes bytes → bytes ≡ journal_front v rows ++ rest
+    → IsJournal rows → AreInVersion v rows
     → length rest ≤ fuel → (reading : Reading) × IsReading bytes reading
-read_from fuel rows bytes [] are split all le = (
+read_from fuel v rows bytes [] are split all of_it le = (
   CorruptAt (length (journal_bytes rows)),
-  corrupt_end rows bytes (length (journal_bytes rows)) all split refl,
+  corrupt_end v rows bytes (length (journal_bytes rows)) all of_it split refl,
 )
-read_from zero rows bytes (gate ∷ past) are split all le = absurd (omega (arith, le))
-read_from (suc fuel) rows bytes (gate ∷ past) are split all le = elim (cases_eq gate 1) [
-  | inr shut ↦ (Rows rows, spells_split rows bytes (gate ∷ past) all split (omega arith) shut)
+read_from zero v rows bytes (gate ∷ past) are split all of_it le = absurd (omega (arith, le))
+read_from (suc fuel) v rows bytes (gate ∷ past) are split all of_it le = elim (cases_eq gate 1) [
+  | inr shut ↦
+      (Rows rows, spells_split v rows bytes (gate ∷ past) all of_it split (omega arith) shut)
   | inl is_open ↦
-      after_gate (λ later after. read_from fuel later bytes after are) is_open
-      (has_row rows past past_are)
+      after_gate (λ later after. read_from fuel v later bytes after are) is_open
+      (has_row v rows past past_are)
 ]
   where
     past_are : AreBytes past
     past_are =
-        subst (λ (l : List ℕ). AreBytes (drop 1 l)) (behind_rows rows bytes (gate ∷ past) split)
+        subst (λ (l : List ℕ). AreBytes (drop 1 l)) (behind_rows v rows bytes (gate ∷ past) split)
         (bytes_drop 1 _ (bytes_drop (length (journal_bytes rows)) bytes are))
 
     after_gate :
         ((later : List Row) (after : List ℕ)
-        → bytes ≡ journal_bytes later ++ after → IsJournal later
+        → bytes ≡ journal_front v later ++ after → IsJournal later → AreInVersion v later
         → length after ≤ fuel
         → (reading : Reading) × IsReading bytes reading)
-        → gate ≡ 1 → HasRow rows past → (reading : Reading) × IsReading bytes reading
+        → gate ≡ 1 → HasRow v rows past → (reading : Reading) × IsReading bytes reading
     after_gate go is_open (inr none) = (
       CorruptAt (length (journal_bytes rows)),
-      corrupt_row rows bytes (gate ∷ past)
-          (length (journal_bytes rows)) all split refl is_open none,
+      corrupt_row v rows bytes (gate ∷ past)
+          (length (journal_bytes rows)) all of_it split refl is_open none,
     )
     after_gate go is_open (inl (r, first)) =
         let n = length (payload_of r.command) in
         let after = drop (5 + n) (gate ∷ past) in
         let step =
-        parse_step bytes (gate ∷ past) after rows (rows ++ r ∷ []) r (length (journal_bytes rows))
+        parse_step v bytes (gate ∷ past) after rows (rows ++ r ∷ []) r (length (journal_bytes rows))
         (length (journal_bytes rows) + (5 + n))
-        split all refl is_open (omega arith) first refl refl refl in
-        go (rows ++ r ∷ []) after step.0 step.1
+        split all of_it refl is_open (omega arith) first refl refl refl in
+        go (rows ++ r ∷ []) after step.0 step.1 step.2
         (omega (arith, le, length-drop (5 + n) (gate ∷ past)))
 
 -- any bytes
 reading_of : (bytes : List ℕ) → AreBytes bytes → (reading : Reading) × IsReading bytes reading
-reading_of bytes are = elim (cases_Bool (starts_with nat_eq bytes journal_header)) [
-  | inr other ↦ (NoHeader, no_header bytes other)
-  | inl begins ↦
-      read_from (length bytes) [] bytes (drop 16 bytes) are
-      ((starts_is Decides-eqb bytes journal_header true (sym begins)).0 refl) tt
-      (omega (arith, length-drop 16 bytes))
-]
+reading_of bytes are =
+    let v = version_byte bytes in
+    elim (cases_Bool (starts_with nat_eq bytes (header_with v))) [
+      | inr other ↦ (NoHeader, no_header v bytes other)
+      | inl begins ↦
+          read_from (length bytes) v [] bytes (drop 16 bytes) are
+          ((starts_is Decides-eqb bytes (header_with v) true (sym begins)).0 refl) tt tt
+          (omega (arith, length-drop 16 bytes))
+    ]
 
 -- no bytes have two
 only_reading : (bytes : List ℕ) (a b : Reading) → IsReading bytes a → IsReading bytes b → b ≡ a
@@ -315,17 +338,17 @@ only_reading bytes (Rows rows) (Rows others) first second =
 only_reading bytes (Rows rows) (CorruptAt place) first second =
     absurd (never_both bytes rows place first second)
 only_reading bytes (Rows rows) NoHeader first second =
-    absurd (second (holds_front journal_header (rows_behind_open_gates rows) first.front))
+    absurd (second (holds_front (header_with _) (rows_behind_open_gates rows) first.front))
 only_reading bytes (CorruptAt place) (Rows rows) first second =
     absurd (never_both bytes rows place second first)
 only_reading bytes (CorruptAt place) (CorruptAt other) first second =
     ap (λ (k : ℕ). CorruptAt k) (one_place bytes other place second first)
 only_reading bytes (CorruptAt place) NoHeader first second =
-    absurd (second (holds_front journal_header (rows_behind_open_gates first.rows) first.front))
+    absurd (second (holds_front (header_with _) (rows_behind_open_gates first.rows) first.front))
 only_reading bytes NoHeader (Rows rows) first second =
-    absurd (first (holds_front journal_header (rows_behind_open_gates rows) second.front))
+    absurd (first (holds_front (header_with _) (rows_behind_open_gates rows) second.front))
 only_reading bytes NoHeader (CorruptAt place) first second =
-    absurd (first (holds_front journal_header (rows_behind_open_gates second.rows) second.front))
+    absurd (first (holds_front (header_with _) (rows_behind_open_gates second.rows) second.front))
 only_reading bytes NoHeader NoHeader first second = refl
 
 pub one_reading : HasOneReading

@@ -9,13 +9,17 @@ use Rattle.disk_model.specs.Disk.{Holds}
 use Rattle.disk_model.proofs.Torn.{holds_front, holds_rest, holds_both}
 use Rattle.gate_journal.specs.declared.row.Row.{Row}
 use Rattle.gate_journal.specs.Command.{IsCommand}
-use Rattle.gate_journal.specs.Gate.{IsShut, IsUnsure}
-use Rattle.gate_journal.specs.Rows.{journal_header, command_kind, payload_of, row_body}
+use Rattle.gate_journal.specs.Gate.{IsShut}
+use Rattle.gate_journal.specs.Log.{StandsInEither}
+use Rattle.gate_journal.specs.Rows.{header_with, command_kind, payload_of, row_body}
+use Rattle.gate_journal.specs.Rows.{journal_front, version_byte, IsInVersion, AreInVersion}
 use Rattle.gate_journal.specs.Rows.{rows_behind_open_gates, journal_bytes, IsNext}
 use Rattle.gate_journal.specs.Rows.{EachNext, IsJournal, SpellsRows, IsCorrupt, NoRowBehind}
 use Rattle.gate_journal.specs.Parsing.{BeginsWithRow}
 use Rattle.gate_journal.proofs.PayloadLemmas.{same_command}
 use Rattle.gate_journal.proofs.LimitLemmas.{payload_most}
+use Rattle.gate_journal.proofs.VersionLemmas.{are_front, are_push, version_of}
+use Rattle.std.specs.Prelude.{Some, None}
 
 pub length-body : (r : Row) → length (row_body r) ≡ 4 + length (payload_of r.command)
 length-body r = omega arith
@@ -28,11 +32,15 @@ opened-push (x ∷ rows) r =
     ∙ ap (λ (l : List ℕ). 1 ∷ l)
     (sym (append_assoc (row_body x) (rows_behind_open_gates rows) (1 ∷ row_body r)))
 
+pub front-push : (v : ℕ) (rows : List Row) (r : Row)
+    → journal_front v (rows ++ r ∷ []) ≡ journal_front v rows ++ 1 ∷ row_body r
+front-push v rows r =
+    ap (λ (l : List ℕ). header_with v ++ l) (opened-push rows r)
+    ∙ sym (append_assoc (header_with v) (rows_behind_open_gates rows) (1 ∷ row_body r))
+
 pub spelled-push : (rows : List Row) (r : Row)
     → journal_bytes (rows ++ r ∷ []) ≡ journal_bytes rows ++ 1 ∷ row_body r
-spelled-push rows r =
-    ap (λ (l : List ℕ). journal_header ++ l) (opened-push rows r)
-    ∙ sym (append_assoc journal_header (rows_behind_open_gates rows) (1 ∷ row_body r))
+spelled-push rows r = front-push 1 rows r
 
 each_push : (more rows : List Row) (r : Row)
     → EachNext rows more → IsNext (rows ++ more) r
@@ -58,7 +66,7 @@ holds_split c a holds =
     ∙ holds.each i (omega (arith, lt, length-take (length a) c))))
 
 -- a list has its own bytes
-holds_all : (c : List ℕ) → Holds c 0 c
+pub holds_all : (c : List ℕ) → Holds c 0 c
 holds_all c = record {
   within = omega arith;
   each = λ i lt. ap (λ (k : ℕ). get_or c k 0) (omega arith);
@@ -121,26 +129,27 @@ same_row rows r s first second sessions commands =
     cc (first.place, second.place, first.by, second.by) in
     whole
 
--- no row that may stand behind these begins here
-abbrev Ends : List Row → List ℕ → Type 0
-Ends rows x =
-    (r : Row) (rest : List ℕ) → IsNext rows r → x ≡ 1 ∷ (row_body r ++ rest) → ⊥
+-- no row of this version that may stand behind these begins here
+abbrev Ends : ℕ → List Row → List ℕ → Type 0
+Ends v rows x =
+    (r : Row) (rest : List ℕ) → IsNext rows r → IsInVersion v r.command
+    → x ≡ 1 ∷ (row_body r ++ rest) → ⊥
 
 -- rows that end so are told by their bytes
 same_rows :
-    (a b front : List Row) (x y : List ℕ) → EachNext front a → EachNext front b
-    → Ends (front ++ a) x → Ends (front ++ b) y
+    (v : ℕ) (a b front : List Row) (x y : List ℕ) → EachNext front a → EachNext front b
+    → AreInVersion v a → AreInVersion v b → Ends v (front ++ a) x → Ends v (front ++ b) y
     → rows_behind_open_gates a ++ x ≡ rows_behind_open_gates b ++ y → a ≡ b
-same_rows [] [] front x y first second ends others is = refl
-same_rows [] (s ∷ b) front x y first second ends others is =
+same_rows v [] [] front x y first second are too ends others is = refl
+same_rows v [] (s ∷ b) front x y first second are too ends others is =
     absurd (ends s (rows_behind_open_gates b ++ y)
-    (rw (append-nil front) second.0)
+    (rw (append-nil front) second.0) too.0
     (is ∙ ap (λ (l : List ℕ). 1 ∷ l) (append_assoc (row_body s) (rows_behind_open_gates b) y)))
-same_rows (r ∷ a) [] front x y first second ends others is =
+same_rows v (r ∷ a) [] front x y first second are too ends others is =
     absurd (others r (rows_behind_open_gates a ++ x)
-    (rw (append-nil front) first.0)
+    (rw (append-nil front) first.0) are.0
     (sym is ∙ ap (λ (l : List ℕ). 1 ∷ l) (append_assoc (row_body r) (rows_behind_open_gates a) x)))
-same_rows (r ∷ a) (s ∷ b) front x y first second ends others is =
+same_rows v (r ∷ a) (s ∷ b) front x y first second are too ends others is =
     let past : row_body r ++ (rows_behind_open_gates a ++ x)
     ≡ row_body s ++ (rows_behind_open_gates b ++ y) =
     sym (append_assoc (row_body r) (rows_behind_open_gates a) x)
@@ -149,40 +158,60 @@ same_rows (r ∷ a) (s ∷ b) front x y first second ends others is =
     let parts = same_body r s _ _ first.0.stands.ranges second.0.stands.ranges past in
     let same : s ≡ r = sym (same_row front r s first.0 second.0 parts.0 parts.1) in
     let later : a ≡ b =
-    same_rows a b (front ++ r ∷ []) x y first.1
-    (rw same at second.1) (rw (append_assoc front (r ∷ []) a) ends)
+    same_rows v a b (front ++ r ∷ []) x y first.1
+    (rw same at second.1) are.1 too.1 (rw (append_assoc front (r ∷ []) a) ends)
     (rw (append_assoc front (r ∷ []) b) (rw same at others)) parts.2 in
     cc
 
 -- the rows that a file begins with end in it
 abbrev EndsIn : List ℕ → List Row → Type 0
-EndsIn c rows = Ends rows (drop (length (journal_bytes rows)) c)
+EndsIn c rows = Ends (version_byte c) rows (drop (length (journal_bytes rows)) c)
+
+-- the file begins with these rows, of its version
+pub record HasRows (c : List ℕ) (rows : List Row) : Type 0 where
+  pub journal : IsJournal rows
+  pub versions : AreInVersion (version_byte c) rows
+  pub front : Holds c 0 (journal_front (version_byte c) rows)
+
+pub spelled_rows : (c : List ℕ) (rows : List Row) → SpellsRows c rows → HasRows c rows
+spelled_rows c rows spells = record {
+  journal = spells.journal;
+  versions = spells.versions;
+  front = spells.front;
+}
+
+pub corrupt_rows : (c : List ℕ) (p : ℕ) (corrupt : IsCorrupt c p) → HasRows c corrupt.rows
+corrupt_rows c p corrupt = record {
+  journal = corrupt.journal;
+  versions = corrupt.versions;
+  front = corrupt.front;
+}
 
 -- such rows are told by the file
 pub same_front :
-    (c : List ℕ) (a b : List Row) → IsJournal a → IsJournal b
-    → Holds c 0 (journal_bytes a) → Holds c 0 (journal_bytes b)
-    → EndsIn c a → EndsIn c b → a ≡ b
-same_front c a b first second front other ends others =
-    same_rows a b [] (drop (length (journal_bytes a)) c) (drop (length (journal_bytes b)) c)
-    first second ends others
+    (c : List ℕ) (a b : List Row) → HasRows c a → HasRows c b → EndsIn c a → EndsIn c b → a ≡ b
+same_front c a b first second ends others =
+    let v = version_byte c in
+    same_rows v a b [] (drop (length (journal_bytes a)) c) (drop (length (journal_bytes b)) c)
+    first.journal second.journal first.versions second.versions ends others
     (ap (λ (l : List ℕ). drop 16 l)
-    (sym (holds_split c (journal_bytes a) front) ∙ holds_split c (journal_bytes b) other))
+    (sym (holds_split c (journal_front v a) first.front)
+    ∙ holds_split c (journal_front v b) second.front))
 
 -- the first byte behind a file's front
 first_behind : (c : List ℕ) (n : ℕ) → get_or (drop n c) 0 0 ≡ get_or c n 0
 first_behind c n = get_or-drop n c 0 0 ∙ ap (λ (k : ℕ). get_or c k 0) (omega arith)
 
 spelled_ends : (c : List ℕ) (rows : List Row) → SpellsRows c rows → EndsIn c rows
-spelled_ends c rows spells r rest next is =
+spelled_ends c rows spells r rest next in_version is =
     spells.closed (sym (first_behind c (length (journal_bytes rows)))
     ∙ ap (λ (l : List ℕ). get_or l 0 0) is)
 
 pub corrupt_ends : (c : List ℕ) (place : ℕ) (corrupt : IsCorrupt c place) → EndsIn c corrupt.rows
-corrupt_ends c place corrupt r rest next is = stops corrupt.gate
+corrupt_ends c place corrupt r rest next in_version is = stops corrupt.gate
   where
     front : List ℕ
-    front = journal_bytes corrupt.rows
+    front = journal_front (version_byte c) corrupt.rows
 
     whole : Holds c 0 (front ++ 1 ∷ (row_body r ++ rest))
     whole =
@@ -197,12 +226,12 @@ corrupt_ends c place corrupt r rest next is = stops corrupt.gate
 
     stops : (length c ≤ place) ⊎ ((get_or c place 0 ≡ 1) × NoRowBehind c place corrupt.rows) → ⊥
     stops (inl past) = absurd (omega (arith, past, row.within))
-    stops (inr gate) = gate.1 r next row
+    stops (inr gate) = gate.1 r next in_version row
 
 -- a file spells one list of rows
 pub one_list : (c : List ℕ) (a b : List Row) → SpellsRows c a → SpellsRows c b → a ≡ b
 one_list c a b first second =
-    same_front c a b first.journal second.journal first.front second.front
+    same_front c a b (spelled_rows c a first) (spelled_rows c b second)
     (spelled_ends c a first) (spelled_ends c b second)
 
 -- and then it has no corrupt place
@@ -212,7 +241,7 @@ never_both c a p first second = meets second.gate
     at : length (journal_bytes a) ≡ p
     at =
         ap (λ (l : List Row). length (journal_bytes l))
-        (same_front c a second.rows first.journal second.journal first.front second.front
+        (same_front c a second.rows (spelled_rows c a first) (corrupt_rows c p second)
         (spelled_ends c a first) (corrupt_ends c p second))
         ∙ sym second.behind
 
@@ -228,102 +257,120 @@ shut_zero front c shut =
 
 -- such a gate behind rows
 pub spells_shut : (rows : List Row) (c : List ℕ)
-    → IsJournal rows → IsShut (journal_bytes rows) c
+    → IsJournal rows → StandsInEither rows None c
     → SpellsRows c rows
-spells_shut rows c all shut = record {
-  journal = all;
-  front = holds_front (journal_bytes rows) (0 ∷ []) shut;
-  within = omega (arith, shut.within, length-append (journal_bytes rows) (0 ∷ []));
-  closed = λ is_open. absurd (omega (arith, shut_zero (journal_bytes rows) c shut, is_open));
-}
+spells_shut rows c all (are, shut) =
+    let front = journal_front (version_byte c) rows in
+    record {
+      journal = all;
+      versions = are;
+      front = holds_front front (0 ∷ []) shut;
+      within = omega (arith, shut.within, length-append front (0 ∷ []));
+      closed = λ is_open. absurd (omega (arith, shut_zero front c shut, is_open));
+    }
 
 -- a row and a closed gate, behind an open one
-pub shut_behind : (rows : List Row) (r : Row) (c : List ℕ)
-    → Holds c 0 (journal_bytes rows ++ 1 ∷ (row_body r ++ 0 ∷ []))
-    → IsShut (journal_bytes (rows ++ r ∷ [])) c
-shut_behind rows r c holds =
+pub shut_behind : (v : ℕ) (rows : List Row) (r : Row) (c : List ℕ)
+    → Holds c 0 (journal_front v rows ++ 1 ∷ (row_body r ++ 0 ∷ []))
+    → IsShut (journal_front v (rows ++ r ∷ [])) c
+shut_behind v rows r c holds =
     subst (λ (l : List ℕ). Holds c 0 l)
-    (sym (ap (λ (l : List ℕ). l ++ 0 ∷ []) (spelled-push rows r)
-    ∙ append_assoc (journal_bytes rows) (1 ∷ row_body r) (0 ∷ []))) holds
+    (sym (ap (λ (l : List ℕ). l ++ 0 ∷ []) (front-push v rows r)
+    ∙ append_assoc (journal_front v rows) (1 ∷ row_body r) (0 ∷ []))) holds
 
 -- a gate that is open, and a row behind it
 pub opens : (rows : List Row) (r : Row) (c : List ℕ)
-    → IsUnsure (journal_bytes rows) (row_body r ++ 0 ∷ []) c
+    → StandsInEither rows (Some r) c
     → get_or c (length (journal_bytes rows)) 0 ≡ 1
-    → IsShut (journal_bytes (rows ++ r ∷ [])) c
-opens rows r c unsure is_open =
+    → StandsInEither (rows ++ r ∷ []) None c
+opens rows r c (are, unsure) is_open =
     let at = length (journal_bytes rows) in
+    let front = journal_front (version_byte c) rows in
     let gate : Holds c at (1 ∷ []) = record {
       within = omega (arith, unsure.behind.within);
       each = one;
-    } in
-    shut_behind rows r c
-    (holds_both {p = 0} (journal_bytes rows) (1 ∷ (row_body r ++ 0 ∷ [])) (omega arith)
-    unsure.before
-    (holds_both {q = at + 1} (1 ∷ []) (row_body r ++ 0 ∷ []) (omega arith) gate unsure.behind))
+    } in (
+      are,
+      shut_behind (version_byte c) rows r c
+          (holds_both {p = 0} front (1 ∷ (row_body r ++ 0 ∷ [])) (omega arith) unsure.before
+          (holds_both {q = at + 1} (1 ∷ []) (row_body r ++ 0 ∷ []) (omega arith) gate
+          unsure.behind)),
+    )
   where
     one : (i : ℕ) → i < 1 → get_or c (length (journal_bytes rows) + i) 0 ≡ get_or (1 ∷ []) i 0
     one zero lt = ap (λ (k : ℕ). get_or c k 0) (omega arith) ∙ is_open
     one (suc i) lt = absurd (omega arith)
 
-pub spells_not_open : (rows : List Row) (past c : List ℕ)
-    → IsJournal rows → IsUnsure (journal_bytes rows) past c
-    → get_or c (length (journal_bytes rows)) 0 ≢ 1
-    → length (journal_bytes rows) < length c → SpellsRows c rows
-spells_not_open rows past c all unsure shut within = record {
+pub spells_not_open : (rows : List Row) (r : Row) (c : List ℕ)
+    → IsJournal rows → StandsInEither rows (Some r) c
+    → get_or c (length (journal_bytes rows)) 0 ≢ 1 → SpellsRows c rows
+spells_not_open rows r c all (are, unsure) shut = record {
   journal = all;
+  versions = (are_front (version_byte c) rows r are).0;
   front = unsure.before;
-  within = within;
+  within = omega (arith, unsure.behind.within);
   closed = shut;
 }
 
 -- what stands behind the rows, and the byte at the gate
-pub behind_rows : (rows : List Row) (bytes rest : List ℕ)
-    → bytes ≡ journal_bytes rows ++ rest
+pub behind_rows : (v : ℕ) (rows : List Row) (bytes rest : List ℕ)
+    → bytes ≡ journal_front v rows ++ rest
     → drop (length (journal_bytes rows)) bytes ≡ rest
-behind_rows rows bytes rest split =
+behind_rows v rows bytes rest split =
     ap (λ (l : List ℕ). drop (length (journal_bytes rows)) l) split
-    ∙ drop_at (journal_bytes rows) rest (length (journal_bytes rows)) refl
+    ∙ drop_at (journal_front v rows) rest (length (journal_bytes rows)) refl
 
-pub gate_at : (rows : List Row) (bytes rest : List ℕ)
-    → bytes ≡ journal_bytes rows ++ rest
+pub gate_at : (v : ℕ) (rows : List Row) (bytes rest : List ℕ)
+    → bytes ≡ journal_front v rows ++ rest
     → get_or bytes (length (journal_bytes rows)) 0 ≡ get_or rest 0 0
-gate_at rows bytes rest split =
+gate_at v rows bytes rest split =
     sym (first_behind bytes (length (journal_bytes rows)))
-    ∙ ap (λ (l : List ℕ). get_or l 0 0) (behind_rows rows bytes rest split)
+    ∙ ap (λ (l : List ℕ). get_or l 0 0) (behind_rows v rows bytes rest split)
 
-pub front_of : (rows : List Row) (bytes rest : List ℕ)
-    → bytes ≡ journal_bytes rows ++ rest
-    → Holds bytes 0 (journal_bytes rows)
-front_of rows bytes rest split =
-    holds_front (journal_bytes rows) rest
-    (subst (λ (l : List ℕ). Holds bytes 0 l) split (holds_all bytes))
+-- the file begins with them
+pub rows_split : (v : ℕ) (rows : List Row) (bytes rest : List ℕ)
+    → IsJournal rows → AreInVersion v rows → bytes ≡ journal_front v rows ++ rest
+    → HasRows bytes rows
+rows_split v rows bytes rest journal are split =
+    let holds = subst (λ (l : List ℕ). Holds bytes 0 l) split (holds_all bytes) in
+    let same : version_byte bytes ≡ v = version_of v (rows_behind_open_gates rows ++ rest) bytes
+    holds in
+    record {
+      journal = journal;
+      versions = subst (λ (k : ℕ). AreInVersion k rows) (sym same) are;
+      front =
+          subst (λ (k : ℕ). Holds bytes 0 (journal_front k rows)) (sym same)
+          (holds_front (journal_front v rows) rest holds);
+    }
 
 -- the rows end at a gate that isn't open
-pub spells_split : (rows : List Row) (bytes rest : List ℕ)
-    → IsJournal rows → bytes ≡ journal_bytes rows ++ rest
+pub spells_split : (v : ℕ) (rows : List Row) (bytes rest : List ℕ)
+    → IsJournal rows → AreInVersion v rows → bytes ≡ journal_front v rows ++ rest
     → 1 ≤ length rest → get_or rest 0 0 ≢ 1
     → SpellsRows bytes rows
-spells_split rows bytes rest journal split some shut = record {
-  journal = journal;
-  front = front_of rows bytes rest split;
-  within = omega (arith, some, ap length split, length-append (journal_bytes rows) rest);
-  closed = λ is_open. shut (sym (gate_at rows bytes rest split) ∙ is_open);
-}
+spells_split v rows bytes rest journal are split some shut =
+    let has = rows_split v rows bytes rest journal are split in
+    record {
+      journal = journal;
+      versions = has.versions;
+      front = has.front;
+      within = omega (arith, some, ap length split, length-append (journal_front v rows) rest);
+      closed = λ is_open. shut (sym (gate_at v rows bytes rest split) ∙ is_open);
+    }
 
 -- one row more
 pub parse_step :
-    (bytes rest after : List ℕ) (rows later : List Row) (r : Row) (place next : ℕ)
-    → bytes ≡ journal_bytes rows ++ rest → IsJournal rows
+    (v : ℕ) (bytes rest after : List ℕ) (rows later : List Row) (r : Row) (place next : ℕ)
+    → bytes ≡ journal_front v rows ++ rest → IsJournal rows → AreInVersion v rows
     → place ≡ length (journal_bytes rows) → get_or rest 0 0 ≡ 1
     → 1 ≤ length rest
-    → BeginsWithRow rows (drop 1 rest) r
+    → BeginsWithRow v rows (drop 1 rest) r
     → later ≡ rows ++ r ∷ []
     → next ≡ place + (5 + length (payload_of r.command))
     → after ≡ drop (5 + length (payload_of r.command)) rest
-    → (bytes ≡ journal_bytes later ++ after) × IsJournal later
+    → (bytes ≡ journal_front v later ++ after) × IsJournal later × AreInVersion v later
     × (next ≡ length (journal_bytes later))
-parse_step bytes rest after rows later r place next split all at_place is_open some
+parse_step v bytes rest after rows later r place next split all are at_place is_open some
     found is_later is_next is_after =
     let past = drop (length (row_body r)) (drop 1 rest) in
     let whole : rest ≡ 1 ∷ (row_body r ++ past) =
@@ -336,10 +383,11 @@ parse_step bytes rest after rows later r place next split all at_place is_open s
     ∙ sym is_after in
     rw is_later (
       split
-          ∙ ap (λ (l : List ℕ). journal_bytes rows ++ l) whole
-          ∙ sym (append_assoc (journal_bytes rows) (1 ∷ row_body r) past)
-          ∙ cc (spelled-push rows r),
+          ∙ ap (λ (l : List ℕ). journal_front v rows ++ l) whole
+          ∙ sym (append_assoc (journal_front v rows) (1 ∷ row_body r) past)
+          ∙ cc (front-push v rows r),
       journal_push rows r all found.next,
+      are_push v rows r are found.in_version,
       omega (
         arith,
         is_next,

@@ -371,7 +371,7 @@ since_begun {D} {tells} {may_leave} {room} {label} {reach} {moment} {left_since}
       one_more = None;
       owner = tt;
       spells = closed_shut (rows_of entries) c journal (shut told c (only_now c left));
-      opens = inl (shut told c (only_now c left));
+      opens = stands_closed (rows_of entries) None c tt (shut told c (only_now c left));
     }
 
     begins :

@@ -1,7 +1,7 @@
 -- How a journal stays sound.
 use Rattle.std.proofs.Common.{◌≡◌, ◌⊎◌, inl, inr, ℕ, ◌+◌, ◌<◌, ◌≤◌, Bool, List, [], ◌∷◌}
 use Rattle.std.proofs.Common.{◌++◌, length, sym, ◌∙◌, ap, arith}
-use Rattle.std.specs.Prelude.{Option, None, IfSome}
+use Rattle.std.specs.Prelude.{Option, None, Some, IfSome}
 use Rattle.disk_model.specs.Disk.{LeavesOnly, Rose, Holds, EachImage}
 use Rattle.disk_model.proofs.Moments.{weaker, and_then}
 use Rattle.gate_journal.specs.declared.row.Row.{Row}
@@ -113,13 +113,14 @@ module _ {D : Type 0} (moment : D → ℕ) (left_since : D → ℕ → List ℕ 
       each : (c : List ℕ)
           → IsShut (journal_bytes rows) c ⊎ IsUnsure (journal_bytes rows) past c
           → Meanwhile rows uncertain r c
-      each c (inl shut) = (inr (inl (closed_shut rows c all shut)), inl shut)
+      each c (inl shut) =
+          (inr (inl (closed_shut rows c all shut)), stands_closed rows None c tt shut)
       each c (inr unsure) =
           let stands = rw is at unsure in
-          (inr (closed_unsure rows r c all next stands), inr (r, next, stands))
+          (inr (closed_unsure rows r c all next stands), stands_closed rows (Some r) c next stands)
 
 pub opened_shut : (rows : List Row) (r : Row) (past c : List ℕ)
     → past ≡ row_body r ++ 0 ∷ []
     → Holds c 0 (journal_bytes rows ++ 1 ∷ past)
     → IsShut (journal_bytes (rows ++ r ∷ [])) c
-opened_shut rows r past c is holds = shut_behind rows r c (rw is at holds)
+opened_shut rows r past c is holds = shut_behind 1 rows r c (rw is at holds)

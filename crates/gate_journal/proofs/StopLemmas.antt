@@ -8,12 +8,12 @@ use Rattle.gate_journal.specs.declared.fault.JournalFault.TheVariants.{NotJourna
 use Rattle.gate_journal.specs.declared.fault.JournalFault.TheVariants.{Corrupt, NoMemory}
 use Rattle.gate_journal.specs.declared.fault.JournalFault.TheVariants.{DiskFault as on_disk}
 use Rattle.gate_journal.specs.Faults.{Explains, IsOfDisk}
-use Rattle.gate_journal.specs.Rows.{journal_header, rows_behind_open_gates}
+use Rattle.gate_journal.specs.Rows.{header_with, version_byte, rows_behind_open_gates}
 use Rattle.gate_journal.specs.Rows.{SpellsRows, IsJournal}
 use Rattle.gate_journal.specs.Log.{MaySpell, MayFind, MayOpen}
 use Rattle.gate_journal.specs.Laws.{FindsRows, FindsThese}
 use Rattle.gate_journal.proofs.RowLemmas.{one_list, never_both, spells_shut}
-use Rattle.gate_journal.proofs.LogLemmas.{closed_unsure}
+use Rattle.gate_journal.proofs.LogLemmas.{closed_either}
 
 -- what an image spells is what is found in it
 pub found_in : (rows : List Row) (u : Option Row) (found : List Row) (c : List ℕ)
@@ -36,7 +36,8 @@ spells_some rows (Some r) c (inr well) = (rows ++ r ∷ [], well.spells)
 refused_of_rows : (rows : List Row) (c : List ℕ) (e : JournalFault)
     → SpellsRows c rows → Explains c e → IsOfDisk e
 refused_of_rows rows c NotJournal spells no_header =
-    absurd (no_header (holds_front journal_header (rows_behind_open_gates rows) spells.front))
+    absurd (no_header
+    (holds_front (header_with (version_byte c)) (rows_behind_open_gates rows) spells.front))
 refused_of_rows rows c (Corrupt place) spells corrupt =
     absurd (never_both c rows place spells corrupt)
 refused_of_rows rows c (on_disk fault) spells said = tt
@@ -53,7 +54,7 @@ finds_these : (rows : List Row) (c : List ℕ) → IsJournal rows → MayOpen ro
 finds_these rows c all (inl shut) = inl (spells_shut rows c all shut)
 finds_these rows c all (inr (r, next, unsure)) =
     ⊎_elim (λ well. inl well.spells) (λ well. inr (r, next, well.spells))
-    (closed_unsure rows r c all next unsure)
+    (closed_either rows (Some r) c all next unsure)
 
 pub finds_rows : FindsRows
 finds_rows rows c all met = (found, λ e said. refused found e said)

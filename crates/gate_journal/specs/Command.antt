@@ -6,6 +6,7 @@ use Rattle.line_words.specs.Keycode.{is_code}
 use Rattle.line_words.specs.Spelling.{IsTerminator}
 use Rattle.gate_journal.specs.declared.command.Command.{Command}
 use Rattle.gate_journal.specs.declared.command.Command.TheVariants.{Open, Line, Char, File, Close}
+use Rattle.gate_journal.specs.declared.command.Command.TheVariants.{Size}
 
 -- a turn's budget in ticks
 abbrev pub IsBudget : ℕ → Type 0
@@ -21,6 +22,7 @@ IsCommand (Line win term text) = (win ≤ 4294967295) × IsTerminator term × Is
 IsCommand (Char win code) = (win ≤ 4294967295) × (is_code code ≡ true)
 IsCommand (File name) = IsText name
 IsCommand Close = Unit {0}
+IsCommand (Size cols rows) = (1 ≤ cols) × (cols ≤ 255) × (1 ≤ rows) × (rows ≤ 255)
 
 -- an OPEN has a digest of 32 bytes
 abbrev pub HasDigest : Command → Type 0

@@ -4,6 +4,7 @@ pub mod Payload
 pub mod Seats
 pub mod Parsing
 pub mod Gate
+pub mod Opening
 pub mod Log
 pub mod History
 pub mod Faults

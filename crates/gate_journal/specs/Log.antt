@@ -1,11 +1,13 @@
 -- A journal as contracts see it, and what a stop may leave of it (own).
-use Rattle.std.specs.Prelude.{◌≡◌, ◌⊎◌, ℕ, zero, suc, ◌+◌, ◌<◌, ◌≤◌, Bool, IsTrue}
+use Rattle.std.specs.Prelude.{◌≡◌, ◌⊎◌, ℕ, ◌+◌, ◌<◌, ◌≤◌, Bool, IsTrue}
 use Rattle.std.specs.Prelude.{max, Option, Some, None}
 use Rattle.std.specs.Prelude.{IfSome, List, [], ◌∷◌, ◌++◌, length, map, slice_index, take, drop}
 use Rattle.turn_cell.specs.History.{Each}
 use Rattle.disk_model.specs.Disk.{Holds, Rose, EachImage, LeavesOnly, SameDisk}
 use Rattle.gate_journal.specs.Gate.{IsShut, IsUnsure}
+use Rattle.gate_journal.specs.Opening.{MayMigrate, ReachesWrites}
 use Rattle.gate_journal.specs.Rows.{SpellsRows, row_body, journal_bytes, IsJournal, IsNext}
+use Rattle.gate_journal.specs.Rows.{journal_front, version_byte, IsInVersion, AreInVersion}
 use Rattle.gate_journal.specs.declared.command.Command.{Command}
 use Rattle.gate_journal.specs.declared.row.Row.{Row}
 use Rattle.gate_journal.specs.declared.entry.Entry.{Entry}
@@ -82,15 +84,6 @@ abbrev pub gates_left : Option Row → Row → List (Option Row)
 gates_left None r = None ∷ None ∷ Some r ∷ Some r ∷ []
 gates_left (Some u) r = Some u ∷ Some u ∷ None ∷ None ∷ Some r ∷ Some r ∷ []
 
--- how many device calls close a gate that holds this byte: a write and a sync, or none
-abbrev pub closing_calls : ℕ → ℕ
-closing_calls zero = 0
-closing_calls (suc byte) = 2
-
--- how many device calls an opening makes: a sync, a size, a read, and those that close the gate
-abbrev pub opening_calls : List ℕ → ℕ → ℕ
-opening_calls bytes gate = 3 + closing_calls (slice_index bytes gate)
-
 -- how many of an append's close a gate first
 abbrev pub repair_calls : Option Row → ℕ
 repair_calls None = 0
@@ -105,19 +98,27 @@ pub record SameLog {D : Type 0} (old new : Log D) : Type 0 where
   pub start : new.start ≡ old.start
   pub steps : new.steps ≡ old.steps
 
--- what stands in an image: the rows and a closed gate, or a gate of which nothing is known before
--- this row and a zero byte
+-- what stands in an image of version 2: the rows and a closed gate, or a gate of which nothing is
+-- known before this row and a zero byte
 abbrev pub StandsInImage : List Row → Option Row → List ℕ → Type 0
 StandsInImage rows None c = IsShut (journal_bytes rows) c
 StandsInImage rows (Some r) c = IsUnsure (journal_bytes rows) (row_body r ++ 0 ∷ []) c
 
--- the image spells the rows; its closing gate is 0, or a row that may stand there and a zero byte
--- stand behind it
+-- the same of an image of either version, which has no row that its version hasn't
+abbrev pub StandsInEither : List Row → Option Row → List ℕ → Type 0
+StandsInEither rows None c =
+    AreInVersion (version_byte c) rows × IsShut (journal_front (version_byte c) rows) c
+StandsInEither rows (Some r) c =
+    AreInVersion (version_byte c) (rows ++ r ∷ [])
+    × IsUnsure (journal_front (version_byte c) rows) (row_body r ++ 0 ∷ []) c
+
+-- the image spells the rows; its closing gate is 0, or a row of its version that may stand there
+-- and a zero byte stand behind it
 pub record IsClosedWell (rows : List Row) (c : List ℕ) : Type 0 where
   pub spells : SpellsRows c rows
   pub gate :
       (slice_index c (length (journal_bytes rows)) ≡ 0)
-      ⊎ ((r : Row) × IsNext rows r
+      ⊎ ((r : Row) × IsNext rows r × IsInVersion (version_byte c) r.command
       × Holds c (length (journal_bytes rows) + 1) (row_body r ++ 0 ∷ []))
 
 -- the image spells the rows, or these and the one behind an uncertain gate
@@ -130,12 +131,12 @@ abbrev pub MayFind : List Row → Option Row → List Row → Type 0
 MayFind rows None found = found ≡ rows
 MayFind rows (Some r) found = (found ≡ rows) ⊎ (found ≡ rows ++ r ∷ [])
 
--- what an opening may meet: the rows and a closed gate, or a gate of which nothing is known before
--- a row that may stand there and a zero byte
+-- what an opening may meet, in either version: the rows and a closed gate, or a gate of which
+-- nothing is known before a row that may stand there and a zero byte
 abbrev pub MayOpen : List Row → List ℕ → Type 0
 MayOpen rows c =
-    IsShut (journal_bytes rows) c
-    ⊎ ((r : Row) × IsNext rows r × IsUnsure (journal_bytes rows) (row_body r ++ 0 ∷ []) c)
+    StandsInEither rows None c
+    ⊎ ((r : Row) × IsNext rows r × StandsInEither rows (Some r) c)
 
 -- while a row is written an image spells the rows, or these and the uncertain one, or these and the
 -- new one, and never both; and an opening may meet it
@@ -159,13 +160,20 @@ pub record IsSoundJournal
       (StandsInImage (rows_of log.entries) log.uncertain)
   pub counts : Rises (faults log.opening.disk) log.entries (faults log.disk)
 
--- the reach after an opening of these bytes: as it was, or the end of the closing gate, where that
--- is farther
+-- an image while these bytes are opened: their closing gate, or then their version byte, may be
+-- being written
+abbrev pub IsMigrating : List ℕ → List ℕ → Type 0
+IsMigrating bytes c =
+    (rows : List Row) × SpellsRows bytes rows × MayMigrate bytes (length (journal_bytes rows)) c
+
+-- the reach after an opening of these bytes: as it was, or the end of the closing gate where that
+-- isn't 0, or else the end of the version byte where that isn't 1, if that is farther
 abbrev pub ReachesGate : List ℕ → ℕ → ℕ → Type 0
 ReachesGate bytes before now =
     (now ≡ before)
     ⊎ ((rows : List Row) × SpellsRows bytes rows
-    × (now ≡ max before (length (journal_bytes rows) + 1)))
+    × ReachesWrites (length (journal_bytes rows)) (slice_index bytes (length (journal_bytes rows)))
+    (version_byte bytes) before now)
 
 -- An image from the time in which a journal's rows grew from the first list to the last: it spells
 -- the first rows and those of the later ones that stood then, or these and one row more; and an

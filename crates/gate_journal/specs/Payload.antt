@@ -4,7 +4,7 @@ use Rattle.std.specs.Prelude.{slice_index}
 use Rattle.std.specs.Str.{chars}
 use Rattle.byteorder.specs.Endian.{big_number}
 use Rattle.gate_journal.specs.declared.command.Command.{Command}
-use Rattle.gate_journal.specs.declared.command.Command.TheVariants.{Open, Line, Char, File}
+use Rattle.gate_journal.specs.declared.command.Command.TheVariants.{Open, Line, Char, File, Size}
 use Rattle.gate_journal.specs.Command.{IsCommand}
 use Rattle.gate_journal.specs.Rows.{command_kind, payload_of}
 
@@ -34,3 +34,6 @@ char_in payload = Char (big_number 4 payload) (big_number 4 (drop 4 payload))
 
 abbrev pub file_in : List ℕ → Command
 file_in payload = File (chars payload)
+
+abbrev pub screen_in : List ℕ → Command
+screen_in payload = Size (slice_index payload 0) (slice_index payload 1)

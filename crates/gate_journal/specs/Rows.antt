@@ -6,17 +6,36 @@ use Rattle.std.specs.Prelude.{◌++◌, length}
 use Rattle.std.specs.Prelude.{slice_index}
 use Rattle.std.specs.Int.{w16, w32, w64, to_be_bytes}
 use Rattle.std.specs.Str.{encode_utf8_all}
+use Rattle.turn_cell.specs.History.{Each}
 use Rattle.disk_model.specs.Disk.{Holds}
 use Rattle.gate_journal.specs.declared.command.Command.{Command}
 use Rattle.gate_journal.specs.declared.command.Command.TheVariants.{Open, Line, Char, File, Close}
+use Rattle.gate_journal.specs.declared.command.Command.TheVariants.{Size}
 use Rattle.gate_journal.specs.declared.row.Row.{Row}
 use Rattle.gate_journal.specs.Command.{IsCommand}
 
--- what a journal begins with: STHJ, version 1, and eight zeros
-abbrev pub journal_header : List ℕ
-journal_header =
+-- what a journal begins with: STHJ and 1, the byte that tells its version, and seven zeros
+abbrev pub header_with : ℕ → List ℕ
+header_with version =
     83 ∷ 84 ∷ 72 ∷ 74 ∷ 0 ∷ 0 ∷ 0 ∷ 1
-    ∷ 0 ∷ 0 ∷ 0 ∷ 0 ∷ 0 ∷ 0 ∷ 0 ∷ 0 ∷ []
+    ∷ version ∷ 0 ∷ 0 ∷ 0 ∷ 0 ∷ 0 ∷ 0 ∷ 0 ∷ []
+
+-- that byte is 1 in version 2, and anything else in version 1
+abbrev pub version_byte : List ℕ → ℕ
+version_byte bytes = slice_index bytes 8
+
+-- what a journal of version 2 begins with
+abbrev pub journal_header : List ℕ
+journal_header = header_with 1
+
+-- a version has rows of this command: those of a SIZE came with version 2
+abbrev pub IsInVersion : ℕ → Command → Type 0
+IsInVersion version (Size cols rows) = version ≡ 1
+IsInVersion version command = Unit {0}
+
+-- it has each of these rows
+abbrev pub AreInVersion : ℕ → List Row → Type 0
+AreInVersion version rows = Each (λ r. IsInVersion version r.command) rows
 
 -- the number of a command's kind
 abbrev pub command_kind : Command → ℕ
@@ -25,6 +44,7 @@ command_kind (Line win term text) = 2
 command_kind (Char win code) = 3
 command_kind (File name) = 4
 command_kind Close = 5
+command_kind (Size cols rows) = 6
 
 -- what a row carries of its command, numbers big-endian and texts in UTF-8
 abbrev pub payload_of : Command → List ℕ
@@ -36,6 +56,7 @@ payload_of (Line win term text) =
 payload_of (Char win code) = to_be_bytes w32 win ++ to_be_bytes w32 code
 payload_of (File name) = encode_utf8_all name
 payload_of Close = []
+payload_of (Size cols rows) = cols ∷ rows ∷ []
 
 -- a row past its gate: the session, the kind, the payload's length, the payload
 abbrev pub row_body : Row → List ℕ
@@ -48,9 +69,13 @@ abbrev pub rows_behind_open_gates : List Row → List ℕ
 rows_behind_open_gates [] = []
 rows_behind_open_gates (r ∷ rows) = 1 ∷ row_body r ++ rows_behind_open_gates rows
 
--- a journal of these rows, up to its closing gate
+-- a journal of these rows with this version byte, up to its closing gate
+abbrev pub journal_front : ℕ → List Row → List ℕ
+journal_front version rows = header_with version ++ rows_behind_open_gates rows
+
+-- one of version 2
 abbrev pub journal_bytes : List Row → List ℕ
-journal_bytes rows = journal_header ++ rows_behind_open_gates rows
+journal_bytes rows = journal_front 1 rows
 
 -- the commands of one session, in their order
 abbrev pub commands_of : List Row → ℕ → List Command
@@ -102,29 +127,32 @@ EachNext rows (r ∷ more) = IsNext rows r × EachNext (rows ++ r ∷ []) more
 abbrev pub IsJournal : List Row → Type 0
 IsJournal rows = EachNext [] rows
 
--- the bytes have the header, these rows behind open gates, and then a gate that isn't open; what
--- follows it doesn't matter
+-- the bytes have a header, these rows of its version behind open gates, and then a gate that isn't
+-- open; what follows it doesn't matter
 pub record SpellsRows (bytes : List ℕ) (rows : List Row) : Type 0 where
   pub journal : IsJournal rows
-  pub front : Holds bytes 0 (journal_bytes rows)
+  pub versions : AreInVersion (version_byte bytes) rows
+  pub front : Holds bytes 0 (journal_front (version_byte bytes) rows)
   pub within : length (journal_bytes rows) < length bytes
   pub closed : slice_index bytes (length (journal_bytes rows)) ≢ 1
 
--- no row that may stand behind these stands past the gate at this place
+-- no row of the bytes' version that may stand behind these stands past the gate at this place
 abbrev pub NoRowBehind : List ℕ → ℕ → List Row → Type 0
 NoRowBehind bytes place rows =
-    (r : Row) → IsNext rows r → Holds bytes (place + 1) (row_body r) → ⊥
+    (r : Row) → IsNext rows r → IsInVersion (version_byte bytes) r.command
+    → Holds bytes (place + 1) (row_body r) → ⊥
 
--- The bytes have the header and these rows. At the place behind them a gate is missing, or it is
--- open and no row that may stand there follows.
+-- The bytes have a header and these rows of its version. At the place behind them a gate is
+-- missing, or it is open and no row that may stand there follows.
 pub record IsCorrupt (bytes : List ℕ) (place : ℕ) : Type 0 where
   pub rows : List Row
   pub journal : IsJournal rows
-  pub front : Holds bytes 0 (journal_bytes rows)
+  pub versions : AreInVersion (version_byte bytes) rows
+  pub front : Holds bytes 0 (journal_front (version_byte bytes) rows)
   pub behind : place ≡ length (journal_bytes rows)
   pub gate :
       (length bytes ≤ place) ⊎ ((slice_index bytes place ≡ 1) × NoRowBehind bytes place rows)
 
--- the first 16 bytes aren't the header
+-- the first 16 bytes are no header
 abbrev pub HasNoHeader : List ℕ → Type 0
-HasNoHeader bytes = Holds bytes 0 journal_header → ⊥
+HasNoHeader bytes = Holds bytes 0 (header_with (version_byte bytes)) → ⊥

@@ -10,7 +10,7 @@ ghost use Rattle.gate_journal.specs.declared.fault.InitFault.TheVariants as Init
 use crate::fault::{DiskFault, InitFault};
 use disk_model::{Disk, write_through};
 
-const EMPTY: [u8; 17] = [83, 84, 72, 74, 0, 0, 0, 1, 0, 0, 0, 0, 0, 0, 0, 0, 0];
+const EMPTY: [u8; 17] = [83, 84, 72, 74, 0, 0, 0, 1, 1, 0, 0, 0, 0, 0, 0, 0, 0];
 
 /// Writes a journal without rows on an empty disk: the header and a zero byte as its closing gate.
 /// `NotEmpty` exactly where the disk's size isn't 0. Three device calls.

@@ -5,6 +5,7 @@ ghost use Rattle.story_text.specs.Text.{IsText};
 ghost use Rattle.gate_journal.specs.Command.{IsCommand, HasDigest};
 ghost use Rattle.gate_journal.specs.declared.command.Command.TheVariants as Command;
 ghost use Rattle.gate_journal.specs.Rows.{is_open, is_close, command_kind, payload_of};
+ghost use Rattle.gate_journal.specs.Rows.{IsInVersion};
 
 use line_words::{Key, is_code, is_key, is_terminator};
 use std::alloc::{AllocError, Global};
@@ -41,6 +42,11 @@ pub enum Command {
     },
     /// The session was closed.
     Close,
+    /// The screen is of this size from now on, in characters.
+    Size {
+        cols: u8,
+        rows: u8,
+    },
 }
 
 /// The greatest budget of a turn, in ticks.
@@ -80,6 +86,12 @@ fn is_char_in_range(win: u32, code: u32) -> bool
     is_code(code)
 }
 
+fn is_size_in_range(cols: u8, rows: u8) -> bool
+    ensures { IsTrue result ↔ IsCommand (Command.Size cols rows) }
+{
+    cols > 0 && rows > 0
+}
+
 // Every digest has 32 bytes.
 fn is_whole(_digest: [u8; 32])
     ensures { length _digest ≡ 32 }
@@ -113,6 +125,17 @@ impl Command {
             Command::Char { win, code } => is_char_in_range(*win, *code),
             Command::File { name } => is_name(name),
             Command::Close => true,
+            Command::Size { cols, rows } => is_size_in_range(*cols, *rows),
+        }
+    }
+
+    /// Whether a journal of the version with this byte may have a row of it.
+    pub fn is_in_version(&self, version: u8) -> bool
+        ensures { IsTrue result ↔ IsInVersion version self.now }
+    {
+        match self {
+            Command::Size { .. } => version == 1,
+            _ => true,
         }
     }
 
@@ -140,6 +163,7 @@ impl Command {
             Command::Char { .. } => 3,
             Command::File { .. } => 4,
             Command::Close => 5,
+            Command::Size { .. } => 6,
         }
     }
 
@@ -155,6 +179,7 @@ impl Command {
             Command::Char { .. } => 8,
             Command::File { name } => name.as_utf8().len(),
             Command::Close => 0,
+            Command::Size { .. } => 2,
         }
     }
 
@@ -193,6 +218,10 @@ impl Command {
                 name: name.copy_of(alloc)?,
             },
             Command::Close => Command::Close,
+            Command::Size { cols, rows } => Command::Size {
+                cols: *cols,
+                rows: *rows,
+            },
         })
     }
 }

@@ -13,7 +13,7 @@ pub struct DiskFault {
 /// Why a journal isn't opened.
 #[derive(Clone, Copy, Debug, PartialEq, Eq, thiserror::Error)]
 pub enum JournalFault {
-    /// The first 16 bytes aren't the header.
+    /// The first 16 bytes are no header.
     #[error("the bytes are no journal")]
     NotJournal,
     /// The row behind the open gate at this place may not stand there, or the gate is missing.

@@ -7,6 +7,7 @@ ghost use Rattle.std.specs.Prelude.{Some, None, length, max, slice_get, slice_in
 ghost use Rattle.disk_model.specs.Disk.{EachImage, LeavesOnly, SameDisk, OnlyLooks};
 ghost use Rattle.disk_model.specs.Work.{GoodCalls, FailedCall};
 ghost use Rattle.gate_journal.specs.Rows.{journal_bytes, IsJournal, IsNext, MayStand, SpellsRows};
+ghost use Rattle.gate_journal.specs.Rows.{version_byte};
 ghost use Rattle.gate_journal.specs.Faults.{Explains, IsFault, IsNoFault, IsDiskFault, HasCause};
 ghost use Rattle.gate_journal.specs.declared.row.Row.{Row};
 ghost use Rattle.gate_journal.specs.declared.entry.Entry.TheVariants.{Kept, Faulted};
@@ -104,7 +105,9 @@ impl<D: Disk> Told for Journal<D> {
 impl<D: Disk> Journal<D> {
     ghost use Rattle.gate_journal.specs.Log.{rows_of, rows_kept, Rises, SameLog, next_row, row_end};
     ghost use Rattle.gate_journal.specs.Log.{MaySpell, MayOpen, MayFind, Meanwhile, ReachesGate};
-    ghost use Rattle.gate_journal.specs.Log.{IsSinceOpened, StandsInImage, gates_left, opening_calls};
+    ghost use Rattle.gate_journal.specs.Log.{IsMigrating, IsSinceOpened, StandsInEither};
+    ghost use Rattle.gate_journal.specs.Log.{StandsInImage, gates_left};
+    ghost use Rattle.gate_journal.specs.Opening.{opening_calls};
 
     /// The journal of a disk, with the rows that its bytes spell. It syncs first. A refusal hands
     /// the disk back.
@@ -125,7 +128,7 @@ impl<D: Disk> Journal<D> {
         ensures calls { IsTrue (D.tells disk) → MatchResult result
             (λ j. GoodCalls D.fails_at D.moment (opening_calls (D.seen disk)
             (length (journal_bytes (rows_of j.entries)))) disk j.disk)
-            (λ e. IsDiskFault e.0 → (k : ℕ) × (k < 5)
+            (λ e. IsDiskFault e.0 → (k : ℕ) × (k < 7)
             × FailedCall D.fails_at D.moment D.room 0 k disk e.1) }
 
         ensures steady { IsTrue (D.steady disk) → MatchResult result
@@ -139,6 +142,13 @@ impl<D: Disk> Journal<D> {
             → OnlyLooks D.tells D.may_leave D.moment D.left_since D.reach D.room D.label disk e.1
             × (IsTrue (D.tells disk) → D.seen e.1 ≡ D.seen disk)) }
 
+        // Meanwhile an image is one from before, or has its closing gate or then its version byte
+        // being written, where they aren't 0 and 1.
+        ensures migrates { IsTrue (D.tells disk) → MatchResult result
+            (λ j. LeavesOnly D.moment D.left_since disk j.disk
+            (λ c. D.may_leave disk c ⊎ IsMigrating (D.seen disk) c))
+            (λ e. LeavesOnly D.moment D.left_since disk e.1
+            (λ c. D.may_leave disk c ⊎ IsMigrating (D.seen disk) c)) }
         // Whatever rows the images spell, or these and one more, they spell so meanwhile.
         ensures crash { (rows : List Row) → IsJournal rows
             → EachImage D.tells D.may_leave disk (MayOpen rows)
@@ -146,16 +156,16 @@ impl<D: Disk> Journal<D> {
             → MatchResult result
             (λ j. LeavesOnly D.moment D.left_since disk j.disk (MayOpen rows))
             (λ e. LeavesOnly D.moment D.left_since disk e.1 (MayOpen rows)) }
-        // Where these rows stand in each image, and no row or this one behind an uncertain gate, it
-        // stays so meanwhile, and these are found, or these and that one.
+        // Where these rows stand in each image, of either version, and no row or this one behind an
+        // uncertain gate, it stays so meanwhile, and these are found, or these and that one.
         ensures stands { (rows : List Row) (uncertain : Option Row) → IsJournal rows
             → IfSome uncertain (IsNext rows)
-            → EachImage D.tells D.may_leave disk (StandsInImage rows uncertain)
+            → EachImage D.tells D.may_leave disk (StandsInEither rows uncertain)
             → IsTrue (D.tells disk)
             → MatchResult result
-            (λ j. LeavesOnly D.moment D.left_since disk j.disk (StandsInImage rows uncertain)
+            (λ j. LeavesOnly D.moment D.left_since disk j.disk (StandsInEither rows uncertain)
             × MayFind rows uncertain (rows_of j.entries))
-            (λ e. LeavesOnly D.moment D.left_since disk e.1 (StandsInImage rows uncertain)) }
+            (λ e. LeavesOnly D.moment D.left_since disk e.1 (StandsInEither rows uncertain)) }
         ensures reach { MatchResult result
             (λ j. D.reach j.disk ≤ max (D.reach disk) (D.room disk))
             (λ e. D.reach e.1 ≤ max (D.reach disk) (D.room disk)) }
@@ -168,10 +178,10 @@ impl<D: Disk> Journal<D> {
         ensures writes { IsTrue (D.tells disk) → MatchResult result
             (λ j. ReachesGate (D.seen disk) (D.reach disk) (D.reach j.disk))
             (λ e. ReachesGate (D.seen disk) (D.reach disk) (D.reach e.1)) }
-        // A closing gate that is 0 is left alone.
+        // A closing gate that is 0 is left alone, and so is a journal of version 2.
         ensures untouched { IfOk result (λ j. IsTrue (D.tells disk)
             → slice_index (D.seen disk) (length (journal_bytes (rows_of j.entries))) ≡ 0
-            → D.reach j.disk ≡ D.reach disk) }
+            → version_byte (D.seen disk) ≡ 1 → D.reach j.disk ≡ D.reach disk) }
     {
         let opened = Snapshot::of(&disk);
         let mut disk = disk;

@@ -12,6 +12,7 @@ mod laws;
 mod load;
 mod look;
 mod mark;
+mod migrate;
 mod moments;
 mod parse;
 mod payload;

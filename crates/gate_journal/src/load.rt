@@ -1,22 +1,23 @@
 //! The device calls of an opening (own).
 
-ghost use Rattle.std.specs.Prelude.{◌≡◌, ◌+◌, ◌<◌, ◌≤◌, List, IsTrue, IfOk, IfErr};
-ghost use Rattle.std.specs.Prelude.{length, max, slice_index, Option, IfSome};
+ghost use Rattle.std.specs.Prelude.{◌≡◌, ◌⊎◌, ◌+◌, ◌<◌, ◌≤◌, IsTrue, IfOk, IfErr};
+ghost use Rattle.std.specs.Prelude.{length, max, slice_index};
 ghost use Rattle.disk_model.specs.Disk.{EachImage, LeavesOnly, NoneNew, SameDisk, OnlyLooks};
 ghost use Rattle.gate_journal.specs.Faults.{Explains, IsOfDisk, IsNoFault, UnlessFault};
 ghost use Rattle.gate_journal.specs.Faults.{IsFault, CountsOpening, IsDiskFault};
 ghost use Rattle.disk_model.specs.Work.{GoodCalls, FailedCall};
 ghost use Rattle.gate_journal.specs.Gate.{IsShut};
-ghost use Rattle.gate_journal.specs.Rows.{journal_bytes, SpellsRows, IsJournal, IsNext};
-ghost use Rattle.gate_journal.specs.Log.{MayOpen, ReachesGate, StandsInImage, rows_of, rows_kept};
-ghost use Rattle.gate_journal.specs.Log.{opening_calls};
+ghost use Rattle.gate_journal.specs.Rows.{journal_bytes, SpellsRows, IsJournal};
+ghost use Rattle.gate_journal.specs.Rows.{version_byte};
+ghost use Rattle.gate_journal.specs.Log.{IsMigrating, ReachesGate, rows_of, rows_kept};
+ghost use Rattle.gate_journal.specs.Opening.{opening_calls};
 ghost use Rattle.std.specs.Prelude.{ℕ, MatchResult};
-ghost use Rattle.gate_journal.specs.declared.row.Row.{Row};
 ghost use Rattle.gate_journal.specs.declared.fault.JournalFault.TheVariants.{DiskFault as on_disk};
 
 use crate::fault::{DiskFault, JournalFault};
+use crate::migrate::migrate;
 use crate::parse::{Parsed, parse};
-use disk_model::{Disk, write_through};
+use disk_model::Disk;
 use std::alloc::Global;
 
 // The disk failed; its count was this before.
@@ -58,8 +59,8 @@ pub fn read_all<D: Disk>(alloc: Global, disk: &mut D) -> Result<Vec<u8>, Journal
     Ok(bytes)
 }
 
-/// The rows of a journal, its closing gate closed: a sync, a size and a read; where the gate isn't
-/// 0 a write and a sync more.
+/// The rows of a journal, its closing gate closed and of version 2: a sync, a size and a read;
+/// where the gate isn't 0 a write and a sync more, and then, where it is of version 1, two more.
 pub fn load<D: Disk>(alloc: Global, disk: &mut D) -> Result<Parsed, JournalFault>
     ensures ok { IfOk result (λ p. IsTrue (D.tells disk.old)
         → SpellsRows (D.seen disk.old) (rows_of p.history.list)) }
@@ -78,30 +79,24 @@ pub fn load<D: Disk>(alloc: Global, disk: &mut D) -> Result<Parsed, JournalFault
         × (IsTrue (D.tells disk.old) → D.seen disk.new ≡ D.seen disk.old)) }
     ensures steady { IsTrue (D.steady disk.old) → IsTrue (D.steady disk.new) }
     ensures cause { CountsOpening result (D.faults disk.old) (D.faults disk.new) }
-    // Whatever rows the images spell, or these and one more, they spell so meanwhile.
-    ensures crash { (rows : List Row) → IsJournal rows
-        → EachImage D.tells D.may_leave disk.old (MayOpen rows)
-        → IsTrue (D.tells disk.old)
-        → LeavesOnly D.moment D.left_since disk.old disk.new (MayOpen rows) }
-    ensures stands { (rows : List Row) (uncertain : Option Row) → IsJournal rows
-        → IfSome uncertain (IsNext rows)
-        → EachImage D.tells D.may_leave disk.old (StandsInImage rows uncertain)
-        → IsTrue (D.tells disk.old)
-        → LeavesOnly D.moment D.left_since disk.old disk.new (StandsInImage rows uncertain) }
+    ensures migrates { IsTrue (D.tells disk.old)
+        → LeavesOnly D.moment D.left_since disk.old disk.new
+        (λ c. D.may_leave disk.old c ⊎ IsMigrating (D.seen disk.old) c) }
     ensures reach { D.reach disk.new ≤ max (D.reach disk.old) (D.room disk.old) }
     ensures told_reach { IsTrue (D.tells disk.old)
         → D.reach disk.new ≤ max (D.reach disk.old) (length (D.seen disk.old)) }
     ensures ends { IfOk result (λ p. D.reach disk.new ≤ max (D.reach disk.old) (p.end + 1)) }
     ensures writes { IsTrue (D.tells disk.old)
         → ReachesGate (D.seen disk.old) (D.reach disk.old) (D.reach disk.new) }
-    // A gate that is 0 is left alone.
+    // A gate that is 0 is left alone, and so is version 2.
     ensures untouched { IfOk result (λ p. IsTrue (D.tells disk.old)
-        → slice_index (D.seen disk.old) p.end ≡ 0 → D.reach disk.new ≡ D.reach disk.old) }
+        → slice_index (D.seen disk.old) p.end ≡ 0 → version_byte (D.seen disk.old) ≡ 1
+        → D.reach disk.new ≡ D.reach disk.old) }
     ensures kept { SameDisk D.tells D.room D.label disk.old disk.new }
     ensures calls { IsTrue (D.tells disk.old) → MatchResult result
         (λ p. GoodCalls D.fails_at D.moment (opening_calls (D.seen disk.old) p.end)
         disk.old disk.new)
-        (λ e. IsDiskFault e → (k : ℕ) × (k < 5)
+        (λ e. IsDiskFault e → (k : ℕ) × (k < 7)
         × FailedCall D.fails_at D.moment D.room 0 k disk.old disk.new) }
 {
     let from = disk.faults();
@@ -110,10 +105,8 @@ pub fn load<D: Disk>(alloc: Global, disk: &mut D) -> Result<Parsed, JournalFault
     };
     let bytes = read_all(alloc, disk)?;
     let parsed = parse(alloc, &bytes)?;
-    if bytes[parsed.end as usize] == 0 {
-        return Ok(parsed);
-    }
-    let Ok(()) = write_through(disk, parsed.end, &[0]) else {
+    let gate = bytes[parsed.end as usize];
+    let Ok(()) = migrate(disk, parsed.end, gate, bytes[8]) else {
         return Err(disk_fault(disk, from));
     };
     Ok(parsed)

@@ -2,8 +2,10 @@
 
 ghost use Rattle.std.specs.Prelude.{◌≡◌, ◌+◌, ◌≤◌, ◌++◌, [], List, ℕ};
 ghost use Rattle.std.specs.Prelude.{IfOk, IfErr, MatchOption};
-ghost use Rattle.std.specs.Prelude.{length, drop};
+ghost use Rattle.std.specs.Prelude.{length, drop, nat_eq, true};
+ghost use Rattle.std.specs.List.{starts_with};
 ghost use Rattle.gate_journal.specs.Rows.{journal_bytes, IsJournal, SpellsRows};
+ghost use Rattle.gate_journal.specs.Rows.{header_with, version_byte, HasNoHeader};
 ghost use Rattle.gate_journal.specs.Parsing.{BeginsWithRow, IsNoNext};
 ghost use Rattle.gate_journal.specs.Seats.{CountsRows};
 ghost use Rattle.gate_journal.specs.Faults.{RefusesBytes};
@@ -18,7 +20,22 @@ use crate::seats::Seats;
 use std::alloc::{AllocError, Global};
 use std::marker::Model;
 
-const HEADER: [u8; 16] = [83, 84, 72, 74, 0, 0, 0, 1, 0, 0, 0, 0, 0, 0, 0, 0];
+// The byte that tells a journal's version, where the bytes begin with a header.
+fn version_in(bytes: &[u8]) -> Option<u8>
+    ensures { MatchOption result (HasNoHeader bytes.now)
+        (λ version. (version ≡ version_byte bytes.now)
+        × (starts_with nat_eq bytes.now (header_with version) ≡ true)) }
+{
+    let Some(version) = bytes.get(8) else {
+        return None;
+    };
+    let header = [83, 84, 72, 74, 0, 0, 0, 1, *version, 0, 0, 0, 0, 0, 0, 0];
+    if bytes.starts_with(&header) {
+        Some(*version)
+    } else {
+        None
+    }
+}
 
 /// Rows that a journal may have, and the place of the closing gate behind them.
 #[derive(Drop)]
@@ -82,9 +99,10 @@ pub struct Parsed {
     pub end: u64,
 }
 
-// The row past an open gate at this place, where one stands there that may.
+// The row of this version past an open gate at this place, where one stands there that may.
 fn next_row(
     alloc: Global,
+    version: u8,
     seats: &Seats,
     place: u64,
     past: &[u8],
@@ -92,7 +110,8 @@ fn next_row(
     ensures { IfOk result (λ o. (rows : List Row)
         → CountsRows rows seats.now.counts seats.now.uses
         → place ≡ length (journal_bytes rows)
-        → MatchOption o (IsNoNext rows past.now) (BeginsWithRow rows past.now)) }
+        → MatchOption o (IsNoNext version rows past.now)
+        (BeginsWithRow version rows past.now)) }
 {
     let [session, kind, high, low, rest @ ..] = past else {
         return Ok(None);
@@ -104,7 +123,7 @@ fn next_row(
     let Some(command) = read_command(alloc, *kind, &rest[..size])? else {
         return Ok(None);
     };
-    if !seats.may_stand(*session, &command) {
+    if !command.is_in_version(version) || !seats.may_stand(*session, &command) {
         return Ok(None);
     }
     Ok(Some(Row {
@@ -115,13 +134,19 @@ fn next_row(
     }))
 }
 
-/// The row that may stand next behind these rows, where the bytes past a gate begin with one.
-pub fn row_behind(alloc: Global, rows: &Rows, past: &[u8]) -> Result<Option<Row>, AllocError>
-    ensures { IfOk result (λ o.
-        MatchOption o (IsNoNext rows.now past.now) (BeginsWithRow rows.now past.now)) }
+/// The row of this version that may stand next behind these rows, where the bytes past a gate begin
+/// with one.
+pub fn row_behind(
+    alloc: Global,
+    version: u8,
+    rows: &Rows,
+    past: &[u8],
+) -> Result<Option<Row>, AllocError>
+    ensures { IfOk result (λ o. MatchOption o (IsNoNext version rows.now past.now)
+        (BeginsWithRow version rows.now past.now)) }
 {
     let seats = Seats::of(rows.as_slice());
-    next_row(alloc, &seats, rows.end, past)
+    next_row(alloc, version, &seats, rows.end, past)
 }
 
 /// The rows that the bytes spell.
@@ -129,9 +154,9 @@ pub fn read_rows(alloc: Global, bytes: &[u8]) -> Result<Rows, JournalFault>
     ensures ok { IfOk result (λ rows. SpellsRows bytes.now rows) }
     ensures exact { IfErr result (RefusesBytes bytes.now) }
 {
-    if !bytes.starts_with(&HEADER) {
+    let Some(version) = version_in(bytes) else {
         return Err(JournalFault::NotJournal);
-    }
+    };
     let mut rows = Vec::new(alloc);
     let mut seats = Seats::new();
     let mut place: usize = 16;
@@ -143,7 +168,7 @@ pub fn read_rows(alloc: Global, bytes: &[u8]) -> Result<Rows, JournalFault>
                 end: place as u64,
             });
         }
-        let Some(row) = next_row(alloc, &seats, place as u64, past)? else {
+        let Some(row) = next_row(alloc, version, &seats, place as u64, past)? else {
             return Err(JournalFault::Corrupt(place as u64));
         };
         seats.count(row.session, &row.command);

@@ -119,6 +119,18 @@ fn read_close(payload: &[u8]) -> Option<Command>
     }
 }
 
+fn read_size(payload: &[u8]) -> Option<Command>
+    ensures { MatchOption result (IsNoPayload 6 payload.now) (IsPayload 6 payload.now) }
+{
+    let [cols, rows] = payload else {
+        return None;
+    };
+    checked(Command::Size {
+        cols: *cols,
+        rows: *rows,
+    })
+}
+
 /// The command of a row of this kind with this payload; none where there is none.
 pub fn read_command(alloc: Global, kind: u8, payload: &[u8]) -> Result<Option<Command>, AllocError>
     ensures { IfOk result (λ o. MatchOption o (IsNoPayload kind payload.now)
@@ -130,6 +142,7 @@ pub fn read_command(alloc: Global, kind: u8, payload: &[u8]) -> Result<Option<Co
         3 => Ok(read_char(payload)),
         4 => read_file(alloc, payload),
         5 => Ok(read_close(payload)),
+        6 => Ok(read_size(payload)),
         _ => Ok(None),
     }
 }

@@ -84,6 +84,7 @@ fn put_payload(out: &mut Vec<u8>, command: &Command)
         }
         Command::File { name } => put(out, name.as_utf8()),
         Command::Close => {}
+        Command::Size { cols, rows } => put(out, &[*cols, *rows]),
     }
 }
 
@@ -176,6 +177,10 @@ fn command_in(key_room: Vec<u8>, text_room: String, command: &Command) -> Comman
             name: text_in(text_room, name),
         },
         Command::Close => Command::Close,
+        Command::Size { cols, rows } => Command::Size {
+            cols: *cols,
+            rows: *rows,
+        },
     }
 }
 

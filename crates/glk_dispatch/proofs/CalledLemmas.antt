@@ -1,5 +1,5 @@
 -- What calls answered and left keeps what the work of a call keeps.
-use Rattle.std.proofs.Common.{◌≡◌, subst, ℕ}
+use Rattle.std.proofs.Common.{◌≡◌, ◌⊎◌, inl, inr, refl, subst, ℕ}
 use Rattle.std.proofs.Common.{Option, Result, Ok, Err, List}
 use Rattle.std.proofs.Common.{[], slice_index}
 use Rattle.std.specs.Prelude.{IfOk, OnOk}
@@ -8,6 +8,7 @@ use Rattle.vm_memory.specs.declared.fault.Trap.{Trap}
 use Rattle.vm_memory.specs.declared.fault.Trap.TheVariants.{Fault, NoMemory}
 use Rattle.vm_stack.specs.StackState.{StackState}
 use Rattle.glk_input.specs.declared.input.Input.{Input}
+use Rattle.glk_input.specs.declared.input.Input.TheVariants as input
 use Rattle.glk_dispatch.specs.Answer.{AnswersOverGlk, GlkCall, DoesCall}
 use Rattle.glk_dispatch.specs.Answer.{LeavesGlkAndMemory as LeavesPut, Reached}
 use Rattle.glk_dispatch.specs.Answer.{CallRule, UnlessNoMemory, glk_call}
@@ -97,6 +98,26 @@ does-ready {A} s should g m t (Ok x) v k e =
 does-ready {A} s should g m t (Err (Fault n)) v k e =
     subst (λ (y : Reached (GlkCall × A)). Kept s (on s) y) e k v
 does-ready s should g m t (Err NoMemory) v k e = tt
+
+-- an input that is no file's name is answered by an event
+abbrev pub IsForEvent : Input → Type 0
+IsForEvent i =
+    ((win : ℕ) × (text : List ℕ) × (key : ℕ) × (i ≡ input.Line win text key))
+    ⊎ (((win : ℕ) × (code : ℕ) × (i ≡ input.Char win code))
+    ⊎ ((cols : ℕ) × (rows : ℕ) × (i ≡ input.Size cols rows)))
+
+by-event : (s : GlkCall) (i : Input) → IsForEvent i
+    → events.event_answered s i ≡ events.input_answered s i
+by-event s i (inl (win, text, key, e)) = rw e refl
+by-event s i (inr (inl (win, code, e))) = rw e refl
+by-event s i (inr (inr (cols, rows, e))) = rw e refl
+
+pub event_does : (s : GlkCall) (i : Input) (g : Glk) (m : MemoryMap) (t : StackState)
+    (r : Result ℕ Trap)
+    → IsForEvent i → DoesCall (events.event_answered s i) g m t r
+    → DoesCall (events.input_answered s i) g m t r
+event_does s i g m t r is does =
+    subst (λ (x : CallRule ℕ). DoesCall x g m t r) (by-event s i is) does
 
 pub event_keeps : (s : GlkCall) (i : Input) (g : Glk) (m : MemoryMap) (t : StackState)
     (r : Result ℕ Trap)

@@ -43,6 +43,7 @@ use Rattle.glk_dispatch.proofs.KeptLemmas.{same-parts, self, stands, told, with-
 use Rattle.glk_dispatch.proofs.KeptStory.{kept-refers_all, kept-told, ok-written}
 use Rattle.glk_dispatch.proofs.KeptOutput.{kept-echo_put}
 use Rattle.glk_dispatch.proofs.KeptStreams.{prompted-valid}
+use Rattle.glk_dispatch.proofs.ScreenLemmas.{screen-ready}
 
 -- a live window has a number from 1 on that is below the next one
 range-case : (t : Bool) (w : Win) (ws : List Win) (a z n : ℕ) → (w.number == n) ≡ t
@@ -120,6 +121,7 @@ answered-valid : (i : Input) (ws : List WindowInput) → are_valid_inputs ws ≡
 answered-valid (input.Line win text key) ws e = laws.requests.over ws win e
 answered-valid (input.Char win code) ws e = laws.requests.over ws win e
 answered-valid (input.File name) ws e = e
+answered-valid (input.Size cols rows) ws e = e
 
 answered-asked : (i : Input) (g : Glk) → AreAsked g → AreAsked (events.request_over g i)
 answered-asked (input.Line win text key) g v =
@@ -127,6 +129,7 @@ answered-asked (input.Line win text key) g v =
 answered-asked (input.Char win code) g v =
     asked-changed g request.request_ended win (λ w. refl) (λ w e. absurd cc) v
 answered-asked (input.File name) g v = v
+answered-asked (input.Size cols rows) g v = v
 
 -- ---- lines that are shown
 
@@ -188,6 +191,7 @@ kept-input_echoed b rs (input.Line win text key) g m k = kept-line_echoed b rs
     (request.window_request g.requests win) g m win text k
 kept-input_echoed b rs (input.Char win code) g m k = k
 kept-input_echoed b rs (input.File name) g m k = k
+kept-input_echoed b rs (input.Size cols rows) g m k = k
 
 -- ---- the rows
 
@@ -340,6 +344,7 @@ ok-delivered o ws m (input.Line win text key) k = line-delivered o
     (request.window_request ws win) m win text key k
 ok-delivered o ws m (input.Char win code) k = k
 ok-delivered o ws m (input.File name) k = k
+ok-delivered o ws m (input.Size cols rows) k = k
 
 kept-delivered : (b : GlkCall) (g : Glk) (m : MemoryMap) (i : Input)
     → Keeps b (glk_call g m b.stack)
@@ -363,15 +368,16 @@ pub kept-event_answered : (s : GlkCall) (i : Input)
     → Kept (at_rest s) (on (at_rest s)) (events.event_answered s i)
 kept-event_answered s i =
     let b = at_rest s in
-    let shown = events.input_echoed b.glk b.memory i in
+    let g = events.screen_after b.glk i in
+    let shown = events.input_echoed g b.memory i in
     let given = shown >>= (λ p. events.input_delivered p.0 p.1 i) in
     let told_at = given >>=
     (λ p. refers_all (record b { glk = p.0; memory = p.1 }) s.glk.event (events.event_words p.2)) in
     kept-bind b (Keeps b) (on b) told_at (λ t. Ok (t, 0))
     (kept-bind b (between b) (Keeps b) given
     (λ p. refers_all (record b { glk = p.0; memory = p.1 }) s.glk.event (events.event_words p.2))
-    (kept-bind b (puts b b.glk.requests) (between b) shown (λ p. events.input_delivered p.0 p.1 i)
-    (kept-input_echoed b b.glk.requests i b.glk b.memory (begins-puts b b.glk (λ v. v)))
+    (kept-bind b (puts b g.requests) (between b) shown (λ p. events.input_delivered p.0 p.1 i)
+    (kept-input_echoed b g.requests i g b.memory (begins-puts b g (screen-ready i b.glk)))
     (λ p h. kept-delivered b p.0 p.1 i h.keeps))
     (λ p h. kept-refers_all b (record b { glk = p.0; memory = p.1 }) s.glk.event
     (events.event_words p.2) h))
@@ -383,3 +389,4 @@ kept-answered (input.Line win text key) s = kept-event_answered s (input.Line wi
 kept-answered (input.Char win code) s = kept-event_answered s (input.Char win code)
 kept-answered (input.File name) s = kept-alone (at_rest s) (Done (prompted s.glk name))
     (prompted-valid s.glk name)
+kept-answered (input.Size cols rows) s = kept-event_answered s (input.Size cols rows)

@@ -15,6 +15,7 @@ pub mod KeptLemmas
 pub mod KeptStory
 pub mod KeptOutput
 pub mod KeptOpening
+pub mod ScreenLemmas
 pub mod KeptWindows
 pub mod KeptStreams
 pub mod KeptEvents

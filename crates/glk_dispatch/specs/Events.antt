@@ -1,4 +1,5 @@
--- Events and input (Glk 0.7.5, "Events", "Line Input Events", "Character Input Events").
+-- Events and input (Glk 0.7.5, "Events", "Line Input Events", "Character Input Events", "Window
+-- Arrangement Events").
 use Rattle.std.specs.Prelude.{ℕ, zero, suc, ◌+◌, ◌%◌, ◌^◌, ◌==◌, ◌||◌}
 use Rattle.std.specs.Prelude.{◌&&◌, not, nat_le, Bool, true}
 use Rattle.std.specs.Prelude.{if◌then◌else◌, List, [], ◌∷◌, ◌++◌, Option, Some}
@@ -21,7 +22,7 @@ use Rattle.glk_input.specs.declared.request.WindowInput.{WindowInput}
 use Rattle.glk_input.specs.declared.request.Request.TheVariants.{Line, Char}
 use Rattle.glk_dispatch.specs.Answer.{GlkCall, Done, Reached, CallRule, over_glk_alone, within}
 use Rattle.glk_dispatch.specs.FileRefs.{prompted}
-use Rattle.glk_dispatch.specs.Glk.{wait_set_back, takes, window}
+use Rattle.glk_dispatch.specs.Glk.{screen_sized, wait_set_back, takes, window}
 use Rattle.glk_dispatch.specs.Output.{array_code_at, echo_put}
 use Rattle.glk_dispatch.specs.Reference.{gives, refers_all}
 use Rattle.glk_dispatch.specs.declared.called.Called.{Called}
@@ -167,17 +168,27 @@ line_echoed None g m win text = Ok (g, m)
 line_echoed (Some (Char unicode)) g m win text = Ok (g, m)
 line_echoed (Some (Line r)) g m win text = line_shown r g m win text
 
+-- the screen has the size that an input tells
+abbrev pub screen_after : Glk → Input → Glk
+screen_after g (input.Line win text key) = g
+screen_after g (input.Char win code) = g
+screen_after g (input.File name) = g
+screen_after g (input.Size cols rows) = screen_sized g cols rows
+
 abbrev pub input_echoed : Glk → MemoryMap → Input → Reached (Glk × MemoryMap)
 input_echoed g m (input.Line win text key) =
     line_echoed (request.window_request g.requests win) g m win text
 input_echoed g m (input.Char win code) = Ok (g, m)
 input_echoed g m (input.File name) = Ok (g, m)
+input_echoed g m (input.Size cols rows) = Ok (g, m)
 
--- an input that a call may wait for: what a window asks for, or the name of a file
+-- an input that a call may wait for: what a window asks for, the name of a file, or a size of the
+-- screen
 abbrev pub is_awaited : List WindowInput → Input → Bool
 is_awaited ws (input.Line win text key) = delivery.wants ws (input.Line win text key)
 is_awaited ws (input.Char win code) = delivery.wants ws (input.Char win code)
 is_awaited ws (input.File name) = true
+is_awaited ws (input.Size cols rows) = delivery.wants ws (input.Size cols rows)
 
 -- the input goes to its request
 abbrev pub request_over : Glk → Input → Glk
@@ -188,11 +199,11 @@ input_delivered g m i =
     within (request_over g i) (coded (delivery.delivered g.requests m i))
     >>= (λ p. Ok (request_over g i, p.0, p.1))
 
--- what was waited with is set back first; the input is shown, delivered, and its event told where
--- glk_select waited for it; that call answers 0
+-- what was waited with is set back first; the screen has the size that the input tells; the input
+-- is shown, delivered, and its event told where glk_select waited for it; that call answers 0
 abbrev pub event_answered : GlkCall → Input → CallRule ℕ
 event_answered s i =
-    input_echoed (wait_set_back s.glk) s.memory i
+    input_echoed (screen_after (wait_set_back s.glk) i) s.memory i
     >>= (λ p. input_delivered p.0 p.1 i)
     >>= (λ p. refers_all (record s { glk = p.0; memory = p.1 }) s.glk.event (event_words p.2))
     >>= (λ t. Ok (t, 0))
@@ -202,3 +213,4 @@ abbrev pub input_answered : GlkCall → Input → CallRule ℕ
 input_answered s (input.Line win text key) = event_answered s (input.Line win text key)
 input_answered s (input.Char win code) = event_answered s (input.Char win code)
 input_answered s (input.File name) = over_glk_alone s (Done (prompted s.glk name))
+input_answered s (input.Size cols rows) = event_answered s (input.Size cols rows)

@@ -44,6 +44,10 @@ character_charged g = record g { chars = min (g.chars + 1) (2 ^ 64 - 1) }
 abbrev pub with_rectangles : Glk → Glk
 with_rectangles g = record g { windows = placing.place g.windows g.cols g.rows }
 
+-- the screen has this size, and the windows have their rectangles of it
+abbrev pub screen_sized : Glk → ℕ → ℕ → Glk
+screen_sized g cols rows = with_rectangles (record g { cols = cols; rows = rows })
+
 abbrev pub has_window : Glk → ℕ → Bool
 has_window g n = has tree.window_number g.windows.slots n
 

@@ -28,7 +28,9 @@ pub use dispatch::call;
 pub use events::EventCall;
 pub use filerefs::FileRefCall;
 pub use glk::{Glk, Prompt};
-pub use laws::{calls_keep_valid, entries_follow_windows, streams_follow_windows};
+pub use laws::{
+    calls_keep_valid, entries_follow_windows, sizes_change_the_screen, streams_follow_windows,
+};
 pub use output::{MAX_PRINTED, OutputCall, put_code};
 pub use selector::Call;
 pub use streams::{StreamCall, get_code, position};

@@ -29,6 +29,15 @@ impl Glk {
         }
     }
 
+    /// Sets the size of the screen, of which all windows get their rectangles.
+    pub(crate) fn resize(&mut self, alloc: Global, cols: u8, rows: u8) -> Result<(), Trap>
+        ensures { ChangesGlk (Done (state.screen_sized self.old cols rows)) self.new result }
+    {
+        self.cols = cols;
+        self.rows = rows;
+        self.place(alloc)
+    }
+
     /// A new window takes the next stream number, and has no request.
     fn begin_window(&mut self, alloc: Global, win: u32) -> Result<(), Trap>
         ensures { ChangesGlk (Done (rows.window_begun self.old win)) self.new result }

@@ -1,10 +1,11 @@
-//! Inputs that a call waits for (Glk 0.7.5, "Events", "Line Input Events").
+//! Inputs that a call waits for (Glk 0.7.5, "Events", "Line Input Events", "Window Arrangement
+//! Events").
 
 ghost use Rattle.std.specs.Prelude.{◌≡◌, OnOk, true};
 ghost use Rattle.glk_input.specs.Delivery as delivery;
 ghost use Rattle.glk_input.specs.Request as request;
-ghost use Rattle.glk_dispatch.specs.Answer.{DoesCall, Gets, LeavesGlkAndMemory, UnlessNoMemory};
-ghost use Rattle.glk_dispatch.specs.Answer.{glk_call};
+ghost use Rattle.glk_dispatch.specs.Answer.{ChangesGlk, DoesCall, Done, Gets, LeavesGlkAndMemory};
+ghost use Rattle.glk_dispatch.specs.Answer.{UnlessNoMemory, glk_call};
 ghost use Rattle.glk_dispatch.specs.Events as rows;
 ghost use Rattle.glk_dispatch.specs.Keeping.{KeepsStory};
 ghost use Rattle.glk_dispatch.specs.Valid.{IsReadyGlk, IsValidGlk};
@@ -76,13 +77,23 @@ fn echo_text(
     }
 }
 
+// The screen has the size that an input tells.
+fn take_screen(alloc: Global, glk: &mut Glk, input: &Input) -> Result<(), Trap>
+    ensures { ChangesGlk (Done (rows.screen_after glk.old input.now)) glk.new result }
+{
+    match input {
+        Input::Size { cols, rows } => glk.resize(alloc, *cols, *rows),
+        Input::Line { .. } | Input::Char { .. } | Input::File { .. } => Ok(()),
+    }
+}
+
 fn echo_input(alloc: Global, glk: &mut Glk, memory: &mut Memory, input: &Input) -> Result<(), Trap>
     ensures { LeavesGlkAndMemory (rows.input_echoed glk.old memory.old input.now)
         glk.new memory.new result }
 {
     match input {
         Input::Line { win, text, .. } => echo_text(alloc, glk, memory, *win, text),
-        Input::Char { .. } | Input::File { .. } => Ok(()),
+        Input::Char { .. } | Input::File { .. } | Input::Size { .. } => Ok(()),
     }
 }
 
@@ -106,6 +117,7 @@ fn answer_event(
 {
     let told_at = glk.event;
     glk.rest();
+    take_screen(alloc, glk, input)?;
     echo_input(alloc, glk, memory, input)?;
     let event = deliver(glk, memory, input)?;
     tell_event(memory, stack, told_at, event)?;
@@ -113,9 +125,9 @@ fn answer_event(
 }
 
 /// Gives an input to the call that waits for it, and answers what that call answers: 0 for
-/// `glk_select`, whose reference takes the event of what a window asks for; for a prompt, which
-/// takes a file's name, the new file reference, or 0. What the call waited with is set back, after
-/// a fault too.
+/// `glk_select`, whose reference takes the event of what a window asks for or of a new size of the
+/// screen; for a prompt, which takes a file's name, the new file reference, or 0. What the call
+/// waited with is set back, after a fault too.
 pub fn answer(
     alloc: Global,
     glk: &mut Glk,
@@ -130,7 +142,9 @@ pub fn answer(
     ensures valid { UnlessNoMemory result (IsValidGlk glk.old → IsReadyGlk glk.new) }
 {
     match input {
-        Input::Line { .. } | Input::Char { .. } => answer_event(alloc, glk, memory, stack, input),
+        Input::Line { .. } | Input::Char { .. } | Input::Size { .. } => {
+            answer_event(alloc, glk, memory, stack, input)
+        }
         Input::File { name } => Ok(answer_prompt(alloc, glk, name)?),
     }
 }

@@ -1,12 +1,14 @@
 -- Values that the header of Glk and the rules of its input give, said of the definitions.
-use Rattle.std.specs.Prelude.{◌≡◌, [], ◌∷◌, true, false, map, Some}
+use Rattle.std.specs.Prelude.{◌≡◌, [], ◌∷◌, true, false, map, Some, Ok}
 use Rattle.std.proofs.Common.{refl}
 use Rattle.glk_input.specs.Keycode.{is_keycode, is_terminator}
 use Rattle.glk_input.specs.declared.keycode.TheConstants.{UNKNOWN, LEFT, RIGHT, UP, DOWN, RETURN}
 use Rattle.glk_input.specs.declared.keycode.TheConstants.{DELETE, ESCAPE, TAB, PAGE_UP, PAGE_DOWN}
 use Rattle.glk_input.specs.declared.keycode.TheConstants.{HOME, END, FUNC1, FUNC12}
 use Rattle.glk_input.specs.Request.{cancelled}
-use Rattle.glk_input.specs.Delivery.{taken_key, taken_line, wants_line}
+use Rattle.vm_memory.specs.MemoryMap.{MemoryMap}
+use Rattle.glk_input.specs.Delivery.{delivered, taken_key, taken_line, wants, wants_line}
+use Rattle.glk_input.specs.declared.input.Input.TheVariants.{Size}
 use Rattle.glk_input.specs.declared.request.LineRequest.{LineRequest}
 use Rattle.glk_input.specs.declared.request.Request.TheVariants.{Line, Char}
 
@@ -70,3 +72,12 @@ cancelled_line = refl
 pub cancelled_char : cancelled (Some (Char false)) 1
     ≡ record { kind = 0; win = 0; val1 = 0; val2 = 0 }
 cancelled_char = refl
+
+-- a new size of the screen is taken where no window asks for anything
+pub size_wanted : wants [] (Size 40 10) ≡ true
+size_wanted = refl
+
+-- it is the event 5 of no window, and memory stays
+pub size_delivered : (m : MemoryMap)
+    → delivered [] m (Size 40 10) ≡ Ok (m, record { kind = 5; win = 0; val1 = 0; val2 = 0 })
+size_delivered m = refl

@@ -1,4 +1,5 @@
--- The delivery of an input (Glk 0.7.5, "Line Input Events", "Character Input Events").
+-- The delivery of an input (Glk 0.7.5, "Line Input Events", "Character Input Events", "Window
+-- Arrangement Events").
 use Rattle.std.specs.Prelude.{◌≡◌, ℕ, ◌+◌, ◌%◌, ◌^◌, ◌==◌, ◌&&◌}
 use Rattle.std.specs.Prelude.{◌||◌, nat_lt, not, Bool, true}
 use Rattle.std.specs.Prelude.{false, if◌then◌else◌, List, [], ◌∷◌, ◌++◌, length, map, take}
@@ -11,7 +12,7 @@ use Rattle.vm_memory.specs.declared.fault.MemStop.{MemStop}
 use Rattle.vm_memory.specs.declared.fault.MemStop.TheVariants as stop
 use Rattle.glk_input.specs.Keycode.{is_keycode}
 use Rattle.glk_input.specs.Request.{window_input_changed, request_ended, window_request, no_event}
-use Rattle.glk_input.specs.Request.{line_event, char_event}
+use Rattle.glk_input.specs.Request.{line_event, char_event, arrange_event}
 use Rattle.glk_input.specs.declared.event.Event.{Event}
 use Rattle.glk_input.specs.declared.input.Input.{Input}
 use Rattle.glk_input.specs.declared.input.Input.TheVariants as input
@@ -36,11 +37,12 @@ wants_char (Some (Line r)) = false
 wants_char (Some (Char unicode)) = true
 wants_char None = false
 
--- the input is what its window asks for
+-- the input is what its window asks for; a size of the screen is always taken
 abbrev pub wants : List WindowInput → Input → Bool
 wants ws (input.Line win text key) = wants_line (window_request ws win) key
 wants ws (input.Char win code) = wants_char (window_request ws win)
 wants ws (input.File name) = false
+wants ws (input.Size cols rows) = true
 
 -- a character as a request takes it: where it isn't for Unicode, `?` for one above 255
 abbrev pub code_taken : Bool → ℕ → ℕ
@@ -91,12 +93,14 @@ abbrev pub delivered : List WindowInput → MemoryMap → Input
 delivered ws m (input.Line win text key) = line_delivered (window_request ws win) m win text key
 delivered ws m (input.Char win code) = Ok (m, char_delivered (window_request ws win) win code)
 delivered ws m (input.File name) = Ok (m, no_event)
+delivered ws m (input.Size cols rows) = Ok (m, arrange_event)
 
--- the window's request is over
+-- the window's request is over; a size of the screen ends none
 abbrev pub requests_after_input : List WindowInput → Input → List WindowInput
 requests_after_input ws (input.Line win text key) = window_input_changed request_ended ws win
 requests_after_input ws (input.Char win code) = window_input_changed request_ended ws win
 requests_after_input ws (input.File name) = ws
+requests_after_input ws (input.Size cols rows) = ws
 
 -- the characters that a line writes: none where no line is asked for
 abbrev pub line_front : Option Request → List ℕ → List ℕ
@@ -109,6 +113,7 @@ abbrev pub to_write : List WindowInput → Input → List ℕ
 to_write ws (input.Line win text key) = line_front (window_request ws win) text
 to_write ws (input.Char win code) = []
 to_write ws (input.File name) = []
+to_write ws (input.Size cols rows) = []
 
 -- The call answered this event and left this memory, as it should, unless room was wanting.
 abbrev pub Delivers : Result (MemoryMap × Event) MemFault → MemoryMap → Result Event MemStop
@@ -145,3 +150,4 @@ LeavesPart ws old (input.Line win text key) new =
     LeavesLinePart (window_request ws win) old text new
 LeavesPart ws old (input.Char win code) new = new ≡ old
 LeavesPart ws old (input.File name) new = new ≡ old
+LeavesPart ws old (input.Size cols rows) new = new ≡ old

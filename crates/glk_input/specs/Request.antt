@@ -113,6 +113,10 @@ line_event win count key = record { kind = 3; win = win; val1 = count; val2 = ke
 abbrev pub char_event : ℕ → ℕ → Event
 char_event win code = record { kind = 2; win = win; val1 = code; val2 = 0 }
 
+-- the windows have new sizes, all of them
+abbrev pub arrange_event : Event
+arrange_event = record { kind = 5; win = 0; val1 = 0; val2 = 0 }
+
 -- a request that is cancelled: the line with which it began, or nothing where there is none
 abbrev pub cancelled : Option Request → ℕ → Event
 cancelled (Some (Line r)) win = line_event win r.init 0

@@ -1,4 +1,5 @@
-//! The delivery of an input (Glk 0.7.5, "Line Input Events", "Character Input Events").
+//! The delivery of an input (Glk 0.7.5, "Line Input Events", "Character Input Events",
+//! "Window Arrangement Events").
 
 ghost use Rattle.std.specs.Prelude.{◌≡◌, [], IsOk, OnErr, take, true};
 ghost use Rattle.std.specs.Str.{chars};
@@ -15,7 +16,8 @@ use vm_memory::{MemStop, Memory};
 
 impl Requests {
     /// Whether the input is what its window asks for: a line ended by the return key or by one of
-    /// the request's own terminators, or a character. Never a file's name.
+    /// the request's own terminators, or a character. Never a file's name, and each size of the
+    /// screen.
     pub fn wants(&self, input: &Input) -> bool
         ensures { result ≡ delivery.wants self.now input.now }
     {
@@ -23,6 +25,7 @@ impl Requests {
             Input::Line { win, key, .. } => self.wants_line(*win, *key),
             Input::Char { win, .. } => self.wants_char(*win),
             Input::File { .. } => false,
+            Input::Size { .. } => true,
         }
     }
 
@@ -47,7 +50,8 @@ impl Requests {
     /// Delivers an input that is wanted: the request is over, then a line's characters go to its
     /// array, and the event tells what came. The refusal is that of a write to memory; what the
     /// work had reached stands: the request is over, and memory has a first part of the line. A
-    /// character is always delivered, and so is a line of which nothing is written.
+    /// character is always delivered, and so is a line of which nothing is written. A size of the
+    /// screen is too, and ends no request.
     pub fn deliver(&mut self, memory: &mut Memory, input: &Input) -> Result<Event, MemStop>
         requires { delivery.wants self.old input.now ≡ true }
         ensures value { delivery.Delivers (delivery.delivered self.old memory.old input.now)
@@ -61,6 +65,7 @@ impl Requests {
             Input::Line { win, text, key } => self.deliver_line(memory, *win, text, *key),
             Input::Char { win, code } => Ok(self.deliver_char(*win, *code)),
             Input::File { .. } => Ok(Event::none()),
+            Input::Size { .. } => Ok(Event::arrange()),
         }
     }
 

@@ -1,11 +1,12 @@
 //! Events (Glk 0.7.5, "Events").
 
 ghost use Rattle.std.specs.Prelude.{◌≡◌};
-ghost use Rattle.glk_input.specs.Request.{char_event, line_event, no_event};
+ghost use Rattle.glk_input.specs.Request.{arrange_event, char_event, line_event, no_event};
 
 /// What a story is told: the type, the window, and two values. Types are 0 for none, 2 for a
-/// character, whose code is `val1`, and 3 for a line, with its length in `val1` and in `val2` the
-/// terminator that ended it, or 0.
+/// character, whose code is `val1`, 3 for a line, with its length in `val1` and in `val2` the
+/// terminator that ended it, or 0, and 5 for windows that have new sizes, all of them, so that the
+/// rest is 0.
 #[derive(Clone, Copy, Debug, PartialEq, Eq)]
 pub struct Event {
     pub kind: u32,
@@ -17,6 +18,8 @@ pub struct Event {
 const CHARACTER: u32 = 2;
 
 const LINE: u32 = 3;
+
+const ARRANGE: u32 = 5;
 
 impl Event {
     /// Nothing happened.
@@ -51,6 +54,18 @@ impl Event {
             kind: CHARACTER,
             win,
             val1: code,
+            val2: 0,
+        }
+    }
+
+    /// The windows have new sizes.
+    pub(crate) fn arrange() -> Event
+        ensures { result ≡ arrange_event }
+    {
+        Event {
+            kind: ARRANGE,
+            win: 0,
+            val1: 0,
             val2: 0,
         }
     }

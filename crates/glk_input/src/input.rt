@@ -14,6 +14,8 @@ pub enum Input {
     Char { win: u32, code: u32 },
     /// The name of the file that a prompt asks for; the empty name cancels.
     File { name: Text },
+    /// The screen of the player has this many columns and rows from now on.
+    Size { cols: u8, rows: u8 },
 }
 
 impl Input {
@@ -33,6 +35,10 @@ impl Input {
             },
             Input::File { name } => Input::File {
                 name: name.copy_of(alloc)?,
+            },
+            Input::Size { cols, rows } => Input::Size {
+                cols: *cols,
+                rows: *rows,
             },
         })
     }

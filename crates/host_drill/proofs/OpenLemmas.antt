@@ -11,6 +11,7 @@ use Rattle.gate_journal.specs.Log.{rows_kept}
 use Rattle.gate_journal.specs.Rows.{SpellsRows, journal_header}
 use Rattle.gate_journal.specs.declared.row.Row.{Row}
 use Rattle.gate_journal.proofs.RowLemmas.{one_list, spells_shut}
+use Rattle.gate_journal.proofs.VersionLemmas.{stands_either}
 use Rattle.host_serve.specs.Holders.{seen_at}
 use Rattle.host_serve.specs.Opening.{AreAgreed, histories_in_rows}
 use Rattle.host_serve.proofs.AloneLemmas.{history_there, many_histories}
@@ -37,9 +38,9 @@ pub no_rows : (bytes : List ℕ) (rows : List Row)
     → bytes ≡ journal_header ++ 0 ∷ [] → SpellsRows bytes rows
     → rows ≡ []
 no_rows bytes rows is spells =
-    one_list bytes rows [] spells (spells_shut [] bytes tt
+    one_list bytes rows [] spells (spells_shut [] bytes tt (stands_either [] None bytes
     (subst (λ (c : List ℕ). Holds c 0 (journal_header ++ 0 ∷ [])) (sym is)
-    (whole (journal_header ++ 0 ∷ []))))
+    (whole (journal_header ++ 0 ∷ [])))))
 
 -- so nothing was seen of any session
 pub none_seen : (rows : List Row) (seens : List (List Entry))

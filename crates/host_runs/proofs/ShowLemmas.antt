@@ -17,8 +17,8 @@ use Rattle.line_words.specs.declared.reply.No.TheVariants as no
 use Rattle.line_words.specs.declared.reply.Reply.{Reply}
 use Rattle.line_words.specs.declared.reply.Reply.TheVariants.{No, Seen, Show}
 use Rattle.line_words.specs.declared.request.Request.{Request}
-use Rattle.line_words.specs.declared.request.Request.TheVariants.{Open, Line, Char, File, Last}
-use Rattle.line_words.specs.declared.request.Request.TheVariants.{Close, Watch}
+use Rattle.line_words.specs.declared.request.Request.TheVariants.{Open, Line, Char, File, Size}
+use Rattle.line_words.specs.declared.request.Request.TheVariants.{Last, Close, Watch}
 use Rattle.story_run.specs.declared.story.Story.{Story}
 use Rattle.session_core.specs.declared.decision.Decision.{Decision}
 use Rattle.session_core.specs.declared.entry.Entry.{Entry}
@@ -111,6 +111,7 @@ to_solo stories cs d (Some (Open s key story seed cols rows own)) solo = solo
 to_solo stories cs d (Some (Line s key n win text term)) solo = solo
 to_solo stories cs d (Some (Char s key n win code)) solo = solo
 to_solo stories cs d (Some (File s key n name)) solo = solo
+to_solo stories cs d (Some (Size s key n cols rows)) solo = solo
 to_solo stories cs d (Some (Last s key)) solo = solo
 to_solo stories cs d (Some (Close s key n)) solo = solo
 to_solo stories cs d (Some (Watch s word from)) solo =
@@ -212,6 +213,7 @@ budgeted_session budget (Open s key story seed cols rows own) = refl
 budgeted_session budget (Line s key n win text term) = refl
 budgeted_session budget (Char s key n win code) = refl
 budgeted_session budget (File s key n name) = refl
+budgeted_session budget (Size s key n cols rows) = refl
 budgeted_session budget (Last s key) = refl
 budgeted_session budget (Close s key n) = refl
 budgeted_session budget (Watch s word from) = refl
@@ -234,6 +236,7 @@ said_not stories d (Some (Open s key story seed cols rows own)) never = never
 said_not stories d (Some (Line s key n win text term)) never = never
 said_not stories d (Some (Char s key n win code)) never = never
 said_not stories d (Some (File s key n name)) never = never
+said_not stories d (Some (Size s key n cols rows)) never = never
 said_not stories d (Some (Last s key)) never = never
 said_not stories d (Some (Close s key n)) never = never
 said_not stories d (Some (Watch s word from)) never = watch_not stories [] s word from

@@ -3,8 +3,8 @@ use Rattle.std.proofs.Common.{◌≡◌, ℕ, List, Option, Some, None, false, r
 use Rattle.gate_journal.specs.declared.command.Command.{Command}
 use Rattle.line_words.specs.Request.{request_of}
 use Rattle.line_words.specs.declared.request.Request.{Request}
-use Rattle.line_words.specs.declared.request.Request.TheVariants.{Open, Line, Char, File, Last}
-use Rattle.line_words.specs.declared.request.Request.TheVariants.{Close, Watch}
+use Rattle.line_words.specs.declared.request.Request.TheVariants.{Open, Line, Char, File, Size}
+use Rattle.line_words.specs.declared.request.Request.TheVariants.{Last, Close, Watch}
 use Rattle.story_run.specs.declared.story.Story.{Story}
 use Rattle.story_run.specs.World.{WorldState}
 use Rattle.session_core.specs.declared.decision.Decision.{Decision}
@@ -31,6 +31,7 @@ said_player stories commands decided (Some (Open s key story seed cols rows budg
 said_player stories commands decided (Some (Line s key n win text term)) plays = refl
 said_player stories commands decided (Some (Char s key n win code)) plays = refl
 said_player stories commands decided (Some (File s key n name)) plays = refl
+said_player stories commands decided (Some (Size s key n cols rows)) plays = refl
 said_player stories commands decided (Some (Last s key)) plays = refl
 said_player stories commands decided (Some (Close s key n)) plays = refl
 said_player stories commands decided (Some (Watch s word from)) plays = absurd cc

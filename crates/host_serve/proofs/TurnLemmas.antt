@@ -11,8 +11,8 @@ use Rattle.line_words.specs.declared.reply.No.TheVariants as no
 use Rattle.line_words.specs.declared.reply.Reply.{Reply}
 use Rattle.line_words.specs.declared.reply.Reply.TheVariants as replies
 use Rattle.line_words.specs.declared.request.Request.{Request}
-use Rattle.line_words.specs.declared.request.Request.TheVariants.{Open, Line, Char, File, Last}
-use Rattle.line_words.specs.declared.request.Request.TheVariants.{Close, Watch}
+use Rattle.line_words.specs.declared.request.Request.TheVariants.{Open, Line, Char, File, Size}
+use Rattle.line_words.specs.declared.request.Request.TheVariants.{Last, Close, Watch}
 use Rattle.gate_journal.specs.declared.command.Command.{Command}
 use Rattle.story_run.specs.declared.story.Story.{Story}
 use Rattle.story_run.specs.World.{WorldState}
@@ -56,6 +56,7 @@ budgeted_session budget (Open s key story seed cols rows own) = refl
 budgeted_session budget (Line s key n win text term) = refl
 budgeted_session budget (Char s key n win code) = refl
 budgeted_session budget (File s key n name) = refl
+budgeted_session budget (Size s key n cols rows) = refl
 budgeted_session budget (Last s key) = refl
 budgeted_session budget (Close s key n) = refl
 budgeted_session budget (Watch s word from) = refl
@@ -71,6 +72,7 @@ module _ (stories : List Story) (budget : ℕ) (now : Option WorldState) where
       absent stories now (Line s key n win text term) le refl
   absent_said (Char s key n win code) le = absent stories now (Char s key n win code) le refl
   absent_said (File s key n name) le = absent stories now (File s key n name) le refl
+  absent_said (Size s key n cols rows) le = absent stories now (Size s key n cols rows) le refl
   absent_said (Last s key) le = absent stories now (Last s key) le refl
   absent_said (Close s key n) le = absent stories now (Close s key n) le refl
   absent_said (Watch s word from) le = rw (far s le) refl
@@ -115,6 +117,7 @@ budgeted_watch budget (Open s key story seed cols rows own) = refl
 budgeted_watch budget (Line s key n win text term) = refl
 budgeted_watch budget (Char s key n win code) = refl
 budgeted_watch budget (File s key n name) = refl
+budgeted_watch budget (Size s key n cols rows) = refl
 budgeted_watch budget (Last s key) = refl
 budgeted_watch budget (Close s key n) = refl
 budgeted_watch budget (Watch s word from) = refl
@@ -182,6 +185,7 @@ spelled_watch budget s word from (Open z key story seed cols rows own) e = absur
 spelled_watch budget s word from (Line z key n win text term) e = absurd cc
 spelled_watch budget s word from (Char z key n win code) e = absurd cc
 spelled_watch budget s word from (File z key n name) e = absurd cc
+spelled_watch budget s word from (Size z key n cols rows) e = absurd cc
 spelled_watch budget s word from (Last z key) e = absurd cc
 spelled_watch budget s word from (Close z key n) e = absurd cc
 spelled_watch budget s word from (Watch z other at) e = sym e

@@ -36,7 +36,7 @@ use Rattle.line_talk.specs.declared.sink.Stop.{Stop}
 use Rattle.line_talk.specs.declared.sink.Stop.TheVariants as stop
 use Rattle.host_top.specs.declared.status.Status.{Status}
 use Rattle.host_top.specs.declared.status.Status.TheVariants.{Done, BadWords, ReadFault, WriteFault}
-use Rattle.host_top.specs.declared.status.Status.TheVariants.{DiskFault, DoorFault}
+use Rattle.host_top.specs.declared.status.Status.TheVariants.{DiskFault, DoorFault, NoMemory}
 
 -- no end of a connection has this status
 no_end : (how : Served) (A : Type 0) → DiskFault ≡ status_of_served how → A
@@ -364,3 +364,7 @@ coded_four status code is e = cc
 pub coded_five : (status : Status) (code : ℕ) → status_of code ≡ Some status → code ≡ 5
     → status ≡ WriteFault
 coded_five status code is e = cc
+
+pub coded_seven : (status : Status) (code : ℕ) → status_of code ≡ Some status → code ≡ 7
+    → status ≡ NoMemory
+coded_seven status code is e = cc

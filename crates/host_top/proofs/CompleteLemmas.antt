@@ -9,7 +9,7 @@ use Rattle.command_words.specs.declared.words.Action.TheVariants.{Serve, Replay,
 use Rattle.disk_model.proofs.Torn.{holds_front}
 use Rattle.disk_model.specs.declared.disk.Disk.{Ghosts as DiskWords}
 use Rattle.gate_journal.proofs.RowLemmas.{never_both}
-use Rattle.gate_journal.specs.Rows.{SpellsRows, IsCorrupt, HasNoHeader, journal_header}
+use Rattle.gate_journal.specs.Rows.{SpellsRows, IsCorrupt, HasNoHeader, header_with, version_byte}
 use Rattle.gate_journal.specs.Rows.{rows_behind_open_gates}
 use Rattle.gate_journal.specs.declared.row.Row.{Row}
 use Rattle.story_run.specs.declared.story.Story.{Story}
@@ -60,7 +60,8 @@ no_limit bytes within (inr many) = no_more_than (length (lines bytes)) (2 ^ 20) 
 no_header_missing : (bytes : List ℕ) (rows : List Row) → SpellsRows bytes rows → HasNoHeader bytes
     → ⊥
 no_header_missing bytes rows spells none =
-    none (holds_front journal_header (rows_behind_open_gates rows) spells.front)
+    none
+    (holds_front (header_with (version_byte bytes)) (rows_behind_open_gates rows) spells.front)
 
 -- what is told of bytes is so of bytes that are told
 told_both : {D : Type 0} (disks : DiskWords D) (told : Told D) (P Q : List ℕ → Type 0)

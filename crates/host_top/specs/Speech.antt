@@ -1,6 +1,6 @@
 -- What each command does (own).
-use Rattle.std.specs.Prelude.{ℕ, List, [], slice_get, true, Option, None, Some, Result, Ok}
-use Rattle.std.specs.Prelude.{Err}
+use Rattle.std.specs.Prelude.{ℕ, List, [], slice_get, Bool, true, false, Option, None, Some}
+use Rattle.std.specs.Prelude.{Result, Ok, Err}
 use Rattle.host_drill.specs.Drill.{drill_text}
 use Rattle.story_run.specs.Solo.{is_over}
 use Rattle.story_run.specs.declared.story.Story.{Story}
@@ -59,6 +59,18 @@ task_of Replay stories budget folder = Replays stories folder
 task_of (Drill number) stories budget folder = Says (said_once (drill_text number))
 task_of (Help topic) stories budget folder = Says (said_once (help_text topic))
 task_of Version stories budget folder = Says (said_once version_text)
+
+-- it writes one text, whatever the input
+abbrev pub writes_once : Action → Bool
+writes_once Run = false
+writes_once Check = true
+writes_once Init = true
+writes_once Pipe = false
+writes_once (Serve serving) = false
+writes_once Replay = false
+writes_once (Drill number) = true
+writes_once (Help topic) = true
+writes_once Version = true
 
 -- or the line by which a story is refused
 abbrev pub tasked : Action → Result (List Story) Refusal → ℕ → List ℕ → Result Task (List ℕ)

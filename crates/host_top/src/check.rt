@@ -1,10 +1,10 @@
 //! The command `check`, which tells what a story's header says.
-ghost use Rattle.std.specs.Prelude.{◌≡◌, slice_get, Ok, IfOk, string_bytes};
+ghost use Rattle.std.specs.Prelude.{◌≡◌, [], slice_get, Ok, IfOk, string_bytes};
 ghost use Rattle.line_talk.specs.Causes.{Rose};
 ghost use Rattle.host_top.specs.CheckText.{good_line, hexadecimal, good_story_line, memory_text};
 ghost use Rattle.host_top.specs.Speech.{check_speech};
 ghost use Rattle.host_top.specs.Spoken.{Spoken};
-ghost use Rattle.line_talk.specs.Streams.{SourceState};
+ghost use Rattle.line_talk.specs.Streams.{SourceState, Wrote};
 
 use crate::once::say_once;
 use crate::status::Status;
@@ -57,6 +57,8 @@ pub fn check<K: Sink>(alloc: Global, stories: &[Story<'_>], output: &mut K) -> S
     ensures read_fault { ¬ (result ≡ Status.ReadFault) }
     ensures write_fault { result ≡ Status.WriteFault
         → Rose (K.sink output.old).faults (K.sink output.new).faults }
+    ensures unsaid { result ≡ Status.NoMemory
+        → Wrote (K.sink output.old) (K.sink output.new) [] }
 {
     let Some(story) = stories.first() else {
         return Status::Done;

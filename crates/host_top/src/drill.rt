@@ -1,8 +1,8 @@
 //! The command `drill`, which plays eight sessions of a host in memory.
-ghost use Rattle.std.specs.Prelude.{◌≡◌, Ok};
+ghost use Rattle.std.specs.Prelude.{◌≡◌, [], Ok};
 ghost use Rattle.host_drill.specs.Drill.{drill_text};
 ghost use Rattle.line_talk.specs.Causes.{Rose};
-ghost use Rattle.line_talk.specs.Streams.{SourceState};
+ghost use Rattle.line_talk.specs.Streams.{SourceState, Wrote};
 ghost use Rattle.host_top.specs.Speech.{said_once};
 ghost use Rattle.host_top.specs.Spoken.{Spoken};
 
@@ -19,6 +19,8 @@ pub fn drill<R: Wait, K: Sink>(rt: &R, alloc: Global, number: u64, output: &mut 
     ensures read_fault { ¬ (result ≡ Status.ReadFault) }
     ensures write_fault { result ≡ Status.WriteFault
         → Rose (K.sink output.old).faults (K.sink output.new).faults }
+    ensures unsaid { result ≡ Status.NoMemory
+        → Wrote (K.sink output.old) (K.sink output.new) [] }
 {
     match host_drill::drill(rt, alloc, number) {
         Ok(text) => say_once(&text, output),

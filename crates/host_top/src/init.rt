@@ -7,7 +7,7 @@ ghost use Rattle.host_top.specs.Begun.{TriesStores};
 ghost use Rattle.host_top.specs.Borrowed.{Lending, snap_in, snaps_below};
 ghost use Rattle.host_top.specs.Files.{KeepsDoors, KeepsFiles};
 ghost use Rattle.line_talk.specs.Causes.{Rose};
-ghost use Rattle.line_talk.specs.Streams.{SourceState};
+ghost use Rattle.line_talk.specs.Streams.{SourceState, Wrote};
 
 use crate::folder::{SESSIONS, journal_name, snap_name};
 use crate::outside::{Fetch, Outside};
@@ -40,6 +40,8 @@ fn init_over<D: Disk, K: Sink>(disk: &mut D, output: &mut K) -> Status
     ensures read_fault { ¬ (result ≡ Status.ReadFault) }
     ensures write_fault { result ≡ Status.WriteFault
         → Rose (K.sink output.old).faults (K.sink output.new).faults }
+    ensures unsaid { result ≡ Status.NoMemory
+        → Wrote (K.sink output.old) (K.sink output.new) [] }
 {
     match init(disk) {
         Ok(()) => say_line(b"ready\n", Status::Done, output),
@@ -111,6 +113,8 @@ fn init_all<O: Outside, K: Sink>(
     ensures read_fault { ¬ (result ≡ Status.ReadFault) }
     ensures write_fault { result ≡ Status.WriteFault
         → Rose (K.sink output.old).faults (K.sink output.new).faults }
+    ensures unsaid { result ≡ Status.NoMemory
+        → Wrote (K.sink output.old) (K.sink output.new) [] }
     ensures files { KeepsFiles (O.outside outside.old) (O.outside outside.new) }
     ensures doors { KeepsDoors (O.outside outside.old) (O.outside outside.new) }
 {
@@ -137,6 +141,8 @@ pub fn init_folder<O: Outside, K: Sink>(
     ensures read_fault { ¬ (result ≡ Status.ReadFault) }
     ensures write_fault { result ≡ Status.WriteFault
         → Rose (K.sink output.old).faults (K.sink output.new).faults }
+    ensures unsaid { result ≡ Status.NoMemory
+        → Wrote (K.sink output.old) (K.sink output.new) [] }
     ensures files { KeepsFiles (O.outside outside.old) (O.outside outside.new) }
     ensures doors { KeepsDoors (O.outside outside.old) (O.outside outside.new) }
 {

@@ -1,12 +1,12 @@
 //! The whole program but for the streams and files of the system.
 ghost use Rattle.std.specs.Prelude.{◌≡◌, ◌⊎◌, [], map, string_bytes, None, IfSome};
-ghost use Rattle.std.specs.Prelude.{IsSomeAnd};
+ghost use Rattle.std.specs.Prelude.{IsSomeAnd, true};
 ghost use Rattle.line_talk.specs.Causes.{Rose};
 ghost use Rattle.line_talk.specs.Streams.{Gave, Wrote};
 ghost use Rattle.host_top.specs.DoorServed.{HostServes};
 ghost use Rattle.host_top.specs.Status.{status_of};
 ghost use Rattle.command_words.specs.Words.{command_asked, asked_by};
-ghost use Rattle.host_top.specs.Speech.{tasked};
+ghost use Rattle.host_top.specs.Speech.{tasked, writes_once};
 ghost use Rattle.host_top.specs.Stories.{stories_of};
 ghost use Rattle.host_top.specs.Follows.{DoesTask, FollowsCommand, TellsCaller};
 ghost use Rattle.host_top.specs.Calls.{AreThere, NoneIsListed};
@@ -56,6 +56,8 @@ fn act<R: Threads + Wait + Sync, O: Outside, S: Source, K: Sink>(
         → Rose (S.source input.old).faults (S.source input.new).faults }
     ensures write_fault { result ≡ Status.WriteFault
         → Rose (K.sink output.old).faults (K.sink output.new).faults }
+    ensures unsaid { writes_once command.now.action ≡ true → result ≡ Status.NoMemory
+        → Wrote (K.sink output.old) (K.sink output.new) [] }
     ensures kept { (O.outside outside.new).file ≡ (O.outside outside.old).file }
 {
     let Ok(mut buffer) = vec![in alloc; 0u8; ROOM] else {
@@ -112,6 +114,8 @@ fn follow<R: Threads + Wait + Sync, O: Outside, S: Source, K: Sink>(
         ⊎ Rose (S.source input.old).faults (S.source input.new).faults }
     ensures write_fault { result ≡ Status.WriteFault
         → Rose (K.sink output.old).faults (K.sink output.new).faults }
+    ensures unsaid { writes_once (command_asked command.entry).action ≡ true
+        → result ≡ Status.NoMemory → Wrote (K.sink output.old) (K.sink output.new) [] }
     ensures kept { (O.outside outside.new).file ≡ (O.outside outside.old).file }
 {
     let files = match load_files(alloc, &command.names, outside) {
@@ -166,6 +170,11 @@ pub fn top<R: Threads + Wait + Sync, O: Outside, S: Source, K: Sink>(
     ensures door_fault { result ≡ 9
         → Rose (O.outside outside.old).door_faults (O.outside outside.new).door_faults }
     ensures kept { (O.outside outside.new).file ≡ (O.outside outside.old).file }
+
+    // a command of one text has written nothing where it ends with 7
+    ensures unsaid { IfSome (asked_by (map string_bytes words.now)) (λ asked.
+        writes_once asked.action ≡ true → result ≡ 7
+        → Wrote (K.sink output.old) (K.sink output.new) []) }
 
     // where all is in order and no fault is counted, it ends with 0, or with 7 for want of memory
     ensures complete { IfSome (asked_by (map string_bytes words.now)) (λ asked.

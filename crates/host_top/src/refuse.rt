@@ -1,5 +1,5 @@
 //! The line by which a story is refused.
-ghost use Rattle.std.specs.Prelude.{◌≡◌, Err, OnOk, IfOk, IfErr, string_bytes};
+ghost use Rattle.std.specs.Prelude.{◌≡◌, [], Err, OnOk, IfOk, IfErr, string_bytes};
 ghost use Rattle.line_talk.specs.Causes.{Rose};
 ghost use Rattle.host_top.specs.Spoken.{Spoken};
 ghost use Rattle.line_talk.specs.Streams.{SourceState, Wrote};
@@ -42,6 +42,7 @@ fn say_bad<K: Sink>(alloc: Global, refusal: Refusal, output: &mut K) -> Result<(
         (bad_line refusal.story refusal.fault)) }
     ensures err { IfErr result (λ cause. Stopped (K.sink output.old) (K.sink output.new)
         (bad_line refusal.story refusal.fault) cause) }
+    ensures unsaid { result ≡ Err Stop.Memory → Wrote (K.sink output.old) (K.sink output.new) [] }
 {
     let line = bad_line(alloc, refusal)?;
     write_all(output, line.as_bytes())
@@ -54,6 +55,8 @@ pub fn refuse<K: Sink>(alloc: Global, refusal: Refusal, output: &mut K) -> Statu
     ensures read_fault { ¬ (result ≡ Status.ReadFault) }
     ensures write_fault { result ≡ Status.WriteFault
         → Rose (K.sink output.old).faults (K.sink output.new).faults }
+    ensures unsaid { result ≡ Status.NoMemory
+        → Wrote (K.sink output.old) (K.sink output.new) [] }
 {
     match say_bad(alloc, refusal, output) {
         Ok(()) => Status::Refused,

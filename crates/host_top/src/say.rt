@@ -13,7 +13,7 @@ pub fn say_line<K: Sink>(line: &[u8], status: Status, output: &mut K) -> Status
     ensures value { SaysLine status line.now (K.sink output.old) (K.sink output.new) result }
     ensures write_fault { ¬ (status ≡ Status.WriteFault) → result ≡ Status.WriteFault
         → Rose (K.sink output.old).faults (K.sink output.new).faults }
-    ensures others { result ≡ status ⊎ (result ≡ Status.WriteFault) ⊎ (result ≡ Status.NoMemory) }
+    ensures others { result ≡ status ⊎ (result ≡ Status.WriteFault) }
 {
     match write_all(output, line) {
         Ok(()) => status,

@@ -17,8 +17,8 @@ use Rattle.gate_journal.specs.Rows.{commands_of, is_free, is_close, may_follow, 
 use Rattle.gate_journal.specs.Rows.{IsNext, MayStand}
 use Rattle.gate_journal.specs.declared.command.Command.TheVariants as commands
 use Rattle.line_words.specs.declared.request.Request.{Request}
-use Rattle.line_words.specs.declared.request.Request.TheVariants.{Open, Line, Char, File, Last}
-use Rattle.line_words.specs.declared.request.Request.TheVariants.{Close, Watch}
+use Rattle.line_words.specs.declared.request.Request.TheVariants.{Open, Line, Char, File, Size}
+use Rattle.line_words.specs.declared.request.Request.TheVariants.{Last, Close, Watch}
 use Rattle.line_words.specs.declared.reply.No.{No as Refusal}
 use Rattle.line_words.specs.declared.reply.No.TheVariants as no
 use Rattle.line_words.specs.Request.{request_of}
@@ -67,6 +67,7 @@ close_ends (commands.Open key story digest seed cols rows budget) = refl
 close_ends (commands.Line win term text) = refl
 close_ends (commands.Char win code) = refl
 close_ends (commands.File name) = refl
+close_ends (commands.Size cols rows) = refl
 close_ends commands.Close = refl
 
 joined_ends : (g : List Command) (c : Command) → is_in_use g ≡ true
@@ -96,6 +97,7 @@ agree-follow xs (commands.Line win term text) m a =
     agree-one xs (commands.Line win term text) refl a m
 agree-follow xs (commands.Char win code) m a = agree-one xs (commands.Char win code) refl a m
 agree-follow xs (commands.File name) m a = agree-one xs (commands.File name) refl a m
+agree-follow xs (commands.Size cols rows) m a = agree-one xs (commands.Size cols rows) refl a m
 agree-follow xs commands.Close m a = agree-one xs commands.Close refl a m
 
 agree-if : (own : Bool) (xs : List Command) (c : Command) → (own ≡ true → may_follow xs c ≡ true)
@@ -183,6 +185,12 @@ follows stories xs (File s key n name) c a none fresh e =
     knows (nat_le 64 s) (has_key g key) (is_in_use g)
     (all_fail (plain_checks stories g (File s key n name)) none).1.0 in
     rw (sym (some_is _ c e)) (one_follows xs a used)
+follows stories xs (Size s key n cols rows) c a none fresh e =
+    let g = game_of xs in
+    let used =
+    knows (nat_le 64 s) (has_key g key) (is_in_use g)
+    (all_fail (plain_checks stories g (Size s key n cols rows)) none).1.0 in
+    rw (sym (some_is _ c e)) (one_follows xs a used)
 follows stories xs (Last s key) c a none fresh e = absurd cc
 follows stories xs (Watch s word from) c a none fresh e = absurd cc
 follows stories xs (Close s key n) c a none fresh e =
@@ -261,10 +269,10 @@ module _ (stories : List Story) (budget : ℕ) where
         r.1,
         subst (λ (x : Command). HasDigest x) opens_it.2 digest,
         r.2,
-        r.3,
-        r.4,
-        r.5,
-        r.6,
+        r.3.0,
+        r.3.1,
+        r.3.2,
+        r.3.3,
         range,
       )
   in_range (Line s key n win text term) c range r e digest =
@@ -272,6 +280,8 @@ module _ (stories : List Story) (budget : ℕ) where
   in_range (Char s key n win code) c range r e digest =
       subst (λ (x : Command). IsCommand x) (some_is _ c e) (r.1, r.2)
   in_range (File s key n name) c range r e digest =
+      subst (λ (x : Command). IsCommand x) (some_is _ c e) r.1
+  in_range (Size s key n cols rows) c range r e digest =
       subst (λ (x : Command). IsCommand x) (some_is _ c e) r.1
   in_range (Last s key) c range r e digest = absurd cc
   in_range (Watch s word from) c range r e digest = absurd cc
@@ -307,6 +317,8 @@ module _ (stories : List Story) (budget : ℕ) (premise : AreGiven stories budge
   given_digest (Char s key n win code) c e =
       subst (λ (x : Command). HasDigest x) (some_is _ c e) tt
   given_digest (File s key n name) c e =
+      subst (λ (x : Command). HasDigest x) (some_is _ c e) tt
+  given_digest (Size s key n cols rows) c e =
       subst (λ (x : Command). HasDigest x) (some_is _ c e) tt
   given_digest (Last s key) c e = absurd cc
   given_digest (Watch s word from) c e = absurd cc

@@ -1,5 +1,6 @@
 -- The device calls of an append.
-use Rattle.std.proofs.Common.{List, None, Option, Some, [], ap, arith, false, length, refl, set}
+use Rattle.std.proofs.Common.{Bool, List, None, Option, Some, [], ap, arith, false, length, refl}
+use Rattle.std.proofs.Common.{set}
 use Rattle.std.proofs.Common.{subst, sym, true, ℕ, ◌++◌, ◌+◌, ◌∙◌, ◌∷◌, ◌≡◌}
 use Rattle.std.proofs.lemmas.Bool.Decides.{nat_tests}
 use Rattle.std.proofs.lemmas.List.{append-nil}
@@ -41,7 +42,7 @@ use Rattle.store_events.proofs.ImageLemmas.{stays_after, stays_bad}
 use Rattle.host_world.proofs.Lists.{some_same}
 use Rattle.host_world.proofs.Rephasing.{rephased, stepped}
 use Rattle.host_world.proofs.RowsOf.{rows-here, rows-other}
-use Rattle.host_world.proofs.Sound.{Busy, PhaseFact, RowsFact, Sound, StepFact, TurnFact}
+use Rattle.host_world.proofs.Sound.{Busy, PhaseFact, RowsFact, Sound, Stands, StepFact, TurnFact}
 
 module _ (stories : List Story) (budget : ℕ) (premise : AreGiven stories budget) where
   -- the calls of an append
@@ -126,6 +127,20 @@ module _ (stories : List Story) (budget : ℕ) (premise : AreGiven stories budge
     abbrev after_call : DiskCall → HostState
     after_call call = record v { disk = reading_after call }
 
+    -- what stands in each image while an append goes on, with the row behind the gate by its name
+    stands_now : (r : Row) → Busy stories budget v r → (u : Option Row) → v.uncertain ≡ u
+        → StandsInImage v.rows u v.disk.seen
+    stands_now r b u is =
+        subst (λ (o : Option Row). StandsInImage v.rows o v.disk.seen) is
+        (subst (λ (up : Bool). Stands up v.rows v.uncertain v.disk.seen) b.up
+        (sound.images v.disk.seen sound.stays))
+
+    stands_then : (r : Row) → Busy stories budget v r → (p : DiskState) (rows : List Row)
+        (u : Option Row) → ((c : List ℕ) → IsDiskImage p c → StandsInImage rows u c)
+        → (c : List ℕ) → IsDiskImage p c → Stands v.up rows u c
+    stands_then r b p rows u all c image =
+        subst (λ (up : Bool). Stands up rows u c) (sym b.up) (all c image)
+
     -- a good call that changes no more than the disk and the step
     pub goes_on : (call : DiskCall) (step next : Step) → StepFact stories budget v step
         → next_call v.rows step ≡ Some call
@@ -144,9 +159,7 @@ module _ (stories : List Story) (budget : ℕ) (premise : AreGiven stories budge
         (onward (after_call (Write (length (journal_bytes v.rows)) (0 ∷ []))) (RepairWrite r n))
     shuts_good r n fits fact =
         let call = Write (length (journal_bytes v.rows)) (0 ∷ []) in
-        let old : IsUnsure (journal_bytes v.rows) (past_gate fact.1.0) v.disk.seen =
-        subst (λ (o : Option Row). StandsInImage v.rows o v.disk.seen) fact.1.1
-        (sound.images v.disk.seen sound.stays) in
+        let old = stands_now r fact.0 (Some fact.1.0) fact.1.1 in
         goes_on call (RepairWrite r n) (RepairSync r n) fact refl (
           busy_on r (reading_after call) v.faults v.uncertain (RepairSync r n) fact.0,
           subst (λ (l : List ℕ). IsShut (journal_bytes v.rows) l)
@@ -160,7 +173,8 @@ module _ (stories : List Story) (budget : ℕ) (premise : AreGiven stories budge
     shut_syncs_good r n fact =
         stepped stories budget first past v (reading_after Sync) v.faults None (RowWrite r n) sound
         (stays_after Sync reads v.disk sound.stays)
-        (only (λ (c : List ℕ). IsShut (journal_bytes v.rows) c) fact.1) tt
+        (stands_then r fact.0 (reading_after Sync) v.rows None
+        (only (λ (c : List ℕ). IsShut (journal_bytes v.rows) c) fact.1)) tt
         (busy_on r (reading_after Sync) v.faults None (RowWrite r n) fact.0, refl)
         (λ k z at f. no_gate k z r fact.0 f)
 
@@ -172,9 +186,7 @@ module _ (stories : List Story) (budget : ℕ) (premise : AreGiven stories budge
         (RowWrite r n))
     writes_good r n fits fact =
         let call = Write (length (journal_bytes v.rows) + 1) (past_gate r) in
-        let old : IsShut (journal_bytes v.rows) v.disk.seen =
-        subst (λ (o : Option Row). StandsInImage v.rows o v.disk.seen) fact.1
-        (sound.images v.disk.seen sound.stays) in
+        let old = stands_now r fact.0 None fact.1 in
         goes_on call (RowWrite r n) (RowSync r n) fact refl (
           busy_on r (reading_after call) v.faults v.uncertain (RowSync r n) fact.0,
           fact.1,
@@ -189,7 +201,8 @@ module _ (stories : List Story) (budget : ℕ) (premise : AreGiven stories budge
     write_syncs_good r n fact =
         stepped stories budget first past v (reading_after Sync) v.faults (Some r)
         (GateWrite r n) sound (stays_after Sync reads v.disk sound.stays)
-        (only (λ (c : List ℕ). IsUnsure (journal_bytes v.rows) (past_gate r) c) fact.2) fact.0.next
+        (stands_then r fact.0 (reading_after Sync) v.rows (Some r)
+        (only (λ (c : List ℕ). IsUnsure (journal_bytes v.rows) (past_gate r) c) fact.2)) fact.0.next
         (busy_on r (reading_after Sync) v.faults (Some r) (GateWrite r n) fact.0, refl)
         (λ k z at f. its_gate k z r fact.0 at f)
 
@@ -200,9 +213,7 @@ module _ (stories : List Story) (budget : ℕ) (premise : AreGiven stories budge
         (onward (after_call (Write (length (journal_bytes v.rows)) (1 ∷ []))) (GateWrite r n))
     opens_good r n fits fact =
         let call = Write (length (journal_bytes v.rows)) (1 ∷ []) in
-        let old : IsUnsure (journal_bytes v.rows) (past_gate r) v.disk.seen =
-        subst (λ (o : Option Row). StandsInImage v.rows o v.disk.seen) fact.1
-        (sound.images v.disk.seen sound.stays) in
+        let old = stands_now r fact.0 (Some r) fact.1 in
         goes_on call (GateWrite r n) (GateSync r n) fact refl (
           busy_on r (reading_after call) v.faults v.uncertain (GateSync r n) fact.0,
           fact.1,
@@ -239,7 +250,8 @@ module _ (stories : List Story) (budget : ℕ) (premise : AreGiven stories budge
         (v.rows ++ r ∷ []) None Idle sound record {
           at = b.at;
           stays = stays_after Sync reads v.disk sound.stays;
-          images = only (λ (c : List ℕ). IsShut (journal_bytes (v.rows ++ r ∷ [])) c) fact.2;
+          images = stands_then r b (reading_after Sync) (v.rows ++ r ∷ []) None
+              (only (λ (c : List ℕ). IsShut (journal_bytes (v.rows ++ r ∷ [])) c) fact.2);
           journal = journal_push v.rows r sound.journal b.next;
           follows = tt;
           now = tt;

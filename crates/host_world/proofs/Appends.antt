@@ -24,6 +24,7 @@ use Rattle.host_world.specs.declared.state.Step.TheVariants.{AskSize, CloseSync,
 use Rattle.host_world.specs.declared.state.Step.TheVariants.{FirstSync, GateSync, GateWrite, Idle}
 use Rattle.host_world.specs.declared.state.Step.TheVariants.{ReadAll, RepairSync, RepairWrite}
 use Rattle.host_world.specs.declared.state.Step.TheVariants.{RowSync, RowWrite}
+use Rattle.host_world.specs.declared.state.Step.TheVariants.{VersionSync, VersionWrite}
 use Rattle.host_world.specs.declared.turn.Phase.{Phase}
 use Rattle.host_world.specs.declared.turn.Phase.TheVariants.{Asked, Begun, Broken, Freed, Kept}
 use Rattle.host_world.specs.declared.turn.Phase.TheVariants.{Plain, Ready, Taken}
@@ -189,6 +190,8 @@ module _ (stories : List Story) (budget : ℕ) (premise : AreGiven stories budge
     at_step ReadAll holder held = as_it_is
     at_step (CloseWrite those) holder held = as_it_is
     at_step (CloseSync those) holder held = as_it_is
+    at_step (VersionWrite those) holder held = as_it_is
+    at_step (VersionSync those) holder held = as_it_is
 
     pub begun_well : Sound stories budget first past (begun stories budget w)
         × SameHost w (begun stories budget w)

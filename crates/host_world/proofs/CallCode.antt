@@ -2,12 +2,12 @@
 use Rattle.std.proofs.Common.{Bool, List, None, Option, Some, ap}
 use Rattle.std.proofs.Common.{false, refl, sym, true, ℕ, ◌==◌, ◌∙◌, ◌≡◌}
 use Rattle.std.specs.Prelude.{if◌then◌else◌, slice_index, length}
-use Rattle.gate_journal.specs.Rows.{journal_bytes}
+use Rattle.gate_journal.specs.Rows.{journal_bytes, version_byte}
 use Rattle.gate_journal.specs.declared.row.Row.{Row}
 use Rattle.story_run.specs.declared.story.Story.{Story}
 use Rattle.store_events.specs.Disk.{may_happen}
 use Rattle.host_world.specs.Events.{begin_held}
-use Rattle.host_world.specs.Journal.{call_ended, host_called, comes_up, is_idle}
+use Rattle.host_world.specs.Journal.{call_ended, gate_closed, host_called, comes_up, is_idle}
 use Rattle.host_world.specs.Journal.{looked, next_call, onward, with_disk}
 use Rattle.host_world.specs.Reading.{rows_in}
 use Rattle.store_events.specs.declared.disk.DiskCall.{DiskCall}
@@ -17,6 +17,7 @@ use Rattle.host_world.specs.declared.state.Step.TheVariants.{AskSize, CloseSync,
 use Rattle.host_world.specs.declared.state.Step.TheVariants.{FirstSync, GateSync, GateWrite, Idle}
 use Rattle.host_world.specs.declared.state.Step.TheVariants.{ReadAll, RepairSync, RepairWrite}
 use Rattle.host_world.specs.declared.state.Step.TheVariants.{RowSync, RowWrite}
+use Rattle.host_world.specs.declared.state.Step.TheVariants.{VersionSync, VersionWrite}
 
 -- where something is under way no append begins
 pub busy_begins : (stories : List Story) (budget : ℕ) (w : HostState) (step : Step)
@@ -33,6 +34,8 @@ busy_begins stories budget w AskSize holder is = refl
 busy_begins stories budget w ReadAll holder is = refl
 busy_begins stories budget w (CloseWrite rows) holder is = refl
 busy_begins stories budget w (CloseSync rows) holder is = refl
+busy_begins stories budget w (VersionWrite rows) holder is = refl
+busy_begins stories budget w (VersionSync rows) holder is = refl
 
 pub idle_is : (step : Step) → is_idle step ≡ true → step ≡ Idle
 idle_is Idle is = refl
@@ -47,20 +50,33 @@ idle_is AskSize is = absurd cc
 idle_is ReadAll is = absurd cc
 idle_is (CloseWrite rows) is = absurd cc
 idle_is (CloseSync rows) is = absurd cc
+idle_is (VersionWrite rows) is = absurd cc
+idle_is (VersionSync rows) is = absurd cc
 
 -- the step is taken out of the host before the call ends
 abbrev without_step : HostState → HostState
 without_step w = record w { step = Idle }
+
+closed_on : (w : HostState) (rows : List Row)
+    → gate_closed (without_step w) rows ≡ gate_closed w rows
+closed_on w rows = of (version_byte w.disk.seen == 1)
+  where
+    of : (b : Bool)
+        → (if b then comes_up (without_step w) rows
+        else record (without_step w) { step = VersionWrite rows })
+        ≡ (if b then comes_up w rows else record w { step = VersionWrite rows })
+    of true = refl
+    of false = refl
 
 looks_on : (w : HostState) (read : Option (List Row)) → looked (without_step w) read ≡ looked w read
 looks_on w None = refl
 looks_on w (Some rows) = of (slice_index w.disk.seen (length (journal_bytes rows)) == 0)
   where
     of : (b : Bool)
-        → (if b then comes_up (without_step w) rows
+        → (if b then gate_closed (without_step w) rows
         else record (without_step w) { step = CloseWrite rows })
-        ≡ (if b then comes_up w rows else record w { step = CloseWrite rows })
-    of true = refl
+        ≡ (if b then gate_closed w rows else record w { step = CloseWrite rows })
+    of true = closed_on w rows
     of false = refl
 
 onward_alike : (w : HostState) (step : Step) (call : DiskCall) → next_call w.rows step ≡ Some call
@@ -76,7 +92,9 @@ onward_alike w FirstSync call is = refl
 onward_alike w AskSize call is = refl
 onward_alike w ReadAll call is = looks_on w (rows_in w.disk.seen)
 onward_alike w (CloseWrite rows) call is = refl
-onward_alike w (CloseSync rows) call is = refl
+onward_alike w (CloseSync rows) call is = closed_on w rows
+onward_alike w (VersionWrite rows) call is = refl
+onward_alike w (VersionSync rows) call is = refl
 
 ended_alike : (w : HostState) (good : Bool) (step : Step) (call : DiskCall)
     → next_call w.rows step ≡ Some call
@@ -94,6 +112,8 @@ ended_alike w false AskSize call is = refl
 ended_alike w false ReadAll call is = refl
 ended_alike w false (CloseWrite rows) call is = refl
 ended_alike w false (CloseSync rows) call is = refl
+ended_alike w false (VersionWrite rows) call is = refl
+ended_alike w false (VersionSync rows) call is = refl
 
 may_happens : (w v : HostState) (good : Bool) (reads : List ℕ) (step : Step) (call : DiskCall)
     → may_happen call good reads v.disk ≡ true

@@ -17,6 +17,7 @@ use Rattle.host_world.specs.declared.state.Step.TheVariants.{AskSize, CloseSync,
 use Rattle.host_world.specs.declared.state.Step.TheVariants.{FirstSync, GateSync, GateWrite, Idle}
 use Rattle.host_world.specs.declared.state.Step.TheVariants.{ReadAll, RepairSync, RepairWrite}
 use Rattle.host_world.specs.declared.state.Step.TheVariants.{RowSync, RowWrite}
+use Rattle.host_world.specs.declared.state.Step.TheVariants.{VersionSync, VersionWrite}
 use Rattle.host_world.specs.declared.turn.Phase.TheVariants.{Begun}
 use Rattle.host_world.specs.declared.turn.Session.{Session}
 use Rattle.host_world.specs.declared.turn.Turn.{Turn}
@@ -87,6 +88,8 @@ module _ (stories : List Story) (budget : ℕ) where
     step_stays ReadAll fact = fact
     step_stays (CloseWrite rows) fact = fact
     step_stays (CloseSync rows) fact = fact
+    step_stays (VersionWrite rows) fact = fact
+    step_stays (VersionSync rows) fact = fact
 
     rows_here : (up : Bool) → up ≡ true → RowsFact stories budget s w.rows w.uncertain x up
         → RowsFact stories budget s w.rows w.uncertain y up

@@ -1,8 +1,8 @@
 -- An opening, call by call, and each device call.
 use Rattle.std.proofs.Common.{Bool, List, None, Option, Some, [], ap, arith, drop, false, get_or}
-use Rattle.std.proofs.Common.{inl, inr, length, length-append, refl, subst, sym, true, ℕ, ◌++◌, ◌+◌}
-use Rattle.std.proofs.Common.{◌<◌, ◌==◌, ◌∙◌, ◌∷◌, ◌≡◌, ◌⊎◌}
-use Rattle.std.proofs.lemmas.Bool.{cases_eq}
+use Rattle.std.proofs.Common.{inl, inr, length, refl, subst, sym, true, ℕ, ◌++◌, ◌+◌}
+use Rattle.std.proofs.Common.{◌<◌, ◌==◌, ◌∙◌, ◌∷◌, ◌≡◌}
+use Rattle.std.proofs.lemmas.Bool.{cases_Bool, cases_eq, eqb-false, eqb-true}
 use Rattle.std.proofs.lemmas.Bool.Decides.{nat_tests}
 use Rattle.std.proofs.lemmas.List.{append-nil, drop_at}
 use Rattle.std.proofs.lemmas.List.FromFn.{length-map-range_with_len}
@@ -12,11 +12,13 @@ use Rattle.std.specs.Prelude.{IfSome, if◌then◌else◌, not, slice_index, ◌
 use Rattle.disk_model.proofs.StateLaws.{only_settled}
 use Rattle.disk_model.proofs.Torn.{holds_both}
 use Rattle.disk_model.specs.DiskState.{DiskState, IsDiskImage}
-use Rattle.gate_journal.proofs.RowLemmas.{journal_push, opens, spells_not_open, spells_shut}
-use Rattle.gate_journal.proofs.Steps.{unsure_written}
+use Rattle.gate_journal.proofs.RowLemmas.{journal_push, opens, shut_zero, spells_not_open}
+use Rattle.gate_journal.proofs.RowLemmas.{spells_shut}
+use Rattle.gate_journal.proofs.Opening.{gate_written, second_written}
+use Rattle.gate_journal.proofs.VersionLemmas.{are_front, second_stands}
 use Rattle.gate_journal.specs.Gate.{IsShut, IsUnsure}
-use Rattle.gate_journal.specs.Log.{StandsInImage}
-use Rattle.gate_journal.specs.Rows.{IsJournal, IsNext, row_body}
+use Rattle.gate_journal.specs.Log.{StandsInEither}
+use Rattle.gate_journal.specs.Rows.{IsJournal, IsNext, journal_front, version_byte}
 use Rattle.gate_journal.specs.Rows.{commands_of, is_open, journal_bytes}
 use Rattle.gate_journal.specs.declared.command.Command.{Command}
 use Rattle.gate_journal.specs.declared.row.Row.{Row}
@@ -28,7 +30,7 @@ use Rattle.store_events.specs.Disk.{fault_counted, disk_after, may_work}
 use Rattle.host_world.specs.Events.{after, begun, call_next}
 use Rattle.host_world.specs.Happenings.{Happening, Opened, further, history_left, news, replies_of}
 use Rattle.host_world.specs.Headline.{AreGiven}
-use Rattle.host_world.specs.Journal.{broken, host_called, comes_up}
+use Rattle.host_world.specs.Journal.{broken, gate_closed, host_called, comes_up}
 use Rattle.host_world.specs.Journal.{looked, next_call, onward, past_gate, with_disk, with_fault}
 use Rattle.host_world.specs.Reading.{rows_in}
 use Rattle.host_world.specs.Sessions.{history_found, found_session, found_sessions}
@@ -41,6 +43,7 @@ use Rattle.host_world.specs.declared.state.Step.TheVariants.{AskSize, CloseSync,
 use Rattle.host_world.specs.declared.state.Step.TheVariants.{FirstSync, GateSync, GateWrite, Idle}
 use Rattle.host_world.specs.declared.state.Step.TheVariants.{ReadAll, RepairSync, RepairWrite}
 use Rattle.host_world.specs.declared.state.Step.TheVariants.{RowSync, RowWrite}
+use Rattle.host_world.specs.declared.state.Step.TheVariants.{VersionSync, VersionWrite}
 use Rattle.host_world.specs.declared.turn.Session.{Session}
 use Rattle.host_world.specs.declared.turn.Turn.{Turn}
 use Rattle.host_world.proofs.AppendCalls.{broken_well, goes_on, open_syncs_good, opens_good}
@@ -53,11 +56,12 @@ use Rattle.host_world.proofs.ImageLemmas.{images_after}
 use Rattle.store_events.proofs.ImageLemmas.{stays_after, stays_bad}
 use Rattle.host_world.proofs.Phases.{if_kept}
 use Rattle.host_world.proofs.ReadingLemmas.{reads_rows}
-use Rattle.host_world.proofs.Reopening.{CallsWell, found_at, gate_zero, nobody, of_down}
+use Rattle.host_world.proofs.Reopening.{CallsWell, found_at, nobody, of_down}
 use Rattle.host_world.proofs.Reopening.{one_more_of, same_up}
 use Rattle.host_world.proofs.Rephasing.{stepped}
 use Rattle.host_world.proofs.RowsOf.{commands-found}
-use Rattle.host_world.proofs.Sound.{Busy, Knows, Sound, StepFact, TurnFact}
+use Rattle.host_world.proofs.Sound.{Busy, Knows, MayBeFound, Sound, Stands, StepFact, TurnFact}
+use Rattle.host_world.proofs.Sound.{stands_either_way}
 
 module _ (stories : List Story) (budget : ℕ) (premise : AreGiven stories budget) where
   module _ (first : ℕ → List Entry) (past : ℕ → List Happening) (w v : HostState)
@@ -68,8 +72,19 @@ module _ (stories : List Story) (budget : ℕ) (premise : AreGiven stories budge
 
     -- the rows that an opening may find
     abbrev Found : List Row → Type 0
-    Found rows =
-        (rows ≡ w.rows) ⊎ ((u : Row) × (w.uncertain ≡ Some u) × (rows ≡ w.rows ++ u ∷ []))
+    Found rows = MayBeFound w rows
+
+    found_too : (rows : List Row) → MayBeFound v rows → Found rows
+    found_too rows (inl is) = inl (is ∙ same.rows)
+    found_too rows (inr (u, is, more)) =
+        inr (u, sym same.uncertain ∙ is, more ∙ ap (λ (l : List Row). l ++ u ∷ []) same.rows)
+
+    found_journal : (rows : List Row) → MayBeFound v rows → IsJournal rows
+    found_journal rows (inl is) = subst (λ (l : List Row). IsJournal l) (sym is) sound.journal
+    found_journal rows (inr (u, is, more)) =
+        subst (λ (l : List Row). IsJournal l) (sym more)
+        (journal_push v.rows u sound.journal
+        (subst (λ (o : Option Row). IfSome o (IsNext v.rows)) is sound.next))
 
     module _ (p : DiskState) (rows : List Row) (down : v.up ≡ false) (which : Found rows) where
       abbrev risen : HostState
@@ -170,20 +185,52 @@ module _ (stories : List Story) (budget : ℕ) (premise : AreGiven stories budge
             subst (λ (k : ℕ). get_or c (length front + k) 0 ≡ get_or (0 ∷ []) k 0) (sym zero_)
             (ap (λ (k : ℕ). get_or c k 0) (omega arith) ∙ is)
 
-    looks_shut : (rows : List Row) → IsJournal rows → IsShut (journal_bytes rows) v.disk.seen
-        → v.up ≡ false → ((c : List ℕ) → IsDiskImage v.disk c → c ≡ v.disk.seen) → Found rows
+    -- the gate is closed, and all is synced
+    closes_well : (p : DiskState) (rows : List Row) → v.up ≡ false → MayBeFound v rows
+        → IsDiskImage p p.seen → StandsInEither rows None p.seen
+        → ((c : List ℕ) → IsDiskImage p c → c ≡ p.seen)
+        → ((c : List ℕ) → IsDiskImage p c → Stands v.up v.rows v.uncertain c)
+        → Well (gate_closed (record v { disk = p }) rows)
+    closes_well p rows down which stays stands only images =
+        elim (cases_Bool (version_byte p.seen == 1)) [
+          | inl second ↦
+              subst (λ (b : Bool). Well (if b then comes_up (record v { disk = p }) rows
+              else record v { disk = p; step = VersionWrite rows })) (sym second)
+              (opens_well p rows down (found_too rows which) stays
+              (λ c image. subst (λ (l : List ℕ). IsShut (journal_bytes rows) l) (sym (only c image))
+              (second_stands rows None p.seen stands (eqb-true (version_byte p.seen) 1 second)))
+              (found_journal rows which))
+          | inr older ↦
+              subst (λ (b : Bool). Well (if b then comes_up (record v { disk = p }) rows
+              else record v { disk = p; step = VersionWrite rows })) (sym older)
+              (well (record v { disk = p; step = VersionWrite rows }) refl
+              (stepped stories budget first past v p v.faults v.uncertain (VersionWrite rows) sound
+              stays images sound.next
+              (down, which, stands, eqb-false (version_byte p.seen) 1 older, only) (λ k z at f. f)))
+        ]
+
+    looks_shut : (rows : List Row) → StandsInEither rows None v.disk.seen
+        → v.up ≡ false → ((c : List ℕ) → IsDiskImage v.disk c → c ≡ v.disk.seen) → MayBeFound v rows
         → Well (looked v (rows_in v.disk.seen))
-    looks_shut rows all shut down only which =
+    looks_shut rows shut down only which =
         subst (λ (o : Option (List Row)). Well (looked v o))
-        (sym (reads_rows v.disk.seen rows (spells_shut rows v.disk.seen all shut)))
+        (sym (reads_rows v.disk.seen rows
+        (spells_shut rows v.disk.seen (found_journal rows which) shut)))
         (subst (λ (b : Bool). Well
-        (if b then comes_up v rows else record v { step = CloseWrite rows })) (sym is_zero)
-        (opens_well v.disk rows down which sound.stays
-        (λ c image. subst (λ (l : List ℕ). IsShut (journal_bytes rows) l)
-        (sym (only c image)) shut) all))
+        (if b then gate_closed v rows else record v { step = CloseWrite rows })) (sym is_zero)
+        (closes_well v.disk rows down which sound.stays shut only sound.images))
       where
         is_zero : (slice_index v.disk.seen (length (journal_bytes rows)) == 0) ≡ true
-        is_zero = ap (λ (n : ℕ). n == 0) (gate_zero rows v.disk.seen shut)
+        is_zero =
+            ap (λ (n : ℕ). n == 0)
+            (shut_zero (journal_front (version_byte v.disk.seen) rows) v.disk.seen shut.1)
+
+    -- what stands in the bytes, with the row behind the gate by its name
+    stands_now : (u : Option Row) → v.uncertain ≡ u → StandsInEither v.rows u v.disk.seen
+    stands_now u is =
+        subst (λ (o : Option Row). StandsInEither v.rows o v.disk.seen) is
+        (stands_either_way v.up v.rows v.uncertain v.disk.seen
+        (sound.images v.disk.seen sound.stays))
 
     looks_well : v.up ≡ false → ((c : List ℕ) → IsDiskImage v.disk c → c ≡ v.disk.seen)
         → Well (looked v (rows_in v.disk.seen))
@@ -192,39 +239,31 @@ module _ (stories : List Story) (budget : ℕ) (premise : AreGiven stories budge
         of : (u : Option Row) → v.uncertain ≡ u
             → Well (looked v (rows_in v.disk.seen))
         of None is =
-            looks_shut v.rows sound.journal
-            (subst (λ (o : Option Row). StandsInImage v.rows o v.disk.seen) is
-            (sound.images v.disk.seen sound.stays)) down only (inl same.rows)
+            looks_shut v.rows (stands_now None is) down only (inl refl)
         of (Some u) is =
-            let stands : IsUnsure (journal_bytes v.rows) (past_gate u) v.disk.seen =
-            subst (λ (o : Option Row). StandsInImage v.rows o v.disk.seen) is
-            (sound.images v.disk.seen sound.stays) in
-            let next : IsNext v.rows u =
-            subst (λ (o : Option Row). IfSome o (IsNext v.rows)) is sound.next in
+            let stands = stands_now (Some u) is in
             elim (cases_eq (get_or v.disk.seen (length (journal_bytes v.rows)) 0) 1) [
               | inl is_open ↦ looks_shut (v.rows ++ u ∷ [])
-                  (journal_push v.rows u sound.journal next)
-                  (opens v.rows u v.disk.seen stands is_open) down only
-                  (inr (u, sym same.uncertain ∙ is, ap (λ (l : List Row). l ++ u ∷ []) same.rows))
+                  (opens v.rows u v.disk.seen stands is_open) down only (inr (u, is, refl))
               | inr not_open ↦
                   elim (cases_eq (get_or v.disk.seen (length (journal_bytes v.rows)) 0) 0) [
-                    | inl is_shut ↦ looks_shut v.rows sound.journal
-                        (unsure_zero (journal_bytes v.rows)
-                        (past_gate u) v.disk.seen stands is_shut) down only (inl same.rows)
+                    | inl is_shut ↦
+                        looks_shut v.rows (
+                          (are_front (version_byte v.disk.seen) v.rows u stands.0).0,
+                          unsure_zero (journal_front (version_byte v.disk.seen) v.rows)
+                              (past_gate u) v.disk.seen stands.1 is_shut,
+                        ) down only (inl refl)
                     | inr other ↦
                         let spells : rows_in v.disk.seen ≡ Some v.rows =
                         reads_rows v.disk.seen v.rows
-                        (spells_not_open v.rows
-                        (past_gate u) v.disk.seen sound.journal stands not_open
-                        (omega
-                        (arith, stands.behind.within, length-append (row_body u) (0 ∷ [])))) in
+                        (spells_not_open v.rows u v.disk.seen sound.journal stands not_open) in
                         let test : (slice_index v.disk.seen (length (journal_bytes v.rows)) == 0)
                         ≡ false =
                         grind (arith, nat_tests) in
                         subst (λ (o : Option (List Row)). Well
                         (looked v o)) (sym spells)
                         (subst (λ (b : Bool). Well
-                        (if b then comes_up v v.rows else record v { step = CloseWrite v.rows }))
+                        (if b then gate_closed v v.rows else record v { step = CloseWrite v.rows }))
                         (sym test)
                         (well (record v { step = CloseWrite v.rows }) refl
                         (stepped stories budget first past v v.disk v.faults v.uncertain
@@ -275,28 +314,40 @@ module _ (stories : List Story) (budget : ℕ) (premise : AreGiven stories budge
       good_well ReadAll fact = looks_well fact.0 fact.1
       good_well (CloseWrite those) fact =
           let made = Write (length (journal_bytes those)) (0 ∷ []) in
-          let old : IsUnsure (journal_bytes v.rows) (past_gate fact.2.0) v.disk.seen =
-          subst (λ (o : Option Row). StandsInImage v.rows o v.disk.seen) fact.2.1
-          (sound.images v.disk.seen sound.stays) in
+          let old = stands_now (Some fact.2.0) fact.2.1 in
           makes made (CloseWrite those) refl (λ fits.
           goes_on stories budget premise first past v sound reads made (CloseWrite those)
           (CloseSync those) fact refl (
             fact.0,
             fact.1,
-            subst (λ (l : List ℕ). IsShut (journal_bytes v.rows) l)
+            subst (λ (l : List ℕ). StandsInEither v.rows None l)
                 (sym (seen_is stories budget premise first past v sound reads
                 (length (journal_bytes those)) (0 ∷ []) fits))
-                (unsure_written (journal_bytes v.rows) (past_gate fact.2.0)
-                (length (journal_bytes those))
-                (ap (λ (l : List Row). length (journal_bytes l)) (sym fact.1)) v.disk.seen old),
+                (gate_written v.rows fact.2.0 (length (journal_bytes those)) v.disk.seen
+                (ap (λ (l : List Row). length (journal_bytes l)) fact.1) old),
           ))
       good_well (CloseSync those) fact =
-          opens_well (disk_after Sync true reads v.disk) those fact.0 (inl (fact.1 ∙ same.rows))
+          closes_well (disk_after Sync true reads v.disk) those fact.0 (inl fact.1)
+          (stays_after Sync reads v.disk sound.stays)
+          (subst (λ (l : List Row). StandsInEither l None v.disk.seen) (sym fact.1) fact.2)
+          (λ c image. only_settled v.disk.seen c image)
+          (images_after stories budget v (CloseSync those) fact sound.stays sound.images true reads
+          Sync refl)
+      good_well (VersionWrite those) fact =
+          makes (Write 8 (1 ∷ [])) (VersionWrite those) refl (λ fits.
+          goes_on stories budget premise first past v sound reads (Write 8 (1 ∷ []))
+          (VersionWrite those) (VersionSync those) fact refl (
+            fact.0,
+            fact.1,
+            subst (λ (l : List ℕ). IsShut (journal_bytes those) l)
+                (sym (seen_is stories budget premise first past v sound reads 8 (1 ∷ []) fits))
+                (second_written those v.disk.seen fact.2.1),
+          ))
+      good_well (VersionSync those) fact =
+          opens_well (disk_after Sync true reads v.disk) those fact.0 (found_too those fact.1)
           (stays_after Sync reads v.disk sound.stays)
           (λ c image. subst (λ (l : List ℕ). IsShut (journal_bytes those) l)
-          (sym (only_settled v.disk.seen c image))
-          (subst (λ (l : List Row). IsShut (journal_bytes l) v.disk.seen) (sym fact.1) fact.2))
-          (subst (λ (l : List Row). IsJournal l) (sym fact.1) sound.journal)
+          (sym (only_settled v.disk.seen c image)) fact.2) (found_journal those fact.1)
 
       -- a call that fails, of an append
       append_fails : (made : DiskCall) (step : Step) → StepFact stories budget v step
@@ -343,6 +394,9 @@ module _ (stories : List Story) (budget : ℕ) (premise : AreGiven stories budge
       bad_well (CloseWrite those) fact =
           opening_fails (Write (length (journal_bytes those)) (0 ∷ [])) (CloseWrite those) fact refl
       bad_well (CloseSync those) fact = opening_fails Sync (CloseSync those) fact refl
+      bad_well (VersionWrite those) fact =
+          opening_fails (Write 8 (1 ∷ [])) (VersionWrite those) fact refl
+      bad_well (VersionSync those) fact = opening_fails Sync (VersionSync those) fact refl
 
   made_well : (first : ℕ → List Entry) (past : ℕ → List Happening) (w : HostState) (good : Bool)
       (reads : List ℕ) → Sound stories budget first past w

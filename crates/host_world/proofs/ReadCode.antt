@@ -9,19 +9,19 @@ use Rattle.std.proofs.lemmas.List.{append-nil, drop_all}
 use Rattle.std.specs.Prelude.{if◌then◌else◌, slice_index}
 use Rattle.disk_model.proofs.Torn.{holds_front}
 use Rattle.gate_journal.proofs.RowLemmas.{length-body, never_both, spelled-push, spells_shut}
-use Rattle.gate_journal.specs.Gate.{IsShut}
+use Rattle.gate_journal.specs.Log.{StandsInEither}
 use Rattle.gate_journal.specs.Rows.{EachNext, HasNoHeader, IsCorrupt, IsJournal}
-use Rattle.gate_journal.specs.Rows.{SpellsRows, row_body, commands_of, journal_header}
+use Rattle.gate_journal.specs.Rows.{SpellsRows, row_body, commands_of, header_with, version_byte}
 use Rattle.gate_journal.specs.Rows.{rows_behind_open_gates, payload_of, journal_bytes}
 use Rattle.gate_journal.specs.declared.command.Command.{Command}
 use Rattle.gate_journal.specs.declared.row.Row.{Row}
 use Rattle.session_core.specs.Turning.{commands_in}
 use Rattle.session_core.specs.declared.entry.Entry.{Entry}
-use Rattle.host_world.specs.Journal.{comes_up, looked}
+use Rattle.host_world.specs.Journal.{comes_up, gate_closed, looked}
 use Rattle.host_world.specs.Reading.{rows_in}
 use Rattle.host_world.specs.Sessions.{history_found}
 use Rattle.host_world.specs.declared.state.HostState.{HostState}
-use Rattle.host_world.specs.declared.state.Step.TheVariants.{CloseWrite, Idle}
+use Rattle.host_world.specs.declared.state.Step.TheVariants.{CloseWrite, Idle, VersionWrite}
 use Rattle.host_world.specs.Starts.{IsStart, down_over, rows_or_none}
 use Rattle.host_world.proofs.ReadingLemmas.{found_rows, reads_rows}
 use Rattle.host_world.proofs.RowsOf.{commands-found, rows-here, rows-other}
@@ -37,7 +37,8 @@ pub headless_none : (bytes : List ℕ) → HasNoHeader bytes → None ≡ rows_i
 headless_none bytes refuses =
     sym (none_of bytes (rows_in bytes) refl
     (λ rows spells.
-    refuses (holds_front journal_header (rows_behind_open_gates rows) spells.front)))
+    refuses (holds_front (header_with (version_byte bytes)) (rows_behind_open_gates rows)
+    spells.front)))
 
 pub corrupt_none : (bytes : List ℕ) (place : ℕ) → IsCorrupt bytes place → None ≡ rows_in bytes
 corrupt_none bytes place refuses =
@@ -51,19 +52,27 @@ looks_none w is = rw is refl
 
 looks : (w : HostState) (rows : List Row) → rows_in w.disk.seen ≡ Some rows → (b : Bool)
     → (slice_index w.disk.seen (length (journal_bytes rows)) == 0) ≡ b
-    → (if b then comes_up w rows else record w { step = CloseWrite rows })
+    → (if b then gate_closed w rows else record w { step = CloseWrite rows })
     ≡ looked w (rows_in w.disk.seen)
 looks w rows is b gate = rw (is, gate) refl
 
 pub looks_shut : (w : HostState) (rows : List Row) → rows_in w.disk.seen ≡ Some rows
     → slice_index w.disk.seen (length (journal_bytes rows)) ≡ 0
-    → comes_up w rows ≡ looked w (rows_in w.disk.seen)
+    → gate_closed w rows ≡ looked w (rows_in w.disk.seen)
 looks_shut w rows is gate = looks w rows is true (grind (arith, nat_tests, gate))
 
 pub looks_open : (w : HostState) (rows : List Row) → rows_in w.disk.seen ≡ Some rows
     → slice_index w.disk.seen (length (journal_bytes rows)) ≢ 0
     → record w { step = CloseWrite rows } ≡ looked w (rows_in w.disk.seen)
 looks_open w rows is gate = looks w rows is false (grind (arith, nat_tests, gate))
+
+pub closed_second : (w : HostState) (rows : List Row) → (version_byte w.disk.seen == 1) ≡ true
+    → comes_up w rows ≡ gate_closed w rows
+closed_second w rows is = rw is refl
+
+pub closed_first : (w : HostState) (rows : List Row) → (version_byte w.disk.seen == 1) ≡ false
+    → record w { step = VersionWrite rows } ≡ gate_closed w rows
+closed_first w rows is = rw is refl
 
 few_on : (s : ℕ) (rows more : List Row) → EachNext rows more → length (commands_of rows s) ≤ 8192
     → length (commands_of (rows ++ more) s) ≤ 8192
@@ -123,7 +132,7 @@ spelled_more found_rows added now r is =
 
 -- over a journal whose closing gate is closed a list of events may begin
 pub down_starts : (bytes : List ℕ) (rows : List Row) → IsJournal rows
-    → IsShut (journal_bytes rows) bytes
+    → StandsInEither rows None bytes
     → IsStart (down_over bytes (rows_or_none (rows_in bytes)) None)
 down_starts bytes rows all shut =
     subst (λ (l : List Row). IsStart (down_over bytes l None))

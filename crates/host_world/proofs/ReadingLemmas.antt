@@ -2,7 +2,7 @@
 use Rattle.std.proofs.Common.{Bool, List, None, Some, [], ap, append_assoc, arith, drop, false}
 use Rattle.std.proofs.Common.{get_or, length, length-append, refl, subst, suc, sym, take, true}
 use Rattle.std.proofs.Common.{zero, ℕ, ◌*◌, ◌++◌, ◌+◌, ◌<◌, ◌==◌, ◌∙◌, ◌∷◌, ◌≡◌, ◌≢◌, ◌≤◌}
-use Rattle.std.proofs.lemmas.Bool.{and_from, and_parts}
+use Rattle.std.proofs.lemmas.Bool.{and_from, and_parts, eq-eqb, eqb-true}
 use Rattle.std.proofs.lemmas.Bool.Decides.{nat_tests}
 use Rattle.std.proofs.lemmas.List.{append-nil, drop_at, get_or-drop, length-drop, take-append-drop}
 use Rattle.std.proofs.lemmas.List.{take_at}
@@ -10,22 +10,26 @@ use Rattle.std.proofs.lemmas.Option.{none-some}
 use Rattle.std.specs.Prelude.{if◌then◌else◌, nat_le, nat_lt, ◌&&◌, ◌||◌}
 use Rattle.std.specs.Str.{all_scalars}
 use Rattle.gate_journal.proofs.PayloadLemmas.{only_char, only_file, only_line, only_open}
+use Rattle.gate_journal.proofs.PayloadLemmas.{only_size}
 use Rattle.gate_journal.proofs.RowLemmas.{body_parts, holds_split, length-body, parse_step}
 use Rattle.gate_journal.proofs.RowLemmas.{spells_split}
 use Rattle.gate_journal.specs.Command.{IsCommand}
 use Rattle.gate_journal.specs.Log.{next_row}
 use Rattle.gate_journal.specs.Parsing.{BeginsWithRow}
 use Rattle.gate_journal.specs.Rows.{EachNext, IsJournal, IsNext, MayStand, SpellsRows, row_body}
-use Rattle.gate_journal.specs.Rows.{commands_of, journal_header, is_open, command_kind}
+use Rattle.gate_journal.specs.Rows.{commands_of, header_with, is_open, command_kind}
+use Rattle.gate_journal.specs.Rows.{journal_front, version_byte, AreInVersion, IsInVersion}
 use Rattle.gate_journal.specs.Rows.{may_follow, rows_behind_open_gates, payload_of, journal_bytes}
 use Rattle.gate_journal.specs.declared.command.Command.{Command}
 use Rattle.gate_journal.specs.declared.command.Command.TheVariants.{Char, Close, File, Line, Open}
+use Rattle.gate_journal.specs.declared.command.Command.TheVariants.{Size}
 use Rattle.gate_journal.specs.declared.row.Row.{Row}
 use Rattle.line_words.specs.Field.{is_key}
 use Rattle.glk_input.specs.Keycode.{is_terminator}
 use Rattle.line_words.specs.Keycode.{is_code}
 use Rattle.story_text.specs.Text.{IsText, is_short}
 use Rattle.host_world.specs.Reading.{begins_with, command_in, has_row, is_command, is_text}
+use Rattle.host_world.specs.Reading.{is_in_version}
 use Rattle.host_world.specs.Reading.{may_stand, row_at, rows_from, rows_in}
 use Rattle.host_world.proofs.Lists.{some_same}
 use Rattle.std.proofs.lemmas.Slice.Eq.{bytes_eq-Decides}
@@ -46,6 +50,9 @@ command_is (File name) ranges =
     sym (only_file (payload_of (File name)) (File name)
     (record { ranges = ranges; number = refl; bytes = refl }))
 command_is Close ranges = refl
+command_is (Size cols rows) ranges =
+    sym (only_size (payload_of (Size cols rows)) (Size cols rows)
+    (record { ranges = ranges; number = refl; bytes = refl })).1
 
 -- the tests of a command's fields say what they are to say
 text_told : (t : List ℕ) → is_text t ≡ true → IsText t
@@ -95,6 +102,11 @@ command_told (Char win code) is =
     (le_of win 4294967295 a.0, a.1)
 command_told (File name) is = text_told name is
 command_told Close is = tt
+command_told (Size cols rows) is =
+    let c = and_parts (nat_le 1 cols && nat_le cols 255 && nat_le 1 rows) (nat_le rows 255) is in
+    let b = and_parts (nat_le 1 cols && nat_le cols 255) (nat_le 1 rows) c.0 in
+    let a = and_parts (nat_le 1 cols) (nat_le cols 255) b.0 in
+    (le_of 1 cols a.0, le_of cols 255 a.1, le_of 1 rows b.1, le_of rows 255 c.1)
 
 pub command_test : (c : Command) → IsCommand c → is_command c ≡ true
 command_test (Open key story digest seed cols rows budget) is =
@@ -119,6 +131,20 @@ command_test (Char win code) is =
     and_from (nat_le win 4294967295) (is_code code) (le_test win 4294967295 is.0) is.1
 command_test (File name) is = text_test name is
 command_test Close is = refl
+command_test (Size cols rows) is =
+    and_from (nat_le 1 cols && nat_le cols 255 && nat_le 1 rows) (nat_le rows 255)
+    (and_from (nat_le 1 cols && nat_le cols 255) (nat_le 1 rows)
+    (and_from (nat_le 1 cols) (nat_le cols 255) (le_test 1 cols is.0) (le_test cols 255 is.1))
+    (le_test 1 rows is.2)) (le_test rows 255 is.3)
+
+-- and so does that of a version
+version_told : (v : ℕ) (c : Command) → is_in_version v c ≡ true → IsInVersion v c
+version_told v (Size cols rows) is = eqb-true v 1 is
+version_told v c is = tt
+
+version_test : (v : ℕ) (c : Command) → IsInVersion v c → is_in_version v c ≡ true
+version_test v (Size cols rows) is = eq-eqb v 1 is
+version_test v c is = refl
 
 stand_test : (rows : List Row) (s : ℕ) (c : Command) → MayStand rows s c → may_stand rows s c ≡ true
 stand_test rows s c is =
@@ -185,47 +211,50 @@ front_told front past is =
     ((bytes_eq-Decides (take (length front) past) front).0 is)
 
 -- what an opened row leaves to be read
-pub rows_on : (n : ℕ) (rows : List Row) (r : Row) (rest : List ℕ) → IsNext rows r
-    → rows_from (suc n) rows (1 ∷ (row_body r ++ rest)) ≡ rows_from n (rows ++ r ∷ []) rest
-rows_on n rows r rest next =
-    ap (λ (q : Row). if has_row rows (row_body r ++ rest) q then rows_from n (rows ++ q ∷ [])
+pub rows_on : (v n : ℕ) (rows : List Row) (r : Row) (rest : List ℕ)
+    → IsNext rows r → IsInVersion v r.command
+    → rows_from v (suc n) rows (1 ∷ (row_body r ++ rest)) ≡ rows_from v n (rows ++ r ∷ []) rest
+rows_on v n rows r rest next in_version =
+    ap (λ (q : Row). if has_row v rows (row_body r ++ rest) q then rows_from v n (rows ++ q ∷ [])
     (drop (length (row_body q)) (row_body r ++ rest)) else None)
     (row_is rows r rest (row_body r ++ rest) next refl)
-    ∙ ap (λ (b : Bool). if b then rows_from n (rows ++ r ∷ [])
+    ∙ ap (λ (b : Bool). if b then rows_from v n (rows ++ r ∷ [])
     (drop (length (row_body r)) (row_body r ++ rest)) else None)
-    (and_from (may_stand rows r.session r.command) (begins_with (row_body r ++ rest) (row_body r))
-    (stand_test rows r.session r.command next.stands)
+    (and_from (is_in_version v r.command && may_stand rows r.session r.command)
+    (begins_with (row_body r ++ rest) (row_body r))
+    (and_from (is_in_version v r.command) (may_stand rows r.session r.command)
+    (version_test v r.command in_version) (stand_test rows r.session r.command next.stands))
     (front_test (row_body r) rest (row_body r ++ rest) refl))
-    ∙ ap (λ (l : List ℕ). rows_from n (rows ++ r ∷ []) l)
+    ∙ ap (λ (l : List ℕ). rows_from v n (rows ++ r ∷ []) l)
     (drop_at (row_body r) rest (length (row_body r)) refl)
 
-ends_here : (n : ℕ) (rows : List Row) (gate : ℕ) (past : List ℕ) → gate ≢ 1
-    → rows_from n rows (gate ∷ past) ≡ Some rows
-ends_here n rows gate past shut = of n
+ends_here : (v n : ℕ) (rows : List Row) (gate : ℕ) (past : List ℕ) → gate ≢ 1
+    → rows_from v n rows (gate ∷ past) ≡ Some rows
+ends_here v n rows gate past shut = of n
   where
     test : (gate == 1) ≡ false
     test = grind (arith, nat_tests)
 
-    of : (k : ℕ) → rows_from k rows (gate ∷ past) ≡ Some rows
+    of : (k : ℕ) → rows_from v k rows (gate ∷ past) ≡ Some rows
     of zero = rw test refl
     of (suc k) = rw test refl
 
-end_found : (n : ℕ) (rows : List Row) (x : List ℕ) → 1 ≤ length x → get_or x 0 0 ≢ 1
-    → rows_from n rows x ≡ Some rows
-end_found n rows [] some shut = absurd (omega (arith, some))
-end_found n rows (gate ∷ past) some shut = ends_here n rows gate past shut
+end_found : (v n : ℕ) (rows : List Row) (x : List ℕ) → 1 ≤ length x → get_or x 0 0 ≢ 1
+    → rows_from v n rows x ≡ Some rows
+end_found v n rows [] some shut = absurd (omega (arith, some))
+end_found v n rows (gate ∷ past) some shut = ends_here v n rows gate past shut
 
-rows_found : (more : List Row) (n : ℕ) (rows : List Row) (x : List ℕ) → length more ≤ n
-    → EachNext rows more → 1 ≤ length x → get_or x 0 0 ≢ 1
-    → rows_from n rows (rows_behind_open_gates more ++ x) ≡ Some (rows ++ more)
-rows_found [] n rows x le each some shut = end_found n rows x some shut
+rows_found : (more : List Row) (v n : ℕ) (rows : List Row) (x : List ℕ) → length more ≤ n
+    → EachNext rows more → AreInVersion v more → 1 ≤ length x → get_or x 0 0 ≢ 1
+    → rows_from v n rows (rows_behind_open_gates more ++ x) ≡ Some (rows ++ more)
+rows_found [] v n rows x le each are some shut = end_found v n rows x some shut
     ∙ ap (λ (l : List Row). Some l) (sym (append-nil rows))
-rows_found (r ∷ more) zero rows x le each some shut = absurd (omega (arith, le))
-rows_found (r ∷ more) (suc n) rows x le each some shut =
-    ap (λ (l : List ℕ). rows_from (suc n) rows (1 ∷ l))
+rows_found (r ∷ more) v zero rows x le each are some shut = absurd (omega (arith, le))
+rows_found (r ∷ more) v (suc n) rows x le each are some shut =
+    ap (λ (l : List ℕ). rows_from v (suc n) rows (1 ∷ l))
     (append_assoc (row_body r) (rows_behind_open_gates more) x)
-    ∙ rows_on n rows r (rows_behind_open_gates more ++ x) each.0
-    ∙ rows_found more n (rows ++ r ∷ []) x (omega (arith, le)) each.1 some shut
+    ∙ rows_on v n rows r (rows_behind_open_gates more ++ x) each.0 are.0
+    ∙ rows_found more v n (rows ++ r ∷ []) x (omega (arith, le)) each.1 are.1 some shut
     ∙ ap (λ (l : List Row). Some l) (append_assoc rows (r ∷ []) more)
 
 opened_size : (rows : List Row) → length rows ≤ length (rows_behind_open_gates rows)
@@ -240,110 +269,123 @@ first_behind c n = get_or-drop n c 0 0 ∙ ap (λ (k : ℕ). get_or c k 0) (omeg
 pub reads_rows : (c : List ℕ) (rows : List Row) → SpellsRows c rows → rows_in c ≡ Some rows
 unfolding rows_in
 reads_rows c rows spells =
+    let v = version_byte c in
     let n = length (journal_bytes rows) in
     let x = drop (length (journal_bytes rows)) c in
-    let whole : c ≡ journal_bytes rows ++ drop (length (journal_bytes rows)) c =
-    holds_split c (journal_bytes rows) spells.front in
-    let split : c ≡ journal_header
+    let whole : c ≡ journal_front v rows ++ drop (length (journal_bytes rows)) c =
+    holds_split c (journal_front v rows) spells.front in
+    let split : c ≡ header_with v
     ++ (rows_behind_open_gates rows ++ drop (length (journal_bytes rows)) c) = whole
-    ∙ append_assoc journal_header (rows_behind_open_gates rows)
+    ∙ append_assoc (header_with v) (rows_behind_open_gates rows)
     (drop (length (journal_bytes rows)) c) in
     let size : length rows ≤ length c =
     omega (
       arith,
       opened_size rows,
       spells.within,
-      length-append journal_header (rows_behind_open_gates rows),
+      length-append (header_with v) (rows_behind_open_gates rows),
     ) in
-    ap (λ (b : Bool). if b then rows_from (length c) [] (drop 16 c) else None)
-    (front_test journal_header
+    ap (λ (b : Bool). if b then rows_from v (length c) [] (drop 16 c) else None)
+    (front_test (header_with v)
     (rows_behind_open_gates rows ++ drop (length (journal_bytes rows)) c) c split)
-    ∙ ap (λ (l : List ℕ). rows_from (length c) [] (drop 16 l)) split
-    ∙ rows_found rows (length c) [] x size spells.journal
+    ∙ ap (λ (l : List ℕ). rows_from v (length c) [] (drop 16 l)) split
+    ∙ rows_found rows v (length c) [] x size spells.journal spells.versions
     (omega (arith, length-drop n c, spells.within))
     (λ is. spells.closed (sym (first_behind c n) ∙ is))
 
 -- and nothing else
-not_open : (c : List ℕ) (rows those : List Row) (gate : ℕ) (past : List ℕ) → IsJournal rows
-    → c ≡ journal_bytes rows ++ gate ∷ past → (gate == 1) ≡ false → Some rows ≡ Some those
+not_open : (v : ℕ) (c : List ℕ) (rows those : List Row) (gate : ℕ) (past : List ℕ)
+    → IsJournal rows → AreInVersion v rows
+    → c ≡ journal_front v rows ++ gate ∷ past → (gate == 1) ≡ false → Some rows ≡ Some those
     → SpellsRows c those
-not_open c rows those gate past journal split shut said =
+not_open v c rows those gate past journal are split shut said =
     subst (λ (l : List Row). SpellsRows c l) (some_same rows those said)
-    (spells_split rows c (gate ∷ past) journal split (omega arith)
+    (spells_split v rows c (gate ∷ past) journal are split (omega arith)
     (λ is. grind (arith, nat_tests)))
 
 -- what reading finds behind these rows, they spell
-abbrev Spelt : List ℕ → List Row → ℕ → Type 0
-Spelt c those n =
-    (rows : List Row) (rest : List ℕ) → rows_from n rows rest ≡ Some those → IsJournal rows
-    → c ≡ journal_bytes rows ++ rest → SpellsRows c those
+abbrev Spelt : ℕ → List ℕ → List Row → ℕ → Type 0
+Spelt v c those n =
+    (rows : List Row) (rest : List ℕ) → rows_from v n rows rest ≡ Some those → IsJournal rows
+    → AreInVersion v rows → c ≡ journal_front v rows ++ rest → SpellsRows c those
 
 one_more :
-    (c : List ℕ) (those : List Row) (n : ℕ) (rows : List Row) (gate : ℕ) (past : List ℕ) (r : Row)
-    → r ≡ row_at rows past → Spelt c those n → IsJournal rows
-    → c ≡ journal_bytes rows ++ gate ∷ past
+    (v : ℕ) (c : List ℕ) (those : List Row) (n : ℕ) (rows : List Row) (gate : ℕ) (past : List ℕ)
+    (r : Row)
+    → r ≡ row_at rows past → Spelt v c those n → IsJournal rows → AreInVersion v rows
+    → c ≡ journal_front v rows ++ gate ∷ past
     → (gate == 1) ≡ true
-    → (b : Bool) → has_row rows past r ≡ b
-    → (if b then rows_from n (rows ++ r ∷ []) (drop (length (row_body r)) past) else None)
+    → (b : Bool) → has_row v rows past r ≡ b
+    → (if b then rows_from v n (rows ++ r ∷ []) (drop (length (row_body r)) past) else None)
     ≡ Some those → SpellsRows c those
-one_more c those n rows gate past r is later journal split is_open false test said =
+one_more v c those n rows gate past r is later journal are split is_open false test said =
     absurd (none-some those said)
-one_more c those n rows gate past r is later journal split is_open true test said =
+one_more v c those n rows gate past r is later journal are split is_open true test said =
     let both =
-    and_parts (may_stand rows r.session r.command) (begins_with past (row_body r)) test in
+    and_parts (is_in_version v r.command && may_stand rows r.session r.command)
+    (begins_with past (row_body r)) test in
+    let fits = and_parts (is_in_version v r.command) (may_stand rows r.session r.command) both.0 in
     let next : IsNext rows r =
     record {
       place = ap (λ (q : Row). q.place) is;
       by = ap (λ (q : Row). q.by) is
           ∙ sym (ap (λ (q : Row). q.session + 1) is);
       stands =
-          stand_told rows r.session r.command both.0;
+          stand_told rows r.session r.command fits.1;
     } in
     let size : suc (length (row_body r)) ≡ 5 + length (payload_of r.command) =
     omega (arith, length-body r) in
-    let first : BeginsWithRow rows past r =
-    record { next = next; bytes = front_told (row_body r) past both.1 } in
-    let step = parse_step c (gate ∷ past) (drop (length (row_body r)) past) rows (rows ++ r ∷ []) r
+    let first : BeginsWithRow v rows past r =
+    record {
+      next = next;
+      in_version = version_told v r.command fits.0;
+      bytes = front_told (row_body r) past both.1;
+    } in
+    let step =
+    parse_step v c (gate ∷ past) (drop (length (row_body r)) past) rows (rows ++ r ∷ []) r
     (length (journal_bytes rows)) (length (journal_bytes rows) +
-    (5 + length (payload_of r.command))) split journal refl (grind (arith, nat_tests))
+    (5 + length (payload_of r.command))) split journal are refl (grind (arith, nat_tests))
     (omega arith) first refl refl
     (ap (λ (k : ℕ). drop k (gate ∷ past)) size) in
-    later (rows ++ r ∷ []) (drop (length (row_body r)) past) said step.1 step.0
+    later (rows ++ r ∷ []) (drop (length (row_body r)) past) said step.1 step.2 step.0
 
 at_gate :
-    (c : List ℕ) (those : List Row) (n : ℕ) (rows : List Row) (gate : ℕ) (past : List ℕ)
-    → Spelt c those n → IsJournal rows → c ≡ journal_bytes rows ++ gate ∷ past → (b : Bool)
-    → (gate == 1) ≡ b
-    → (if b then (if has_row rows past (row_at rows past) then rows_from n
+    (v : ℕ) (c : List ℕ) (those : List Row) (n : ℕ) (rows : List Row) (gate : ℕ) (past : List ℕ)
+    → Spelt v c those n → IsJournal rows → AreInVersion v rows
+    → c ≡ journal_front v rows ++ gate ∷ past → (b : Bool) → (gate == 1) ≡ b
+    → (if b then (if has_row v rows past (row_at rows past) then rows_from v n
     (rows ++ row_at rows past ∷ []) (drop
     (length (row_body (row_at rows past))) past) else None) else Some rows) ≡ Some those
     → SpellsRows c those
-at_gate c those n rows gate past later journal split true test said =
-    one_more c those n rows gate past (row_at rows past) refl later journal split test
-    (has_row rows past (row_at rows past)) refl said
-at_gate c those n rows gate past later journal split false test said =
-    not_open c rows those gate past journal split test said
+at_gate v c those n rows gate past later journal are split true test said =
+    one_more v c those n rows gate past (row_at rows past) refl later journal are split test
+    (has_row v rows past (row_at rows past)) refl said
+at_gate v c those n rows gate past later journal are split false test said =
+    not_open v c rows those gate past journal are split test said
 
-at_last : (c : List ℕ) (those rows : List Row) (gate : ℕ) (past : List ℕ) → IsJournal rows
-    → c ≡ journal_bytes rows ++ gate ∷ past → (b : Bool) → (gate == 1) ≡ b
+at_last : (v : ℕ) (c : List ℕ) (those rows : List Row) (gate : ℕ) (past : List ℕ)
+    → IsJournal rows → AreInVersion v rows
+    → c ≡ journal_front v rows ++ gate ∷ past → (b : Bool) → (gate == 1) ≡ b
     → (if b then None else Some rows) ≡ Some those → SpellsRows c those
-at_last c those rows gate past journal split true test said = absurd (none-some those said)
-at_last c those rows gate past journal split false test said =
-    not_open c rows those gate past journal split test said
+at_last v c those rows gate past journal are split true test said = absurd (none-some those said)
+at_last v c those rows gate past journal are split false test said =
+    not_open v c rows those gate past journal are split test said
 
-found_spell : (c : List ℕ) (those : List Row) (n : ℕ) → Spelt c those n
-found_spell c those n rows [] is journal split = absurd (none-some those is)
-found_spell c those zero rows (gate ∷ past) is journal split =
-    at_last c those rows gate past journal split (gate == 1) refl is
-found_spell c those (suc n) rows (gate ∷ past) is journal split =
-    at_gate c those n rows gate past (found_spell c those n) journal split (gate == 1) refl is
+found_spell : (v : ℕ) (c : List ℕ) (those : List Row) (n : ℕ) → Spelt v c those n
+found_spell v c those n rows [] is journal are split = absurd (none-some those is)
+found_spell v c those zero rows (gate ∷ past) is journal are split =
+    at_last v c those rows gate past journal are split (gate == 1) refl is
+found_spell v c those (suc n) rows (gate ∷ past) is journal are split =
+    at_gate v c those n rows gate past (found_spell v c those n) journal are split (gate == 1) refl
+    is
 
-with_header : (c : List ℕ) (rows : List Row) (b : Bool) → begins_with c journal_header ≡ b
-    → (if b then rows_from (length c) [] (drop 16 c) else None) ≡ Some rows → SpellsRows c rows
-with_header c rows true test said =
-    found_spell c rows (length c) [] (drop 16 c) said tt (front_told journal_header c test)
-with_header c rows false test said = absurd (none-some rows said)
+with_header : (v : ℕ) (c : List ℕ) (rows : List Row) (b : Bool) → begins_with c (header_with v) ≡ b
+    → (if b then rows_from v (length c) [] (drop 16 c) else None) ≡ Some rows → SpellsRows c rows
+with_header v c rows true test said =
+    found_spell v c rows (length c) [] (drop 16 c) said tt tt (front_told (header_with v) c test)
+with_header v c rows false test said = absurd (none-some rows said)
 
 pub found_rows : (c : List ℕ) (rows : List Row) → rows_in c ≡ Some rows → SpellsRows c rows
 unfolding rows_in
-found_rows c rows is = with_header c rows (begins_with c journal_header) refl is
+found_rows c rows is =
+    with_header (version_byte c) c rows (begins_with c (header_with (version_byte c))) refl is

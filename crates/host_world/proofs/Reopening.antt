@@ -1,15 +1,12 @@
 -- What an opening finds, and what a call does.
-use Rattle.std.proofs.Common.{Bool, List, None, Option, Some, [], ap, arith, false, get_or, inl}
-use Rattle.std.proofs.Common.{inr, length, refl, subst, sym, true, ℕ, ◌++◌, ◌<◌, ◌∙◌, ◌∷◌, ◌≡◌, ◌⊎◌}
+use Rattle.std.proofs.Common.{Bool, List, None, Option, Some, [], ap, arith, false, inl}
+use Rattle.std.proofs.Common.{inr, refl, subst, sym, true, ℕ, ◌++◌, ◌<◌, ◌∙◌, ◌∷◌, ◌≡◌, ◌⊎◌}
 use Rattle.std.proofs.lemmas.List.{append-nil}
 use Rattle.std.proofs.lemmas.List.FromFn.{get_or-map-range_with_len, length-map-range_with_len}
 use Rattle.std.proofs.lemmas.Option.{get_or_from_slice_get, slice_get_within}
 use Rattle.std.specs.List.{slice_get}
 use Rattle.std.specs.Prelude.{IfSome, if◌then◌else◌, not, ◌&&◌}
-use Rattle.disk_model.proofs.Torn.{holds_rest}
-use Rattle.disk_model.specs.Disk.{Holds}
-use Rattle.gate_journal.specs.Gate.{IsShut}
-use Rattle.gate_journal.specs.Rows.{commands_of, journal_bytes}
+use Rattle.gate_journal.specs.Rows.{commands_of}
 use Rattle.gate_journal.specs.declared.row.Row.{Row}
 use Rattle.story_run.specs.declared.story.Story.{Story}
 use Rattle.session_core.specs.Turning.{commands_in}
@@ -22,14 +19,6 @@ use Rattle.host_world.specs.declared.turn.Session.{Session}
 use Rattle.host_world.proofs.Lists.{false_true}
 use Rattle.host_world.proofs.Phases.{same_past}
 use Rattle.host_world.proofs.Sound.{RowsFact, Sound}
-
--- a closed gate is 0
-pub gate_zero : (rows : List Row) (c : List ℕ) → IsShut (journal_bytes rows) c
-    → get_or c (length (journal_bytes rows)) 0 ≡ 0
-gate_zero rows c shut =
-    let gate : Holds c (length (journal_bytes rows)) (0 ∷ []) =
-    holds_rest {p = 0} (journal_bytes rows) (0 ∷ []) (omega arith) shut in
-    ap (λ (k : ℕ). get_or c k 0) (omega arith) ∙ gate.each 0 (omega arith)
 
 abbrev pub nobody : Session
 nobody = record { history = []; turn = None }

@@ -5,7 +5,6 @@ use Rattle.std.proofs.lemmas.Bool.{cases_eq}
 use Rattle.std.specs.List.{slice_get}
 use Rattle.std.specs.Prelude.{IfSome}
 use Rattle.disk_model.specs.DiskState.{DiskState, IsDiskImage}
-use Rattle.gate_journal.specs.Log.{StandsInImage}
 use Rattle.gate_journal.specs.Rows.{IsJournal, IsNext}
 use Rattle.gate_journal.specs.declared.row.Row.{Row}
 use Rattle.story_run.specs.declared.story.Story.{Story}
@@ -20,7 +19,7 @@ use Rattle.host_world.specs.declared.turn.Phase.TheVariants.{Plain, Ready, Taken
 use Rattle.host_world.specs.declared.turn.Session.{Session}
 use Rattle.host_world.specs.declared.turn.Turn.{Turn}
 use Rattle.host_world.proofs.Lists.{get_else, get_here, some_same}
-use Rattle.host_world.proofs.Sound.{Knows, PhaseFact, RowsFact, Sound, StepFact}
+use Rattle.host_world.proofs.Sound.{Knows, PhaseFact, RowsFact, Sound, Stands, StepFact}
 
 module _ (stories : List Story) (budget : ℕ) where
   pub reached : (before h : List Entry) (t : Turn) (next p : Phase)
@@ -55,7 +54,7 @@ module _ (stories : List Story) (budget : ℕ) where
     pub record Rephasing : Type 0 where
       pub at : slice_get v.sessions s ≡ Some x
       pub stays : IsDiskImage p p.seen
-      pub images : (c : List ℕ) → IsDiskImage p c → StandsInImage rows u c
+      pub images : (c : List ℕ) → IsDiskImage p c → Stands v.up rows u c
       pub journal : IsJournal rows
       pub follows : IfSome u (IsNext rows)
       pub now : StepFact stories budget new step
@@ -108,7 +107,7 @@ module _ (stories : List Story) (budget : ℕ) where
   pub stepped : (first : ℕ → List Entry) (past : ℕ → List Happening) (v : HostState) (p : DiskState)
       (n : ℕ) (u : Option Row) (step : Step)
       → Sound stories budget first past v → IsDiskImage p p.seen
-      → ((c : List ℕ) → IsDiskImage p c → StandsInImage v.rows u c) → IfSome u (IsNext v.rows)
+      → ((c : List ℕ) → IsDiskImage p c → Stands v.up v.rows u c) → IfSome u (IsNext v.rows)
       → StepFact stories budget (record v { disk = p; faults = n; uncertain = u; step = step }) step
       → ((k : ℕ) (z : Session) → slice_get v.sessions k ≡ Some z
       → RowsFact stories budget k v.rows v.uncertain z v.up

@@ -9,7 +9,7 @@ use Rattle.std.proofs.lemmas.Option.{slice_get-get_or, slice_get_within}
 use Rattle.std.specs.List.{slice_get}
 use Rattle.std.specs.Prelude.{IfSome, if◌then◌else◌, not, ◌&&◌}
 use Rattle.disk_model.proofs.StateLaws.{only_settled, settled_image}
-use Rattle.gate_journal.specs.Log.{StandsInImage}
+use Rattle.gate_journal.specs.Log.{StandsInEither, StandsInImage}
 use Rattle.gate_journal.specs.Rows.{IsJournal, IsNext, commands_of}
 use Rattle.gate_journal.specs.declared.command.Command.{Command}
 use Rattle.gate_journal.specs.declared.row.Row.{Row}
@@ -45,11 +45,11 @@ use Rattle.host_world.proofs.Openings.{call_well}
 use Rattle.host_world.proofs.Phases.{same_past, untold}
 use Rattle.host_world.proofs.Reopening.{CallsWell, found_at, nobody, of_down, one_more_of}
 use Rattle.host_world.proofs.RowsOf.{commands-found, rows-here, rows-other}
-use Rattle.host_world.proofs.Sound.{RowsFact, Sound, StepFact, TurnFact}
+use Rattle.host_world.proofs.Sound.{RowsFact, Sound, Stands, StepFact, TurnFact}
 use Rattle.host_world.proofs.Stops.{cut_fact, image_spells, stop_well}
 
 pub down_well : (bytes : List ℕ) (rows : List Row) (u : Option Row) → IsJournal rows
-    → IfSome u (IsNext rows) → StandsInImage rows u bytes → IsDown (down_over bytes rows u)
+    → IfSome u (IsNext rows) → StandsInEither rows u bytes → IsDown (down_over bytes rows u)
 down_well bytes rows u all next stands = record {
   down = refl;
   quiet = record {
@@ -66,7 +66,7 @@ down_well bytes rows u all next stands = record {
         );
   };
   next = next;
-  stands = λ c image. subst (λ (l : List ℕ). StandsInImage rows u l)
+  stands = λ c image. subst (λ (l : List ℕ). StandsInEither rows u l)
       (sym (only_settled bytes c image)) stands;
 }
 
@@ -154,7 +154,8 @@ module _ (stories : List Story) (budget : ℕ) (premise : AreGiven stories budge
   opened_well w o = record {
     stays = o.quiet.reads;
     images =
-        λ c is. subst (λ (u : Option Row). StandsInImage w.rows u c) (sym o.certain) (o.shut c is);
+        λ c is. subst (λ (up : Bool). Stands up w.rows w.uncertain c) (sym o.up)
+        (subst (λ (u : Option Row). StandsInImage w.rows u c) (sym o.certain) (o.shut c is));
     journal = o.quiet.journal;
     next = subst (λ (u : Option Row). IfSome u (IsNext w.rows)) (sym o.certain) tt;
     sessions = o.quiet.sessions;
@@ -201,7 +202,8 @@ module _ (stories : List Story) (budget : ℕ) (premise : AreGiven stories budge
   stopped_well : (w : HostState) → IsDown w → Sound stories budget (first_of w) (λ s. []) w
   stopped_well w o = record {
     stays = o.quiet.reads;
-    images = o.stands;
+    images =
+        λ c is. subst (λ (up : Bool). Stands up w.rows w.uncertain c) (sym o.down) (o.stands c is);
     journal = o.quiet.journal;
     next = o.next;
     sessions = o.quiet.sessions;

@@ -1,12 +1,13 @@
 -- What every event keeps.
 use Rattle.std.proofs.Common.{Bool, List, None, Option, Some, [], false, length, true, ℕ, ◌++◌, ◌∷◌}
-use Rattle.std.proofs.Common.{◌≡◌}
+use Rattle.std.proofs.Common.{◌≡◌, ◌≢◌, ◌⊎◌}
 use Rattle.std.specs.List.{slice_get}
 use Rattle.std.specs.Prelude.{IfSome}
 use Rattle.disk_model.specs.DiskState.{IsDiskImage}
 use Rattle.gate_journal.specs.Gate.{IsShut, IsUnsure}
-use Rattle.gate_journal.specs.Log.{StandsInImage}
-use Rattle.gate_journal.specs.Rows.{IsJournal, IsNext, commands_of, journal_bytes}
+use Rattle.gate_journal.specs.Log.{StandsInEither, StandsInImage}
+use Rattle.gate_journal.proofs.VersionLemmas.{stands_either}
+use Rattle.gate_journal.specs.Rows.{IsJournal, IsNext, commands_of, journal_bytes, version_byte}
 use Rattle.gate_journal.specs.declared.command.Command.{Command}
 use Rattle.gate_journal.specs.declared.row.Row.{Row}
 use Rattle.story_run.specs.declared.story.Story.{Story}
@@ -23,6 +24,7 @@ use Rattle.host_world.specs.declared.state.Step.TheVariants.{AskSize, CloseSync,
 use Rattle.host_world.specs.declared.state.Step.TheVariants.{FirstSync, GateSync, GateWrite, Idle}
 use Rattle.host_world.specs.declared.state.Step.TheVariants.{ReadAll, RepairSync, RepairWrite}
 use Rattle.host_world.specs.declared.state.Step.TheVariants.{RowSync, RowWrite}
+use Rattle.host_world.specs.declared.state.Step.TheVariants.{VersionSync, VersionWrite}
 use Rattle.host_world.specs.declared.turn.Phase.{Phase}
 use Rattle.host_world.specs.declared.turn.Phase.TheVariants.{Begun, Plain, Ready, Taken}
 use Rattle.host_world.specs.declared.turn.Session.{Session}
@@ -32,6 +34,21 @@ use Rattle.host_world.specs.declared.turn.Turn.{Turn}
 abbrev pub IsAppendOutcome : Outcome → Type 0
 IsAppendOutcome OutOfMemory = ⊥
 IsAppendOutcome outcome = Unit {0}
+
+-- what stands in an image: of version 2 while the host is up, and of either while it is down
+abbrev pub Stands : Bool → List Row → Option Row → List ℕ → Type 0
+Stands true rows u c = StandsInImage rows u c
+Stands false rows u c = StandsInEither rows u c
+
+pub stands_either_way : (up : Bool) (rows : List Row) (u : Option Row) (c : List ℕ)
+    → Stands up rows u c → StandsInEither rows u c
+stands_either_way true rows u c stands = stands_either rows u c stands
+stands_either_way false rows u c stands = stands
+
+-- the rows that an opening may find of a host
+abbrev pub MayBeFound : HostState → List Row → Type 0
+MayBeFound w rows =
+    (rows ≡ w.rows) ⊎ ((u : Row) × (w.uncertain ≡ Some u) × (rows ≡ w.rows ++ u ∷ []))
 
 module _ (stories : List Story) (budget : ℕ) where
   -- an append of this row is under way
@@ -64,7 +81,12 @@ module _ (stories : List Story) (budget : ℕ) where
   StepFact w (CloseWrite rows) =
       (w.up ≡ false) × (rows ≡ w.rows) × ((u : Row) × (w.uncertain ≡ Some u))
   StepFact w (CloseSync rows) =
-      (w.up ≡ false) × (rows ≡ w.rows) × IsShut (journal_bytes w.rows) w.disk.seen
+      (w.up ≡ false) × (rows ≡ w.rows) × StandsInEither w.rows None w.disk.seen
+  StepFact w (VersionWrite rows) =
+      (w.up ≡ false) × MayBeFound w rows × StandsInEither rows None w.disk.seen
+      × (version_byte w.disk.seen ≢ 1) × ((c : List ℕ) → IsDiskImage w.disk c → c ≡ w.disk.seen)
+  StepFact w (VersionSync rows) =
+      (w.up ≡ false) × MayBeFound w rows × IsShut (journal_bytes rows) w.disk.seen
 
   abbrev pub Accepts : List Entry → Turn → Type 0
   Accepts h t =
@@ -103,7 +125,7 @@ module _ (stories : List Story) (budget : ℕ) where
   pub record Sound (first : ℕ → List Entry) (past : ℕ → List Happening)
       (w : HostState) : Type 0 where
     pub stays : IsDiskImage w.disk w.disk.seen
-    pub images : (c : List ℕ) → IsDiskImage w.disk c → StandsInImage w.rows w.uncertain c
+    pub images : (c : List ℕ) → IsDiskImage w.disk c → Stands w.up w.rows w.uncertain c
     pub journal : IsJournal w.rows
     pub next : IfSome w.uncertain (IsNext w.rows)
     pub sessions : length w.sessions ≡ 64

@@ -1,11 +1,12 @@
 -- Hosts that there are, and what an opening makes of the least journal.
-use Rattle.std.proofs.Common.{List, None, Some, [], ap, arith, get_or, refl, subst, sym, true, ℕ}
+use Rattle.std.proofs.Common.{List, None, Some, [], ap, arith, get_or, refl, replicate, subst}
+use Rattle.std.proofs.Common.{sym, true, ℕ}
 use Rattle.std.proofs.Common.{◌++◌, ◌∷◌, ◌≡◌}
 use Rattle.disk_model.proofs.StateLaws.{only_settled, settled_image}
 use Rattle.disk_model.specs.Disk.{Holds}
 use Rattle.disk_model.specs.DiskState.{IsDiskImage, settled}
 use Rattle.gate_journal.specs.Gate.{IsShut}
-use Rattle.gate_journal.specs.Rows.{journal_header, journal_bytes}
+use Rattle.gate_journal.specs.Rows.{header_with, journal_header, journal_bytes}
 use Rattle.session_core.specs.Turning.{commands_in}
 use Rattle.host_world.specs.Reading.{rows_in}
 use Rattle.host_world.specs.Starts.{IsOpenedState, down_over}
@@ -53,6 +54,15 @@ new_host_is_opened = record {
 empty_rows : rows_in empty ≡ Some []
 unfolding rows_in
 empty_rows = refl
+
+-- and so has the least one of version 1, but not one whose header has another byte
+older_rows : rows_in (header_with 0 ++ 0 ∷ []) ≡ Some []
+unfolding rows_in
+older_rows = refl
+
+other_header : rows_in (83 ∷ 84 ∷ 72 ∷ 74 ∷ 0 ∷ 0 ∷ 0 ∷ 1 ∷ 1 ∷ 1 ∷ replicate 7 0) ≡ None
+unfolding rows_in
+other_header = refl
 
 no_rows : rows_in [] ≡ None
 unfolding rows_in

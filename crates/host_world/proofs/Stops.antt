@@ -7,9 +7,9 @@ use Rattle.std.specs.List.{slice_get}
 use Rattle.std.specs.Prelude.{IfSome, if◌then◌else◌}
 use Rattle.disk_model.proofs.StateLaws.{only_settled, settled_image}
 use Rattle.disk_model.specs.DiskState.{IsDiskImage}
-use Rattle.gate_journal.proofs.LogLemmas.{closed_unsure}
+use Rattle.gate_journal.proofs.LogLemmas.{closed_either}
 use Rattle.gate_journal.proofs.RowLemmas.{spells_shut}
-use Rattle.gate_journal.specs.Log.{StandsInImage}
+use Rattle.gate_journal.specs.Log.{StandsInEither}
 use Rattle.gate_journal.specs.Rows.{IsNext, SpellsRows, commands_of}
 use Rattle.gate_journal.specs.declared.command.Command.{Command}
 use Rattle.gate_journal.specs.declared.row.Row.{Row}
@@ -38,6 +38,7 @@ use Rattle.host_world.proofs.Lists.{false_true, map_at}
 use Rattle.host_world.proofs.Phases.{untold}
 use Rattle.host_world.proofs.RowsOf.{rows-here, rows-other}
 use Rattle.host_world.proofs.Sound.{Knows, PhaseFact, RowsFact, Sound, TurnFact}
+use Rattle.host_world.proofs.Sound.{stands_either_way}
 
 module _ (stories : List Story) (budget : ℕ) where
   uncut : (h : List Entry) (past : List Happening) (x : List Entry)
@@ -151,8 +152,9 @@ module _ (stories : List Story) (budget : ℕ) where
         (λ s. past s ++ cut_in (slice_get w.sessions s)) down_now
     stops is = record {
       stays = settled_image image;
-      images = λ c of. subst (λ (l : List ℕ). StandsInImage w.rows w.uncertain l)
-          (sym (only_settled image c of)) (sound.images image is);
+      images = λ c of. subst (λ (l : List ℕ). StandsInEither w.rows w.uncertain l)
+          (sym (only_settled image c of))
+          (stands_either_way w.up w.rows w.uncertain image (sound.images image is));
       journal = sound.journal;
       next = sound.next;
       sessions = length-map w.sessions without_turn ∙ sound.sessions;
@@ -219,20 +221,21 @@ module _ (stories : List Story) (budget : ℕ) where
       spelled_by None is of = (
         w.rows,
         spells_shut w.rows image sound.journal
-            (subst (λ (o : Option Row). StandsInImage w.rows o image) is
-            (sound.images image of)),
+            (subst (λ (o : Option Row). StandsInEither w.rows o image) is
+            (stands_either_way w.up w.rows w.uncertain image (sound.images image of))),
         inl refl,
         first_found.0,
         first_found.1,
       )
       spelled_by (Some u) is of =
           let stands =
-          subst (λ (o : Option Row). StandsInImage w.rows o image) is (sound.images image of) in
+          subst (λ (o : Option Row). StandsInEither w.rows o image) is
+          (stands_either_way w.up w.rows w.uncertain image (sound.images image of)) in
           let next : IsNext w.rows u =
           subst (λ (o : Option Row). IfSome o (IsNext w.rows)) is sound.next in
           let now : RowsFact stories budget s w.rows (Some u) x w.up =
           subst (λ (o : Option Row). RowsFact stories budget s w.rows o x w.up) is rows_now in
-          elim (closed_unsure w.rows u image sound.journal next stands) [
+          elim (closed_either w.rows (Some u) image sound.journal next stands) [
             | inl same ↦ (w.rows, same.spells, inl refl, first_found.0, first_found.1)
             | inr more ↦ (
               w.rows ++ u ∷ [],

@@ -4,7 +4,7 @@ use Rattle.std.proofs.Common.{◌∷◌, ◌++◌, length, Option, Some, None, r
 use Rattle.std.specs.Prelude.{IfSome, if◌then◌else◌, slice_index}
 use Rattle.std.specs.List.{slice_get}
 use Rattle.disk_model.specs.Plain.{is_image}
-use Rattle.gate_journal.specs.Rows.{IsNext, journal_bytes}
+use Rattle.gate_journal.specs.Rows.{IsNext, journal_bytes, version_byte}
 use Rattle.gate_journal.specs.declared.row.Row.{Row}
 use Rattle.line_words.specs.declared.reply.Reply.{Reply}
 use Rattle.story_run.specs.declared.story.Story.{Story}
@@ -15,7 +15,7 @@ use Rattle.host_world.specs.Events.{call_next, free, gives_reply, hold, holds_jo
 use Rattle.host_world.specs.Events.{run_turn, stop, stopped, take_turn, takes_at, want}
 use Rattle.host_world.specs.Happenings.{Happening}
 use Rattle.host_world.specs.Headline.{AreGiven}
-use Rattle.host_world.specs.Journal.{host_called, comes_up, failed, looked}
+use Rattle.host_world.specs.Journal.{host_called, comes_up, failed, gate_closed, looked}
 use Rattle.host_world.specs.Journal.{next_call, onward, with_disk, with_fault}
 use Rattle.host_world.specs.Reading.{rows_in}
 use Rattle.host_world.specs.Sessions.{ready_reply, phase_of}
@@ -29,6 +29,7 @@ use Rattle.host_world.specs.declared.state.Step.TheVariants.{AskSize, CloseSync,
 use Rattle.host_world.specs.declared.state.Step.TheVariants.{FirstSync, GateSync, GateWrite, Idle}
 use Rattle.host_world.specs.declared.state.Step.TheVariants.{ReadAll, RepairSync, RepairWrite}
 use Rattle.host_world.specs.declared.state.Step.TheVariants.{RowSync, RowWrite}
+use Rattle.host_world.specs.declared.state.Step.TheVariants.{VersionSync, VersionWrite}
 use Rattle.host_world.specs.declared.turn.Phase.{Phase}
 use Rattle.host_world.specs.declared.turn.Phase.TheVariants.{Asked, Begun, Broken, Freed, Kept}
 use Rattle.host_world.specs.declared.turn.Phase.TheVariants.{Plain, Ready, Taken}
@@ -147,14 +148,23 @@ module _ (stories : List Story) (budget : ℕ) where
   abbrev GrowsOrRises : HostState → HostState → Type 0
   GrowsOrRises v new = Grows v.rows new.rows ⊎ ((new.up ≡ true) × (v.up ≡ false))
 
+  closed_rows : (v : HostState) (rows : List Row) → v.up ≡ false
+      → GrowsOrRises v (gate_closed v rows)
+  closed_rows v rows down = of (version_byte v.disk.seen == 1)
+    where
+      of : (b : Bool) → GrowsOrRises v
+          (if b then comes_up v rows else record v { step = VersionWrite rows })
+      of true = inr (refl, down)
+      of false = inl (inl refl)
+
   looked_rows : (v : HostState) (o : Option (List Row)) → v.up ≡ false → GrowsOrRises v (looked v o)
   looked_rows v None down = inl (inl refl)
   looked_rows v (Some rows) down =
       of (slice_index v.disk.seen (length (journal_bytes rows)) == 0)
     where
       of : (b : Bool) → GrowsOrRises v
-          (if b then comes_up v rows else record v { step = CloseWrite rows })
-      of true = inr (refl, down)
+          (if b then gate_closed v rows else record v { step = CloseWrite rows })
+      of true = closed_rows v rows down
       of false = inl (inl refl)
 
   onward_rows : (v : HostState) (step : Step) → StepFact stories budget v step → (call : DiskCall)
@@ -172,7 +182,10 @@ module _ (stories : List Story) (budget : ℕ) where
       looked_rows (with_disk v call true reads) (rows_in (disk_after call true reads v.disk).seen)
       fact.0
   onward_rows v (CloseWrite rows) fact call reads = inl (inl refl)
-  onward_rows v (CloseSync rows) fact call reads = inr (refl, fact.0)
+  onward_rows v (CloseSync rows) fact call reads =
+      closed_rows (with_disk v call true reads) rows fact.0
+  onward_rows v (VersionWrite rows) fact call reads = inl (inl refl)
+  onward_rows v (VersionSync rows) fact call reads = inr (refl, fact.0)
 
   failed_rows : (v : HostState) (step : Step) → (failed v step).rows ≡ v.rows
   failed_rows v Idle = refl
@@ -187,6 +200,8 @@ module _ (stories : List Story) (budget : ℕ) where
   failed_rows v ReadAll = refl
   failed_rows v (CloseWrite rows) = refl
   failed_rows v (CloseSync rows) = refl
+  failed_rows v (VersionWrite rows) = refl
+  failed_rows v (VersionSync rows) = refl
 
   called_rows : (w v : HostState) → w.rows ≡ v.rows → (good : Bool) (reads : List ℕ) (step : Step)
       → StepFact stories budget v step → (call : Option DiskCall)

@@ -3,7 +3,7 @@ use Rattle.std.specs.Prelude.{ℕ, ◌+◌, ◌==◌, if◌then◌else◌, Bool,
 use Rattle.std.specs.Prelude.{◌++◌, length, slice_index, Option, Some, None}
 use Rattle.std.specs.List.{slice_get}
 use Rattle.gate_journal.specs.declared.row.Row.{Row}
-use Rattle.gate_journal.specs.Rows.{row_body, journal_bytes}
+use Rattle.gate_journal.specs.Rows.{row_body, journal_bytes, version_byte}
 use Rattle.store_events.specs.declared.disk.DiskCall.{DiskCall}
 use Rattle.store_events.specs.declared.disk.DiskCall.TheVariants.{Write, Sync, Look}
 use Rattle.host_world.specs.declared.turn.Phase.{Phase}
@@ -14,6 +14,7 @@ use Rattle.host_world.specs.declared.state.Step.TheVariants.{Idle, RepairWrite, 
 use Rattle.host_world.specs.declared.state.Step.TheVariants.{RowWrite, RowSync, GateWrite, GateSync}
 use Rattle.host_world.specs.declared.state.Step.TheVariants.{FirstSync, AskSize, ReadAll}
 use Rattle.host_world.specs.declared.state.Step.TheVariants.{CloseWrite, CloseSync}
+use Rattle.host_world.specs.declared.state.Step.TheVariants.{VersionWrite, VersionSync}
 use Rattle.host_world.specs.declared.state.HostState.{HostState}
 use Rattle.disk_model.specs.Plain.{is_image}
 use Rattle.store_events.specs.Disk.{disk_after, may_work, fault_counted}
@@ -38,6 +39,8 @@ next_call rows AskSize = Some Look
 next_call rows ReadAll = Some Look
 next_call rows (CloseWrite found) = Some (Write (length (journal_bytes found)) (0 ∷ []))
 next_call rows (CloseSync found) = Some Sync
+next_call rows (VersionWrite found) = Some (Write 8 (1 ∷ []))
+next_call rows (VersionSync found) = Some Sync
 
 -- the sessions, where the turn of one goes on to this phase
 abbrev pub sessions_with : HostState → ℕ → Phase → List Session
@@ -55,10 +58,16 @@ comes_up w rows =
       step = Idle;
     }
 
+-- the closing gate is 0: a journal of version 1 is made one of version 2
+abbrev pub gate_closed : HostState → List Row → HostState
+gate_closed w rows =
+    if version_byte w.disk.seen == 1 then comes_up w rows
+    else record w { step = VersionWrite rows }
+
 -- an opening has read all bytes: they spell these rows, if they spell some
 abbrev pub looked : HostState → Option (List Row) → HostState
 looked w (Some rows) =
-    if slice_index w.disk.seen (length (journal_bytes rows)) == 0 then comes_up w rows
+    if slice_index w.disk.seen (length (journal_bytes rows)) == 0 then gate_closed w rows
     else record w { step = CloseWrite rows }
 looked w None = record w { step = Idle }
 
@@ -96,7 +105,9 @@ onward w FirstSync = record w { step = AskSize }
 onward w AskSize = record w { step = ReadAll }
 onward w ReadAll = looked w (rows_in w.disk.seen)
 onward w (CloseWrite found) = record w { step = CloseSync found }
-onward w (CloseSync found) = comes_up w found
+onward w (CloseSync found) = gate_closed w found
+onward w (VersionWrite found) = record w { step = VersionSync found }
+onward w (VersionSync found) = comes_up w found
 
 -- the append of a row has failed, the count of faults having been this as it began
 abbrev pub broken : HostState → Row → ℕ → HostState

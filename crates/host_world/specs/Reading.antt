@@ -9,10 +9,11 @@ use Rattle.glk_input.specs.Keycode.{is_terminator}
 use Rattle.line_words.specs.Keycode.{is_code}
 use Rattle.gate_journal.specs.declared.command.Command.{Command}
 use Rattle.gate_journal.specs.declared.command.Command.TheVariants.{Open, Line, Char, File, Close}
+use Rattle.gate_journal.specs.declared.command.Command.TheVariants.{Size}
 use Rattle.gate_journal.specs.declared.row.Row.{Row}
-use Rattle.gate_journal.specs.Rows.{journal_header, row_body, commands_of, may_follow}
+use Rattle.gate_journal.specs.Rows.{header_with, row_body, version_byte, commands_of, may_follow}
 use Rattle.gate_journal.specs.Log.{next_row}
-use Rattle.gate_journal.specs.Payload.{open_in, line_in, char_in, file_in}
+use Rattle.gate_journal.specs.Payload.{open_in, line_in, char_in, file_in, screen_in}
 
 -- the tests of a text's and of a command's fields
 abbrev pub is_text : List ℕ → Bool
@@ -29,6 +30,7 @@ is_command (Line win term text) =
 is_command (Char win code) = nat_le win 4294967295 && is_code code
 is_command (File name) = is_text name
 is_command Close = true
+is_command (Size cols rows) = nat_le 1 cols && nat_le cols 255 && nat_le 1 rows && nat_le rows 255
 
 -- the command that a row of this kind with this payload is of, if it is of one
 abbrev pub command_in : ℕ → List ℕ → Command
@@ -39,6 +41,7 @@ command_in kind payload =
     else if kind == 2 then line_in payload
     else if kind == 3 then char_in payload
     else if kind == 4 then file_in payload
+    else if kind == 6 then screen_in payload
     else Close
 
 -- the row that these bytes behind a gate begin with, if they begin with one
@@ -55,23 +58,30 @@ may_stand rows session command =
     && may_follow (commands_of rows session) command
     && nat_lt (length (commands_of rows session)) 8192
 
+-- the test whether a version has rows of this command
+abbrev pub is_in_version : ℕ → Command → Bool
+is_in_version version (Size cols rows) = version == 1
+is_in_version version command = true
+
 -- the test whether bytes begin with these
 abbrev pub begins_with : List ℕ → List ℕ → Bool
 begins_with bytes front = bytes_eq (take (length front) bytes) front
 
--- the test whether bytes behind a gate begin with a row that may stand there
-abbrev pub has_row : List Row → List ℕ → Row → Bool
-has_row rows past r = may_stand rows r.session r.command && begins_with past (row_body r)
+-- the test whether bytes behind a gate begin with a row of this version that may stand there
+abbrev pub has_row : ℕ → List Row → List ℕ → Row → Bool
+has_row version rows past r =
+    is_in_version version r.command && may_stand rows r.session r.command
+    && begins_with past (row_body r)
 
--- the rows of bytes that go on so behind these rows, at most so many more; none where a gate is
--- missing or open before no row
-abbrev pub rows_from : ℕ → List Row → List ℕ → Option (List Row)
-rows_from more rows [] = None
-rows_from zero rows (gate ∷ past) = if gate == 1 then None else Some rows
-rows_from (suc more) rows (gate ∷ past) =
+-- the rows of bytes of this version that go on so behind these rows, at most so many more; none
+-- where a gate is missing or open before no row
+abbrev pub rows_from : ℕ → ℕ → List Row → List ℕ → Option (List Row)
+rows_from version more rows [] = None
+rows_from version zero rows (gate ∷ past) = if gate == 1 then None else Some rows
+rows_from version (suc more) rows (gate ∷ past) =
     if gate == 1 then
-    (if has_row rows past (row_at rows past)
-    then rows_from more (rows ++ row_at rows past ∷ [])
+    (if has_row version rows past (row_at rows past)
+    then rows_from version more (rows ++ row_at rows past ∷ [])
     (drop (length (row_body (row_at rows past))) past)
     else None)
     else Some rows
@@ -79,4 +89,6 @@ rows_from (suc more) rows (gate ∷ past) =
 -- the rows that bytes spell, if they spell some
 unfoldable pub rows_in : List ℕ → Option (List Row)
 rows_in bytes =
-    if begins_with bytes journal_header then rows_from (length bytes) [] (drop 16 bytes) else None
+    if begins_with bytes (header_with (version_byte bytes))
+    then rows_from (version_byte bytes) (length bytes) [] (drop 16 bytes)
+    else None

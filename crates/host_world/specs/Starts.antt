@@ -6,7 +6,7 @@ use Rattle.disk_model.specs.DiskState.{IsDiskImage, settled}
 use Rattle.gate_journal.specs.declared.row.Row.{Row}
 use Rattle.gate_journal.specs.Gate.{IsShut}
 use Rattle.gate_journal.specs.Rows.{journal_bytes, commands_of, IsJournal, IsNext}
-use Rattle.gate_journal.specs.Log.{StandsInImage}
+use Rattle.gate_journal.specs.Log.{StandsInEither}
 use Rattle.session_core.specs.Turning.{commands_in}
 use Rattle.host_world.specs.declared.turn.Session.{Session}
 use Rattle.host_world.specs.declared.state.Step.TheVariants.{Idle}
@@ -33,13 +33,13 @@ pub record IsOpenedState (w : HostState) : Type 0 where
   pub nobody : w.holder ≡ None
   pub shut : (c : List ℕ) → IsDiskImage w.disk c → IsShut (journal_bytes w.rows) c
 
--- a host that is down: each image has its rows, and a closed gate or one of which nothing is known
--- before a row that may stand there
+-- a host that is down: each image, of either version, has its rows, and a closed gate or one of
+-- which nothing is known before a row that may stand there
 pub record IsDown (w : HostState) : Type 0 where
   pub down : w.up ≡ false
   pub quiet : IsQuietHost w
   pub next : IfSome w.uncertain (IsNext w.rows)
-  pub stands : (c : List ℕ) → IsDiskImage w.disk c → StandsInImage w.rows w.uncertain c
+  pub stands : (c : List ℕ) → IsDiskImage w.disk c → StandsInEither w.rows w.uncertain c
 
 abbrev pub IsStart : HostState → Type 0
 IsStart w = IsOpenedState w ⊎ IsDown w

@@ -4,8 +4,8 @@ use Rattle.std.specs.List.{slice_get}
 use Rattle.disk_model.specs.DiskState.{IsDiskImage}
 use Rattle.gate_journal.specs.declared.command.Command.{Command}
 use Rattle.gate_journal.specs.declared.row.Row.{Row}
-use Rattle.gate_journal.specs.Gate.{IsShut}
-use Rattle.gate_journal.specs.Rows.{IsJournal, commands_of, journal_bytes}
+use Rattle.gate_journal.specs.Log.{StandsInEither}
+use Rattle.gate_journal.specs.Rows.{IsJournal, commands_of}
 use Rattle.story_run.specs.declared.story.Story.{Story}
 use Rattle.session_core.specs.History.{game_of}
 use Rattle.session_core.specs.Turning.{commands_in}
@@ -90,7 +90,7 @@ module _ (stories : List Story) (budget : ℕ) where
 -- may begin at this host.
 abbrev pub MayBegin : List ℕ → List (List ℕ) → WholeState → Type 0
 MayBegin journal files w =
-    (rows : List Row) → IsJournal rows → IsShut (journal_bytes rows) journal
+    (rows : List Row) → IsJournal rows → StandsInEither rows None journal
     → IsStart w.host
     × ((stories : List Story) (budget : ℕ)
     → ((s : ℕ) (bytes : List ℕ) → slice_get files s ≡ Some bytes

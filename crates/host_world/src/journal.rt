@@ -22,6 +22,9 @@ use store_events::{DiskCall, make_call};
 use story_run::Story;
 use story_text::Bytes;
 
+/// Where the byte stands that tells a journal's version.
+const VERSION_PLACE: u128 = 8;
+
 fn one_byte(alloc: Global, byte: u8) -> Result<Bytes, AllocError>
     ensures { IfOk result (λ bytes. bytes ≡ byte ∷ []) }
 {
@@ -49,6 +52,10 @@ fn next_call(alloc: Global, rows: &JournalRows, step: &Step) -> Result<Option<Di
         Step::CloseWrite { rows } => DiskCall::Write {
             at: u128::from(rows.end()),
             piece: one_byte(alloc, 0)?,
+        },
+        Step::VersionWrite { .. } => DiskCall::Write {
+            at: VERSION_PLACE,
+            piece: one_byte(alloc, 1)?,
         },
         Step::AskSize | Step::ReadAll => DiskCall::Look,
         _ => DiskCall::Sync,
@@ -214,7 +221,9 @@ impl HostState {
             Step::AskSize => set_step(&mut self.step, Step::ReadAll),
             Step::ReadAll => return self.look(alloc),
             Step::CloseWrite { rows } => set_step(&mut self.step, Step::CloseSync { rows }),
-            Step::CloseSync { rows } => return self.come_up(alloc, rows),
+            Step::CloseSync { rows } => return self.go_on_closed(alloc, rows),
+            Step::VersionWrite { rows } => set_step(&mut self.step, Step::VersionSync { rows }),
+            Step::VersionSync { rows } => return self.come_up(alloc, rows),
             _other => {}
         }
         Ok(())

@@ -1,10 +1,10 @@
 //! What an opening finds (own).
 
-ghost use Rattle.std.specs.Prelude.{◌≡◌, ◌<◌, List, length, None, IfOk, IfSome, OnOk};
-ghost use Rattle.gate_journal.specs.Gate.{IsShut};
-ghost use Rattle.gate_journal.specs.Rows.{journal_bytes, IsJournal};
+ghost use Rattle.std.specs.Prelude.{◌≡◌, ◌==◌, ◌<◌, List, length, None, IfOk, IfSome, OnOk};
+ghost use Rattle.gate_journal.specs.Rows.{journal_bytes, version_byte, IsJournal};
+ghost use Rattle.gate_journal.specs.Log.{StandsInEither};
 ghost use Rattle.gate_journal.specs.declared.row.Row.{Row};
-ghost use Rattle.host_world.specs.Journal.{comes_up, looked};
+ghost use Rattle.host_world.specs.Journal.{comes_up, gate_closed, looked};
 ghost use Rattle.host_world.specs.Reading.{rows_in};
 ghost use Rattle.host_world.specs.Sessions.{found_sessions};
 ghost use Rattle.host_world.specs.Starts.{down_over, rows_or_none, IsStart};
@@ -53,6 +53,16 @@ fn rows_in(alloc: Global, bytes: &[u8]) -> Result<Option<Rows>, AllocError>
     }
 }
 
+// Whether a journal of these bytes is of version 2.
+fn is_second(bytes: &[u8]) -> bool
+    ensures { result ≡ (version_byte bytes.now == 1) }
+{
+    match bytes.get(8) {
+        Some(version) => *version == 1,
+        None => false,
+    }
+}
+
 // These rows, or none.
 fn rows_or_none(alloc: Global, rows: Option<Rows>) -> Rows
     ensures { result ≡ rows_or_none rows }
@@ -69,9 +79,10 @@ impl HostState {
     pub fn down(alloc: Global, journal: &Bytes) -> Result<HostState, AllocError>
         ensures value { IfOk result
             (λ w. w ≡ down_over journal.now (rows_or_none (rows_in journal.now)) None) }
-        // Over a journal whose closing gate is closed a list of events may begin at it.
+        // Over a journal of either version whose closing gate is closed a list of events may begin
+        // at it.
         ensures start { IfOk result (λ w. (rows : List Row) → IsJournal rows
-            → IsShut (journal_bytes rows) journal.now → IsStart w) }
+            → StandsInEither rows None journal.now → IsStart w) }
     {
         let rows = rows_or_none(alloc, rows_in(alloc, journal.as_slice())?);
         Ok(HostState {
@@ -100,6 +111,18 @@ impl HostState {
         Ok(())
     }
 
+    /// Its closing gate is 0.
+    #[tactic(auto, using(crate::proofs::ReadCode::closed_second, crate::proofs::ReadCode::closed_first))]
+    pub(crate) fn go_on_closed(&mut self, alloc: Global, rows: Rows) -> Result<(), AllocError>
+        ensures { OnOk result (self.new ≡ gate_closed self.old rows) }
+    {
+        if is_second(self.disk.seen()) {
+            return self.come_up(alloc, rows);
+        }
+        set_step(&mut self.step, Step::VersionWrite { rows });
+        Ok(())
+    }
+
     /// An opening has read all bytes.
     #[tactic(auto, using(crate::proofs::ReadCode::looks_none, crate::proofs::ReadCode::looks_shut, crate::proofs::ReadCode::looks_open))]
     pub(crate) fn look(&mut self, alloc: Global) -> Result<(), AllocError>
@@ -110,7 +133,7 @@ impl HostState {
             return Ok(());
         };
         if self.disk.seen()[rows.end() as usize] == 0 {
-            return self.come_up(alloc, rows);
+            return self.go_on_closed(alloc, rows);
         }
         set_step(&mut self.step, Step::CloseWrite { rows });
         Ok(())

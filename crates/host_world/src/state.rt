@@ -31,6 +31,9 @@ pub enum Step {
     /// It closes a gate that isn't 0.
     CloseWrite { rows: Rows },
     CloseSync { rows: Rows },
+    /// It makes a journal of version 1 one of version 2.
+    VersionWrite { rows: Rows },
+    VersionSync { rows: Rows },
 }
 
 /// The step is this from now on.

@@ -10,6 +10,7 @@ pub fn write_all<K: Sink>(output: &mut K, text: &[u8]) -> Result<(), Stop>
     ensures ok { OnOk result (Wrote (K.sink output.old) (K.sink output.new) text.now) }
     ensures err { IfErr result (λ cause.
         Stopped (K.sink output.old) (K.sink output.new) text.now cause) }
+    ensures cause { IfErr result (λ cause. cause ≡ Stop.Output) }
     ensures beside { K.beside output.new ≡ K.beside output.old }
 {
     let mut rest = text;

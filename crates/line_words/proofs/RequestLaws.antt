@@ -7,21 +7,25 @@ use Rattle.story_text.specs.Escape as texts
 use Rattle.story_text.proofs.TextLaws.{text_again, spells_only}
 use Rattle.line_words.specs.declared.request.Request.{Request}
 use Rattle.line_words.specs.declared.request.Request.TheVariants.{Open, Line, Char}
-use Rattle.line_words.specs.declared.request.Request.TheVariants.{File, Last, Close, Watch}
+use Rattle.line_words.specs.declared.request.Request.TheVariants.{File, Size, Last, Close}
+use Rattle.line_words.specs.declared.request.Request.TheVariants.{Watch}
 use Rattle.glk_input.specs.declared.input.Input.{Input}
 use Rattle.glk_input.specs.declared.input.Input.TheVariants as plays
 use Rattle.line_words.specs.Keycode.{is_code}
 use Rattle.line_words.specs.Reading.{Reader, whole, made_if_read}
 use Rattle.line_words.specs.Field.{behind_name, fields_or, fields_named}
-use Rattle.line_words.specs.Play.{line_at, window_and_code_at, line_play}
-use Rattle.line_words.specs.Play.{char_play, file_play, spelled_play, play_of}
+use Rattle.line_words.specs.Play.{line_at, window_and_code_at, screen_at, line_play}
+use Rattle.line_words.specs.Play.{char_play, file_play, spelled_play}
+use Rattle.line_words.specs.Play.{play_of}
 use Rattle.line_words.specs.Play as play
 use Rattle.line_words.specs.Request.{session_at, numbered_at, setup_fields_at, open_of}
-use Rattle.line_words.specs.Request.{line_request, char_request, file_request, last_request}
+use Rattle.line_words.specs.Request.{line_request, char_request, file_request, size_request}
+use Rattle.line_words.specs.Request.{last_request, made_size}
 use Rattle.line_words.specs.Request.{watched_at, watch_of, made_watch}
 use Rattle.line_words.specs.Request.{close_of, made_open, made_line, made_char, made_file}
 use Rattle.line_words.specs.Request.{made_last, made_close, spelled_request, request_of}
 use Rattle.line_words.specs.Spelling.{number_field, session, numbered_fields, watched_fields}
+use Rattle.line_words.specs.Spelling.{screen_fields, IsScreen}
 use Rattle.line_words.specs.Spelling.{typed_fields, IsSession, IsNumbered, IsTerminator, IsRequest}
 use Rattle.line_words.specs.Spelling.{SpellsRequest, print_request, SpellsPlay, IsLineOf}
 use Rattle.line_words.proofs.CrLaws.{line_again, line_only}
@@ -46,10 +50,13 @@ Numbered = Both (NumberIs 0 4294967295) (Both KeyIs (NumberIs 1 4294967295))
 abbrev Watched : List ℕ → ℕ × (List ℕ × ℕ) → Type 0
 Watched = Both (NumberIs 0 4294967295) (Both WatchWordIs (NumberIs 0 4294967295))
 
+abbrev Screen : List ℕ → ℕ × ℕ → Type 0
+Screen = Both (NumberIs 1 255) (NumberIs 1 255)
+
 abbrev Setup : List ℕ → ℕ × (ℕ × (ℕ × ℕ)) → Type 0
 Setup =
     Both (NumberIs 0 65535)
-    (Both (NumberIs 0 18446744073709551615) (Both (NumberIs 1 255) (NumberIs 1 255)))
+    (Both (NumberIs 0 18446744073709551615) Screen)
 
 abbrev Typed : List ℕ → ℕ × (List ℕ × ℕ) → Type 0
 Typed = Both (NumberIs 0 4294967295) (Both TextIs TerminatorIs)
@@ -70,12 +77,15 @@ watched_reads : IsReader (ℕ × (List ℕ × ℕ)) IsEnd Watched watched_at
 unfolding watched_at
 watched_reads = then_reads u32_reads (then_reads watch_word_reads u32_reads)
 
+screen_reads : IsReader (ℕ × ℕ) IsEnd Screen screen_at
+unfolding screen_at
+screen_reads = let byte = number_reads 1 255 (omega arith) in then_reads byte byte
+
 setup_reads : IsReader (ℕ × (ℕ × (ℕ × ℕ))) IsEnd Setup setup_fields_at
 unfolding setup_fields_at
 setup_reads =
-    let byte = number_reads 1 255 (omega arith) in
     then_reads (number_reads 0 65535 (omega arith))
-    (then_reads (number_reads 0 18446744073709551615 (omega arith)) (then_reads byte byte))
+    (then_reads (number_reads 0 18446744073709551615 (omega arith)) screen_reads)
 
 typed_reads : IsReader (ℕ × (List ℕ × ℕ)) IsNil Typed line_at
 unfolding line_at
@@ -92,7 +102,7 @@ open_behind : (rest : List ℕ) (x : (ℕ × List ℕ) × (ℕ × (ℕ × (ℕ �
     → SpellsRequest (codes "OPEN" ++ rest) (made_open x)
 open_behind rest ((s, key), (story, (seed, (cols, rows))))
     (one, two, e, (a, b, e1, hs, hk), (c, d, e2, ht, (f, g, e3, hd, (i, j, e4, hc, hr)))) = (
-      ((hs.2, hk.1), ht.2, hd.2, hc.1, hc.2, hr.1, hr.2, refl),
+      ((hs.2, hk.1), ht.2, hd.2, (hc.1, hc.2, hr.1, hr.2), refl),
       [],
       refl,
       rw (e, e1, hs.0, hk.0, e2, ht.0, e3, hd.0, e4, hc.0, hr.0) refl,
@@ -129,6 +139,17 @@ file_behind rest ((s, (key, n)), name) (one, two, e, (a, b, e1, hs, (c, d, e2, h
   ht.2,
   rw (e, e1, hs.0, e2, hk.0, hn.0, ht.1) refl,
 )
+
+size_behind : (rest : List ℕ) (x : (ℕ × (List ℕ × ℕ)) × (ℕ × ℕ))
+    → Both Numbered Screen rest x
+    → SpellsRequest (codes "SIZE" ++ rest) (made_size x)
+size_behind rest ((s, (key, n)), (cols, rows))
+    (one, two, e, (a, b, e1, hs, (c, d, e2, hk, hn)), (f, g, e3, hc, hr)) = (
+      ((hs.2, hk.1, hn.1, hn.2), (hc.1, hc.2, hr.1, hr.2)),
+      [],
+      refl,
+      rw (e, e1, hs.0, e2, hk.0, hn.0, e3, hc.0, hr.0) refl,
+    )
 
 last_behind : (rest : List ℕ) (x : ℕ × List ℕ)
     → Session rest x → SpellsRequest (codes "LAST" ++ rest) (made_last x)
@@ -177,8 +198,8 @@ kind_only {read = read} Spells name line make other y reads spells next =
 spelled_only : (line : List ℕ) (request : Request)
     → spelled_request line ≡ Some request
     → SpellsRequest line request
-unfolding spelled_request open_of line_request char_request file_request last_request close_of
-    watch_of
+unfolding spelled_request open_of line_request char_request file_request size_request last_request
+    close_of watch_of
 spelled_only line request =
     kind_only SpellsRequest (codes "OPEN") line made_open _ request
     (then_reads session_reads setup_reads) open_behind
@@ -188,10 +209,12 @@ spelled_only line request =
     (then_reads numbered_reads pressed_reads) char_behind
     (kind_only SpellsRequest (codes "FILE") line made_file _ request
     (then_reads numbered_reads text_reads) file_behind
+    (kind_only SpellsRequest (codes "SIZE") line made_size _ request
+    (then_reads numbered_reads screen_reads) size_behind
     (kind_only SpellsRequest (codes "LAST") line made_last _ request session_reads last_behind
     (kind_only SpellsRequest (codes "CLOSE") line made_close _ request numbered_reads close_behind
     (kind_only SpellsRequest (codes "WATCH") line made_watch _ request watched_reads watch_behind
-    (λ e. absurd cc)))))))
+    (λ e. absurd cc))))))))
 
 -- ---- from the spelling to what is read
 
@@ -234,33 +257,37 @@ pressed_spelling : (win code : ℕ)
 pressed_spelling win code w h =
     (_, _, refl, (refl, omega arith, w), ((refl, omega arith, grind (arith, nat_tests, h)), h))
 
+screen_spelling : (cols rows : ℕ)
+    → IsScreen cols rows
+    → Screen (screen_fields cols rows) (cols, rows)
+screen_spelling cols rows h = (_, _, refl, (refl, h.0, h.1), (refl, h.2, h.3))
+
 setup_spelling : (story seed cols rows : ℕ)
-    → story ≤ 65535 → seed ≤ 18446744073709551615 → 1 ≤ cols
-    → cols ≤ 255 → 1 ≤ rows → rows ≤ 255
-    → Setup (number_field story ++ (number_field seed ++ (number_field cols ++ number_field rows)))
+    → story ≤ 65535 → seed ≤ 18446744073709551615 → IsScreen cols rows
+    → Setup (number_field story ++ (number_field seed ++ screen_fields cols rows))
     (story, (seed, (cols, rows)))
-setup_spelling story seed cols rows st se c0 c1 r0 r1 = (
+setup_spelling story seed cols rows st se h = (
   _,
   _,
   refl,
   (refl, omega arith, st),
-  (_, _, refl, (refl, omega arith, se), (_, _, refl, (refl, c0, c1), (refl, r0, r1))),
+  (_, _, refl, (refl, omega arith, se), screen_spelling cols rows h),
 )
 
 -- a spelling is read as its request, and has no CR
 spelled_again : (bytes : List ℕ) (request : Request)
     → SpellsRequest bytes request
     → (spelled_request bytes ≡ Some request) × NoCr bytes
-unfolding spelled_request open_of line_request char_request file_request last_request close_of
-    watch_of
+unfolding spelled_request open_of line_request char_request file_request size_request last_request
+    close_of watch_of
 spelled_again bytes (Open s key story seed cols rows budget) (h, word, text, e) =
-    rw (e, h.7) (kind_again (codes "OPEN") _ made_open ((s, key), (story, (seed, (cols, rows))))
+    rw (e, h.4) (kind_again (codes "OPEN") _ made_open ((s, key), (story, (seed, (cols, rows))))
     (then_reads session_reads setup_reads) tt refl (
       _,
       _,
       refl,
       session_spelling s key h.0,
-      setup_spelling story seed cols rows h.1 h.2 h.3 h.4 h.5 h.6,
+      setup_spelling story seed cols rows h.1 h.2 h.3,
     ))
 spelled_again bytes (Line s key n win text term) (h, word, t, e) =
     rw e (kind_again (codes "LINE") _ made_line ((s, (key, n)), (win, (text, term)))
@@ -274,6 +301,10 @@ spelled_again bytes (File s key n name) (h, word, t, e) =
     rw e (kind_again (codes "FILE") _ made_file ((s, (key, n)), name)
     (then_reads numbered_reads text_reads) tt refl
     (_, _, refl, numbered_spelling s key n h.0, (word, refl, t)))
+spelled_again bytes (Size s key n cols rows) (h, word, t, e) =
+    rw e (kind_again (codes "SIZE") _ made_size ((s, (key, n)), (cols, rows))
+    (then_reads numbered_reads screen_reads) tt refl
+    (_, _, refl, numbered_spelling s key n h.0, screen_spelling cols rows h.1))
 spelled_again bytes (Last s key) (h, word, t, e) =
     rw e (kind_again (codes "LAST") _ made_last (s, key) session_reads tt refl
     (session_spelling s key h))
@@ -291,6 +322,7 @@ prints (Line s key n win text term) h =
 prints (Char s key n win code) h = (h, [], refl, refl)
 prints (File s key n name) h =
     (h, escaped name, spells_only (escaped name) name (text_again name h.1), refl)
+prints (Size s key n cols rows) h = (h, [], refl, refl)
 prints (Last s key) h = (h, [], refl, refl)
 prints (Close s key n) h = (h, [], refl, refl)
 prints (Watch s digits from) h = (h, [], refl, refl)
@@ -308,13 +340,21 @@ pressed_behind : (rest : List ℕ) (x : ℕ × ℕ)
     → SpellsPlay (codes "CHAR" ++ rest) (play.made_char_play x)
 pressed_behind rest (win, code) (f, g, e3, hw, hc) = (hw.2, hc.1, rw (e3, hw.0, hc.0.0) refl)
 
+sized_behind : (rest : List ℕ) (x : ℕ × ℕ)
+    → Screen rest x
+    → SpellsPlay (codes "SIZE" ++ rest) (play.made_size_play x)
+sized_behind rest (cols, rows) (f, g, e3, hc, hr) =
+    ((hc.1, hc.2, hr.1, hr.2), rw (e3, hc.0, hr.0) refl)
+
 play_only : (line : List ℕ) (x : Input) → spelled_play line ≡ Some x → SpellsPlay line x
 unfolding spelled_play
 play_only line x =
     kind_only SpellsPlay (codes "LINE") line play.made_line_play _ x typed_reads typed_behind
     (kind_only SpellsPlay (codes "CHAR") line play.made_char_play _ x pressed_reads pressed_behind
     (kind_only SpellsPlay (codes "FILE") line (λ name. plays.File name) _ x text_reads
-    (λ rest name h. (h.0, h.2, rw h.1 refl)) (λ e. absurd cc)))
+    (λ rest name h. (h.0, h.2, rw h.1 refl))
+    (kind_only SpellsPlay (codes "SIZE") line play.made_size_play _ x screen_reads sized_behind
+    (λ e. absurd cc))))
 
 play_again : (bytes : List ℕ) (x : Input)
     → SpellsPlay bytes x
@@ -329,6 +369,9 @@ play_again bytes (plays.Char win code) (w, h, e) =
 play_again bytes (plays.File name) (word, t, e) =
     rw e (kind_again (codes "FILE") _ (λ name. plays.File name) name text_reads tt refl
     (word, refl, t))
+play_again bytes (plays.Size cols rows) (h, e) =
+    rw e (kind_again (codes "SIZE") _ play.made_size_play (cols, rows) screen_reads tt refl
+    (screen_spelling cols rows h))
 
 -- ---- lines
 

@@ -5,7 +5,7 @@ use Rattle.std.specs.Prelude.{None, codes}
 use Rattle.line_words.specs.declared.fault.LineFault.{LineFault}
 use Rattle.line_words.specs.declared.fault.LineFault.TheVariants.{BadLine, LongLine, NoMemory}
 use Rattle.glk_input.specs.declared.input.Input.{Input}
-use Rattle.glk_input.specs.declared.input.Input.TheVariants.{Line, Char, File}
+use Rattle.glk_input.specs.declared.input.Input.TheVariants.{Line, Char, File, Size}
 use Rattle.line_words.specs.Reading.{Reader, ◌then◌, whole, made_if_read}
 use Rattle.line_words.specs.Field.{number_between, text_at, code_at, terminator_at, fields_named}
 
@@ -17,11 +17,18 @@ line_at = number_between 0 4294967295 then (text_at then terminator_at)
 unfoldable pub window_and_code_at : Reader (ℕ × ℕ)
 window_and_code_at = number_between 0 4294967295 then code_at
 
+-- the fields of SIZE: the columns and rows of a screen
+unfoldable pub screen_at : Reader (ℕ × ℕ)
+screen_at = number_between 1 255 then number_between 1 255
+
 abbrev pub made_line_play : ℕ × (List ℕ × ℕ) → Input
 made_line_play (win, (text, key)) = Line win text key
 
 abbrev pub made_char_play : ℕ × ℕ → Input
 made_char_play (win, code) = Char win code
+
+abbrev pub made_size_play : ℕ × ℕ → Input
+made_size_play (cols, rows) = Size cols rows
 
 abbrev pub line_play : List ℕ → Option Input
 line_play bytes = made_if_read made_line_play (whole line_at bytes)
@@ -32,12 +39,16 @@ char_play bytes = made_if_read made_char_play (whole window_and_code_at bytes)
 abbrev pub file_play : List ℕ → Option Input
 file_play bytes = made_if_read (λ name. File name) (whole text_at bytes)
 
+abbrev pub size_play : List ℕ → Option Input
+size_play bytes = made_if_read made_size_play (whole screen_at bytes)
+
 -- the input that a line without its CR spells
 unfoldable pub spelled_play : List ℕ → Option Input
 spelled_play line =
     fields_named (codes "LINE") line line_play
     (fields_named (codes "CHAR") line char_play
-    (fields_named (codes "FILE") line file_play None))
+    (fields_named (codes "FILE") line file_play
+    (fields_named (codes "SIZE") line size_play None)))
 
 -- the line ends in a CR
 abbrev pub ends_in_cr : List ℕ → Bool

@@ -1,12 +1,13 @@
 -- Request lines, by reading them from the left (own).
 use Rattle.std.specs.Prelude.{ℕ, List, Option, None, codes}
 use Rattle.line_words.specs.declared.request.Request.{Request}
-use Rattle.line_words.specs.declared.request.Request.TheVariants.{Open, Line, Char, File, Last}
-use Rattle.line_words.specs.declared.request.Request.TheVariants.{Close, Watch}
+use Rattle.line_words.specs.declared.request.Request.TheVariants.{Open, Line, Char, File, Size}
+use Rattle.line_words.specs.declared.request.Request.TheVariants.{Last, Close, Watch}
 use Rattle.line_words.specs.Reading.{Reader, ◌then◌, whole, made_if_read}
 use Rattle.line_words.specs.Field.{number_between, key_at, text_at}
 use Rattle.line_words.specs.Field.{watch_word_at, fields_named}
-use Rattle.line_words.specs.Play.{line_at, window_and_code_at, without_cr, unless_long}
+use Rattle.line_words.specs.Play.{line_at, window_and_code_at, screen_at, without_cr}
+use Rattle.line_words.specs.Play.{unless_long}
 
 -- a session and its key
 unfoldable pub session_at : Reader (ℕ × List ℕ)
@@ -19,9 +20,7 @@ numbered_at = number_between 0 4294967295 then (key_at then number_between 1 429
 -- the fields of OPEN behind the key: the story's number, the seed, the columns and the rows
 unfoldable pub setup_fields_at : Reader (ℕ × (ℕ × (ℕ × ℕ)))
 setup_fields_at =
-    number_between 0 65535
-    then (number_between 0 18446744073709551615
-    then (number_between 1 255 then number_between 1 255))
+    number_between 0 65535 then (number_between 0 18446744073709551615 then screen_at)
 
 -- a session, its word for spectators and the number of a show
 unfoldable pub watched_at : Reader (ℕ × (List ℕ × ℕ))
@@ -40,6 +39,9 @@ made_char ((s, (key, n)), (win, code)) = Char s key n win code
 
 abbrev pub made_file : (ℕ × (List ℕ × ℕ)) × List ℕ → Request
 made_file ((s, (key, n)), name) = File s key n name
+
+abbrev pub made_size : (ℕ × (List ℕ × ℕ)) × (ℕ × ℕ) → Request
+made_size ((s, (key, n)), (cols, rows)) = Size s key n cols rows
 
 abbrev pub made_last : ℕ × List ℕ → Request
 made_last (s, key) = Last s key
@@ -62,6 +64,9 @@ char_request bytes = made_if_read made_char (whole (numbered_at then window_and_
 unfoldable pub file_request : List ℕ → Option Request
 file_request bytes = made_if_read made_file (whole (numbered_at then text_at) bytes)
 
+unfoldable pub size_request : List ℕ → Option Request
+size_request bytes = made_if_read made_size (whole (numbered_at then screen_at) bytes)
+
 unfoldable pub last_request : List ℕ → Option Request
 last_request bytes = made_if_read made_last (whole session_at bytes)
 
@@ -78,9 +83,10 @@ spelled_request line =
     (fields_named (codes "LINE") line line_request
     (fields_named (codes "CHAR") line char_request
     (fields_named (codes "FILE") line file_request
+    (fields_named (codes "SIZE") line size_request
     (fields_named (codes "LAST") line last_request
     (fields_named (codes "CLOSE") line close_of
-    (fields_named (codes "WATCH") line watch_of None))))))
+    (fields_named (codes "WATCH") line watch_of None)))))))
 
 -- the request that a line spells, if it spells one
 abbrev pub request_of : List ℕ → Option Request

@@ -6,8 +6,8 @@ use Rattle.story_text.specs.Text.{IsText}
 use Rattle.story_text.specs.Escape.{escaped}
 use Rattle.story_text.specs.Escape as texts
 use Rattle.line_words.specs.declared.request.Request.{Request}
-use Rattle.line_words.specs.declared.request.Request.TheVariants.{Open, Line, Char, File, Last}
-use Rattle.line_words.specs.declared.request.Request.TheVariants.{Close, Watch}
+use Rattle.line_words.specs.declared.request.Request.TheVariants.{Open, Line, Char, File, Size}
+use Rattle.line_words.specs.declared.request.Request.TheVariants.{Last, Close, Watch}
 use Rattle.glk_input.specs.declared.input.Input.{Input}
 use Rattle.glk_input.specs.declared.input.Input.TheVariants as plays
 use Rattle.glk_input.specs.Keycode.{is_terminator}
@@ -42,16 +42,22 @@ watched_fields s digits from = number_field s ++ (field digits ++ number_field f
 abbrev pub typed_fields : ℕ → List ℕ → ℕ → List ℕ
 typed_fields win word term = number_field win ++ (field word ++ terminator term)
 
+-- the columns and rows of a screen
+abbrev pub screen_fields : ℕ → ℕ → List ℕ
+screen_fields cols rows = number_field cols ++ number_field rows
+
 -- a request as it stands in a line, with this word for its text
 abbrev pub line_with : Request → List ℕ → List ℕ
 line_with (Open s key story seed cols rows budget) word =
     codes "OPEN" ++ (session s key
-    ++ (number_field story ++ (number_field seed ++ (number_field cols ++ number_field rows))))
+    ++ (number_field story ++ (number_field seed ++ screen_fields cols rows)))
 line_with (Line s key n win text term) word =
     codes "LINE" ++ (numbered_fields s key n ++ typed_fields win word term)
 line_with (Char s key n win code) word =
     codes "CHAR" ++ (numbered_fields s key n ++ (number_field win ++ number_field code))
 line_with (File s key n name) word = codes "FILE" ++ (numbered_fields s key n ++ field word)
+line_with (Size s key n cols rows) word =
+    codes "SIZE" ++ (numbered_fields s key n ++ screen_fields cols rows)
 line_with (Last s key) word = codes "LAST" ++ session s key
 line_with (Close s key n) word = codes "CLOSE" ++ numbered_fields s key n
 line_with (Watch s digits from) word = codes "WATCH" ++ watched_fields s digits from
@@ -70,6 +76,10 @@ IsSession s key = (s ≤ 4294967295) × (is_key key ≡ true)
 abbrev pub IsNumbered : ℕ → List ℕ → ℕ → Type 0
 IsNumbered s key n = (s ≤ 4294967295) × (is_key key ≡ true) × (1 ≤ n) × (n ≤ 4294967295)
 
+-- the ranges of a screen's columns and rows
+abbrev pub IsScreen : ℕ → ℕ → Type 0
+IsScreen cols rows = (1 ≤ cols) × (cols ≤ 255) × (1 ≤ rows) × (rows ≤ 255)
+
 -- 0 or a terminator key
 abbrev pub IsTerminator : ℕ → Type 0
 IsTerminator term = (term == 0 || is_terminator term) ≡ true
@@ -78,12 +88,13 @@ IsTerminator term = (term == 0 || is_terminator term) ≡ true
 abbrev pub IsRequest : Request → Type 0
 IsRequest (Open s key story seed cols rows budget) =
     IsSession s key × (story ≤ 65535) × (seed ≤ 18446744073709551615)
-    × (1 ≤ cols) × (cols ≤ 255) × (1 ≤ rows) × (rows ≤ 255) × (budget ≡ 50000000)
+    × IsScreen cols rows × (budget ≡ 50000000)
 IsRequest (Line s key n win text term) =
     IsNumbered s key n × (win ≤ 4294967295) × IsText text × IsTerminator term
 IsRequest (Char s key n win code) =
     IsNumbered s key n × (win ≤ 4294967295) × (is_code code ≡ true)
 IsRequest (File s key n name) = IsNumbered s key n × IsText name
+IsRequest (Size s key n cols rows) = IsNumbered s key n × IsScreen cols rows
 IsRequest (Last s key) = IsSession s key
 IsRequest (Close s key n) = IsNumbered s key n
 IsRequest (Watch s digits from) =
@@ -115,6 +126,9 @@ SpellsPlay bytes (plays.Char win code) =
     × (bytes ≡ codes "CHAR" ++ (number_field win ++ number_field code))
 SpellsPlay bytes (plays.File name) =
     (word : List ℕ) × texts.WordSpells word name × (bytes ≡ codes "FILE" ++ field word)
+
+SpellsPlay bytes (plays.Size cols rows) =
+    IsScreen cols rows × (bytes ≡ codes "SIZE" ++ screen_fields cols rows)
 
 -- a line is a spelling, with a CR behind it or without, of at most 2,047 bytes in all
 abbrev pub IsLineOf : {A : Type 0} → (List ℕ → A → Type 0) → List ℕ → A → Type 0

@@ -2,12 +2,12 @@
 
 ghost use Rattle.std.specs.Prelude.{◌≡◌, IfOk, IfErr, Some};
 ghost use Rattle.line_words.specs.Reading.{GivesLineReading, whole, at_end};
-ghost use Rattle.line_words.specs.Play.{line_at, window_and_code_at, line_play, char_play};
-ghost use Rattle.line_words.specs.Play.{file_play};
+ghost use Rattle.line_words.specs.Play.{line_at, window_and_code_at, screen_at, line_play};
+ghost use Rattle.line_words.specs.Play.{char_play, file_play, size_play};
 ghost use Rattle.line_words.specs.Play.{spelled_play, without_cr, play_of, RefusesLine};
 
 use crate::fault::LineFault;
-use crate::field::{after, at_end, code_at, terminator_at, text_at, u32_at};
+use crate::field::{after, at_end, code_at, terminator_at, text_at, u8_at, u32_at};
 use glk_input::Input;
 use std::alloc::Global;
 use story_text::Text;
@@ -37,6 +37,16 @@ pub fn char_at(rest: &[u8]) -> Result<((u32, u32), &[u8]), LineFault>
     Ok(((win, code), rest))
 }
 
+/// The fields of SIZE: the columns and rows of a screen.
+#[tactic(auto, unfolding(crate::specs::Play::screen_at))]
+pub fn screen_at(rest: &[u8]) -> Result<((u8, u8), &[u8]), LineFault>
+    ensures { GivesLineReading (λ x. ((x.0.0, x.0.1), x.1.now)) result (screen_at rest.now) }
+{
+    let (cols, rest) = u8_at(1, rest)?;
+    let (rows, rest) = u8_at(1, rest)?;
+    Ok(((cols, rows), rest))
+}
+
 fn line_play(alloc: Global, rest: &[u8]) -> Result<Input, LineFault>
     ensures { GivesLineReading (λ x. x) result (line_play rest.now) }
 {
@@ -61,6 +71,14 @@ fn file_play(alloc: Global, rest: &[u8]) -> Result<Input, LineFault>
     Ok(Input::File { name })
 }
 
+fn size_play(rest: &[u8]) -> Result<Input, LineFault>
+    ensures { GivesLineReading (λ x. x) result (size_play rest.now) }
+{
+    let ((cols, rows), rest) = screen_at(rest)?;
+    at_end(rest)?;
+    Ok(Input::Size { cols, rows })
+}
+
 #[tactic(auto, unfolding(crate::specs::Play::spelled_play))]
 fn spelled_play(alloc: Global, line: &[u8]) -> Result<Input, LineFault>
     ensures { GivesLineReading (λ x. x) result (spelled_play line.now) }
@@ -73,6 +91,9 @@ fn spelled_play(alloc: Global, line: &[u8]) -> Result<Input, LineFault>
     }
     if let Some(rest) = after(b"FILE", line) {
         return file_play(alloc, rest);
+    }
+    if let Some(rest) = after(b"SIZE", line) {
+        return size_play(rest);
     }
     Err(LineFault::BadLine)
 }
@@ -90,8 +111,8 @@ pub fn without_cr(line: &[u8]) -> &[u8]
 }
 
 /// The input that the line spells: `LINE win =text` or `LINE win =text key`, with key 0 where none is
-/// named, `CHAR win code` or `FILE =name`. The line comes without its LF; a CR that ends it is counted and
-/// then dropped. `LongLine` exactly where the line has more than 2,047 bytes, and else `BadLine`
+/// named, `CHAR win code`, `FILE =name` or `SIZE cols rows`. The line comes without its LF; a CR
+/// that ends it is counted and then dropped. `LongLine` exactly where the line has more than 2,047 bytes, and else `BadLine`
 /// exactly where it spells no input; `NoMemory` where memory runs out.
 pub fn read_play(alloc: Global, line: &[u8]) -> Result<Input, LineFault>
     ensures only { IfOk result (λ play. play_of line.now ≡ Some play) }

@@ -5,15 +5,16 @@ ghost use Rattle.line_words.specs.Reading.{GivesLineReading};
 ghost use Rattle.line_words.specs.Play.{RefusesLine};
 ghost use Rattle.line_words.specs.Request.{session_at, numbered_at, setup_fields_at, open_of};
 ghost use Rattle.line_words.specs.Request.{line_request};
-ghost use Rattle.line_words.specs.Request.{char_request, file_request, last_request, close_of};
+ghost use Rattle.line_words.specs.Request.{char_request, file_request, size_request, last_request};
+ghost use Rattle.line_words.specs.Request.{close_of};
 ghost use Rattle.line_words.specs.Request.{watched_at, watch_of};
 ghost use Rattle.line_words.specs.Request.{spelled_request};
 ghost use Rattle.line_words.specs.Request.{request_of};
 
 use crate::fault::LineFault;
-use crate::field::{after, at_end, key_at, number_at, text_at, u8_at, u32_at, watch_word_at};
+use crate::field::{after, at_end, key_at, number_at, text_at, u32_at, watch_word_at};
 use crate::key::Key;
-use crate::play::{MAX_LINE, char_at, line_at, without_cr};
+use crate::play::{MAX_LINE, char_at, line_at, screen_at, without_cr};
 use crate::request::Request;
 use std::alloc::Global;
 
@@ -57,8 +58,7 @@ fn setup_at(rest: &[u8]) -> Result<(Setup, &[u8]), LineFault>
 {
     let (story, rest) = number_at(0, 65535, rest)?;
     let (seed, rest) = number_at(0, u64::MAX, rest)?;
-    let (cols, rest) = u8_at(1, rest)?;
-    let (rows, rest) = u8_at(1, rest)?;
+    let ((cols, rows), rest) = screen_at(rest)?;
     Ok((
         Setup {
             story: story as u32,
@@ -131,6 +131,22 @@ fn file_of(alloc: Global, rest: &[u8]) -> Result<Request, LineFault>
     Ok(Request::File { s, key, n, name })
 }
 
+#[tactic(auto, unfolding(crate::specs::Request::size_request))]
+fn size_of(alloc: Global, rest: &[u8]) -> Result<Request, LineFault>
+    ensures { GivesLineReading (λ x. x) result (size_request rest.now) }
+{
+    let ((s, key, n), rest) = numbered_at(alloc, rest)?;
+    let ((cols, rows), rest) = screen_at(rest)?;
+    at_end(rest)?;
+    Ok(Request::Size {
+        s,
+        key,
+        n,
+        cols,
+        rows,
+    })
+}
+
 #[tactic(auto, unfolding(crate::specs::Request::last_request))]
 fn last_of(alloc: Global, rest: &[u8]) -> Result<Request, LineFault>
     ensures { GivesLineReading (λ x. x) result (last_request rest.now) }
@@ -184,6 +200,9 @@ fn spelled_request(alloc: Global, line: &[u8]) -> Result<Request, LineFault>
     }
     if let Some(rest) = after(b"FILE", line) {
         return file_of(alloc, rest);
+    }
+    if let Some(rest) = after(b"SIZE", line) {
+        return size_of(alloc, rest);
     }
     if let Some(rest) = after(b"LAST", line) {
         return last_of(alloc, rest);

@@ -42,6 +42,14 @@ pub enum Request {
         n: u32,
         name: Text,
     },
+    /// `SIZE s key n cols rows`, where the player's screen has changed.
+    Size {
+        s: u32,
+        key: Key,
+        n: u32,
+        cols: u8,
+        rows: u8,
+    },
     /// `LAST s key`.
     Last {
         s: u32,

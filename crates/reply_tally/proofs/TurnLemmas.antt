@@ -90,6 +90,7 @@ world_of_lines stories (commands.Open key story digest seed cols rows budget ∷
 world_of_lines stories (commands.Line win term text ∷ after) = are_none
 world_of_lines stories (commands.Char win code ∷ after) = are_none
 world_of_lines stories (commands.File name ∷ after) = are_none
+world_of_lines stories (commands.Size cols rows ∷ after) = are_none
 world_of_lines stories (commands.Close ∷ after) = are_none
 
 show_lines : (stories : List Story) (game : List Command) → AreShowLines (game_show stories game)

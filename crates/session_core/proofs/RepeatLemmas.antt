@@ -12,8 +12,8 @@ use Rattle.gate_journal.specs.Rows.{is_open}
 use Rattle.gate_journal.specs.declared.command.Command.{Command}
 use Rattle.gate_journal.specs.declared.command.Command.TheVariants as commands
 use Rattle.line_words.specs.declared.request.Request.{Request}
-use Rattle.line_words.specs.declared.request.Request.TheVariants.{Open, Line, Char, File, Last}
-use Rattle.line_words.specs.declared.request.Request.TheVariants.{Close, Watch}
+use Rattle.line_words.specs.declared.request.Request.TheVariants.{Open, Line, Char, File, Size}
+use Rattle.line_words.specs.declared.request.Request.TheVariants.{Last, Close, Watch}
 use Rattle.line_words.specs.declared.reply.No.{No}
 use Rattle.line_words.specs.declared.reply.No.TheVariants.{Full}
 use Rattle.story_run.specs.declared.story.Story.{Story}
@@ -166,6 +166,7 @@ joins stories [] key n x keyed next = absurd cc
 joins stories (commands.Line w t text ∷ cs) key n x keyed next = absurd cc
 joins stories (commands.Char w c ∷ cs) key n x keyed next = absurd cc
 joins stories (commands.File name ∷ cs) key n x keyed next = absurd cc
+joins stories (commands.Size w c ∷ cs) key n x keyed next = absurd cc
 joins stories (commands.Close ∷ cs) key n x keyed next = absurd cc
 
 -- the number is one of a session, and the command that comes next joins the game
@@ -258,6 +259,24 @@ passes_again stories history (File s key n name) x a u f e =
           refl,
       j.1.stale,
     )
+passes_again stories history (Size s key n cols rows) x a u f e =
+    let c = commands.Size cols rows in
+    let j = known_joins stories (game_of history) (nat_le 64 s) _ key n c a f in
+    rw (sym (some_is _ x e), game_of-append history c refl) (
+      rw (
+        j.0,
+        j.1.keyed,
+        j.1.last,
+        j.1.story,
+        u,
+        j.1.early,
+        j.1.same,
+        j.1.ahead,
+        same_number cols,
+        same_number rows,
+      ) refl,
+      j.1.stale,
+    )
 passes_again stories history (Last s key) x a u f e = absurd cc
 passes_again stories history (Close s key n) x a u f e =
     let j = known_joins stories (game_of history) (nat_le 64 s) _ key n commands.Close a f in
@@ -275,6 +294,7 @@ same_shown_number g h (Open s key story seed cols rows budget) f = refl
 same_shown_number g h (Line s key n win text term) f = refl
 same_shown_number g h (Char s key n win code) f = refl
 same_shown_number g h (File s key n name) f = refl
+same_shown_number g h (Size s key n cols rows) f = refl
 same_shown_number g h (Last s key) f = absurd cc
 same_shown_number g h (Close s key n) f = refl
 same_shown_number g h (Watch s word from) f = absurd cc

@@ -42,6 +42,7 @@ world_of-joined stories (commands.Open key story digest seed cols rows budget �
 world_of-joined stories (commands.Line win term text ∷ cs) c = refl
 world_of-joined stories (commands.Char win code ∷ cs) c = refl
 world_of-joined stories (commands.File name ∷ cs) c = refl
+world_of-joined stories (commands.Size cols rows ∷ cs) c = refl
 world_of-joined stories (commands.Close ∷ cs) c = refl
 
 one_more : (stories : List Story) (history : List Command) (c : Command) → is_open c ≡ false
@@ -70,6 +71,8 @@ world_then-game stories history (Some (commands.Char win code)) used =
     one_more stories history (commands.Char win code) refl
 world_then-game stories history (Some (commands.File name)) used =
     one_more stories history (commands.File name) refl
+world_then-game stories history (Some (commands.Size cols rows)) used =
+    one_more stories history (commands.Size cols rows) refl
 world_then-game stories history (Some commands.Close) used =
     absurd (let e =
     ap is_in_use (game_of-append history commands.Close refl) ∙ closed_ends (game_of history) in

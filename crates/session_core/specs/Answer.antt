@@ -5,8 +5,8 @@ use Rattle.glk_input.specs.declared.input.Input.{Input}
 use Rattle.gate_journal.specs.declared.command.Command.{Command}
 use Rattle.gate_journal.specs.declared.command.Command.TheVariants as commands
 use Rattle.line_words.specs.declared.request.Request.{Request}
-use Rattle.line_words.specs.declared.request.Request.TheVariants.{Open, Line, Char, File, Last}
-use Rattle.line_words.specs.declared.request.Request.TheVariants.{Close, Watch}
+use Rattle.line_words.specs.declared.request.Request.TheVariants.{Open, Line, Char, File, Size}
+use Rattle.line_words.specs.declared.request.Request.TheVariants.{Last, Close, Watch}
 use Rattle.line_words.specs.declared.reply.No.{No}
 use Rattle.line_words.specs.declared.reply.No.TheVariants as no
 use Rattle.line_words.specs.declared.reply.Reply.{Reply}
@@ -128,6 +128,7 @@ shown_number game (Open s key story seed cols rows budget) = 0
 shown_number game (Line s key n win text term) = n
 shown_number game (Char s key n win code) = n
 shown_number game (File s key n name) = n
+shown_number game (Size s key n cols rows) = n
 shown_number game (Last s key) = command_count game
 shown_number game (Close s key n) = n
 shown_number game (Watch s word from) = from

@@ -7,8 +7,8 @@ use Rattle.glk_input.specs.declared.input.Input.{Input}
 use Rattle.gate_journal.specs.declared.command.Command.{Command}
 use Rattle.gate_journal.specs.declared.command.Command.TheVariants as commands
 use Rattle.line_words.specs.declared.request.Request.{Request}
-use Rattle.line_words.specs.declared.request.Request.TheVariants.{Open, Line, Char, File, Last}
-use Rattle.line_words.specs.declared.request.Request.TheVariants.{Close, Watch}
+use Rattle.line_words.specs.declared.request.Request.TheVariants.{Open, Line, Char, File, Size}
+use Rattle.line_words.specs.declared.request.Request.TheVariants.{Last, Close, Watch}
 use Rattle.story_run.specs.declared.story.Story.{Story}
 use Rattle.story_run.specs.World.{WorldState}
 use Rattle.story_run.specs.Solo.{is_over, is_wanted}
@@ -21,6 +21,7 @@ session_of (Open s key story seed cols rows budget) = s
 session_of (Line s key n win text term) = s
 session_of (Char s key n win code) = s
 session_of (File s key n name) = s
+session_of (Size s key n cols rows) = s
 session_of (Last s key) = s
 session_of (Close s key n) = s
 session_of (Watch s word from) = s
@@ -31,6 +32,7 @@ request_key (Open s key story seed cols rows budget) = key
 request_key (Line s key n win text term) = key
 request_key (Char s key n win code) = key
 request_key (File s key n name) = key
+request_key (Size s key n cols rows) = key
 request_key (Last s key) = key
 request_key (Close s key n) = key
 request_key (Watch s word from) = []
@@ -41,6 +43,7 @@ command_number (Open s key story seed cols rows budget) = None
 command_number (Line s key n win text term) = Some n
 command_number (Char s key n win code) = Some n
 command_number (File s key n name) = Some n
+command_number (Size s key n cols rows) = Some n
 command_number (Last s key) = None
 command_number (Close s key n) = Some n
 command_number (Watch s word from) = None
@@ -63,6 +66,7 @@ command_of stories (Open s key story seed cols rows budget) =
 command_of stories (Line s key n win text term) = Some (commands.Line win term text)
 command_of stories (Char s key n win code) = Some (commands.Char win code)
 command_of stories (File s key n name) = Some (commands.File name)
+command_of stories (Size s key n cols rows) = Some (commands.Size cols rows)
 command_of stories (Last s key) = None
 command_of stories (Close s key n) = Some commands.Close
 command_of stories (Watch s word from) = None
@@ -73,6 +77,7 @@ is_asked_by (Line s key n win text term) (commands.Line w t x) =
     w == win && (t == term && bytes_eq x text)
 is_asked_by (Char s key n win code) (commands.Char w c) = w == win && c == code
 is_asked_by (File s key n name) (commands.File x) = bytes_eq x name
+is_asked_by (Size s key n cols rows) (commands.Size c r) = c == cols && r == rows
 is_asked_by (Close s key n) commands.Close = true
 is_asked_by _ _ = false
 

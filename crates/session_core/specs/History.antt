@@ -8,6 +8,7 @@ use Rattle.glk_input.specs.declared.input.Input.TheVariants as inputs
 use Rattle.gate_journal.specs.Rows.{is_open}
 use Rattle.gate_journal.specs.declared.command.Command.{Command}
 use Rattle.gate_journal.specs.declared.command.Command.TheVariants.{Open, Line, Char, File, Close}
+use Rattle.gate_journal.specs.declared.command.Command.TheVariants.{Size}
 use Rattle.story_run.specs.declared.setup.Setup.{Setup}
 use Rattle.story_run.specs.declared.story.Story.{Story}
 use Rattle.story_run.specs.World.{WorldState}
@@ -56,7 +57,9 @@ abbrev pub input_of : Command → Option Input
 input_of (Line win term text) = Some (inputs.Line win text term)
 input_of (Char win code) = Some (inputs.Char win code)
 input_of (File name) = Some (inputs.File name)
-input_of _ = None
+input_of (Size cols rows) = Some (inputs.Size cols rows)
+input_of (Open key story digest seed cols rows budget) = None
+input_of Close = None
 
 -- the world after what a command gives the story, if it gives anything
 abbrev pub turned_on : WorldState → Option Input → WorldState

@@ -26,6 +26,7 @@ pub fn session_of(request: &Request) -> u32
         | Request::Line { s, .. }
         | Request::Char { s, .. }
         | Request::File { s, .. }
+        | Request::Size { s, .. }
         | Request::Last { s, .. }
         | Request::Close { s, .. }
         | Request::Watch { s, .. } => *s,
@@ -41,6 +42,7 @@ fn key_of(request: &Request) -> &[u8]
         | Request::Line { key, .. }
         | Request::Char { key, .. }
         | Request::File { key, .. }
+        | Request::Size { key, .. }
         | Request::Last { key, .. }
         | Request::Close { key, .. } => key.as_slice(),
         Request::Watch { .. } => &[],
@@ -56,6 +58,7 @@ pub fn number_of(request: &Request) -> Option<u32>
         Request::Line { n, .. }
         | Request::Char { n, .. }
         | Request::File { n, .. }
+        | Request::Size { n, .. }
         | Request::Close { n, .. } => Some(*n),
     }
 }

@@ -77,6 +77,10 @@ pub fn command_of(
         Request::File { name, .. } => Command::File {
             name: name.copy_of(alloc)?,
         },
+        Request::Size { cols, rows, .. } => Command::Size {
+            cols: *cols,
+            rows: *rows,
+        },
         Request::Close { .. } => Command::Close,
         Request::Last { .. } | Request::Watch { .. } => return Ok(None),
     }))
@@ -201,6 +205,7 @@ pub fn shown_number(game: &[Command], request: &Request) -> u32
         Request::Line { n, .. }
         | Request::Char { n, .. }
         | Request::File { n, .. }
+        | Request::Size { n, .. }
         | Request::Close { n, .. } => *n,
         Request::Watch { from, .. } => *from,
     }

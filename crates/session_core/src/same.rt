@@ -32,8 +32,12 @@ fn is_asked_by(request: &Request, command: &Command) -> bool
             Command::File { name: x } => x.is_same(name),
             _ => false,
         },
+        Request::Size { cols, rows, .. } => match command {
+            Command::Size { cols: c, rows: r } => *c == *cols && *r == *rows,
+            _ => false,
+        },
         Request::Close { .. } => matches!(command, Command::Close),
-        _ => false,
+        Request::Open { .. } | Request::Last { .. } | Request::Watch { .. } => false,
     }
 }
 

@@ -31,7 +31,11 @@ pub fn input_of(alloc: Global, command: &Command) -> Result<Option<Input>, Alloc
         Command::File { name } => Some(Input::File {
             name: name.copy_of(alloc)?,
         }),
-        _ => None,
+        Command::Size { cols, rows } => Some(Input::Size {
+            cols: *cols,
+            rows: *rows,
+        }),
+        Command::Open { .. } | Command::Close => None,
     })
 }
 

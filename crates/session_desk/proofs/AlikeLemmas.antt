@@ -6,8 +6,8 @@ use Rattle.std.proofs.lemmas.Bool.Decides.{nat_tests}
 use Rattle.gate_journal.specs.declared.command.Command.{Command}
 use Rattle.gate_journal.specs.declared.command.Command.TheVariants as commands
 use Rattle.line_words.specs.declared.request.Request.{Request}
-use Rattle.line_words.specs.declared.request.Request.TheVariants.{Open, Line, Char, File, Last}
-use Rattle.line_words.specs.declared.request.Request.TheVariants.{Close, Watch}
+use Rattle.line_words.specs.declared.request.Request.TheVariants.{Open, Line, Char, File, Size}
+use Rattle.line_words.specs.declared.request.Request.TheVariants.{Last, Close, Watch}
 use Rattle.line_words.specs.declared.reply.No.{No}
 use Rattle.line_words.specs.declared.reply.No.TheVariants as no
 use Rattle.line_words.specs.declared.reply.Reply.TheVariants as replies
@@ -132,6 +132,7 @@ first_is_fresh stories request none =
     by (Line s key n win text term) a = absurd (let k = known (nat_le 64 s) false a in cc)
     by (Char s key n win code) a = absurd (let k = known (nat_le 64 s) false a in cc)
     by (File s key n name) a = absurd (let k = known (nat_le 64 s) false a in cc)
+    by (Size s key n cols rows) a = absurd (let k = known (nat_le 64 s) false a in cc)
     by (Last s key) a = absurd (let k = known (nat_le 64 s) false a in cc)
     by (Close s key n) a = absurd (let k = known (nat_le 64 s) false a in cc)
     by (Watch s word from) a = absurd (let k = known (nat_le 64 s) false a in cc)
@@ -264,6 +265,10 @@ ready desk (File s key n name) c v e =
     let none = (accepts desk (File s key n name) v).none in
     let used = finds_use desk.stories (game desk) (File s key n name) none in
     rw (sym (some_is _ c e)) (used, held_now desk (File s key n name) v none (rw used refl))
+ready desk (Size s key n cols rows) c v e =
+    let none = (accepts desk (Size s key n cols rows) v).none in
+    let used = finds_use desk.stories (game desk) (Size s key n cols rows) none in
+    rw (sym (some_is _ c e)) (used, held_now desk (Size s key n cols rows) v none (rw used refl))
 ready desk (Last s key) c v e = absurd cc
 ready desk (Watch s word from) c v e = absurd cc
 ready desk (Close s key n) c v e =

@@ -7,6 +7,7 @@ use Rattle.std.proofs.lemmas.List.{drop-append-le, length-drop}
 use Rattle.gate_journal.specs.Rows.{is_open}
 use Rattle.gate_journal.specs.declared.command.Command.{Command}
 use Rattle.gate_journal.specs.declared.command.Command.TheVariants.{Open, Line, Char, File, Close}
+use Rattle.gate_journal.specs.declared.command.Command.TheVariants.{Size}
 use Rattle.gate_journal.specs.Rows as journals
 use Rattle.session_core.specs.History.{game_of, later}
 use Rattle.session_core.proofs.RepeatLemmas.{game_of-append, game_of-append-open, joined}
@@ -18,6 +19,7 @@ opens (Open key story digest seed cols rows budget) = refl
 opens (Line win term text) = refl
 opens (Char win code) = refl
 opens (File name) = refl
+opens (Size cols rows) = refl
 opens Close = refl
 
 -- a game is the end of its session's commands

@@ -51,6 +51,10 @@ aside-used history (commands.File name) Nothing h = tt
 aside-used history (commands.File name) (Previous w) h = tt
 aside-used history (commands.File name) (Current w) h =
     used_on history (commands.File name) refl refl h
+aside-used history (commands.Size cols rows) Nothing h = tt
+aside-used history (commands.Size cols rows) (Previous w) h = tt
+aside-used history (commands.Size cols rows) (Current w) h =
+    used_on history (commands.Size cols rows) refl refl h
 
 -- ---- the session's own world
 
@@ -97,6 +101,10 @@ holds-aside stories history (commands.File name) Nothing h = tt
 holds-aside stories history (commands.File name) (Previous w) h = tt
 holds-aside stories history (commands.File name) (Current w) h =
     joins stories history (commands.File name) w refl h
+holds-aside stories history (commands.Size cols rows) Nothing h = tt
+holds-aside stories history (commands.Size cols rows) (Previous w) h = tt
+holds-aside stories history (commands.Size cols rows) (Current w) h =
+    joins stories history (commands.Size cols rows) w refl h
 
 begun-holds : (stories : List Story) (game : List Command) (used : Bool) (now : Option WorldState)
     → world_of stories game ≡ now

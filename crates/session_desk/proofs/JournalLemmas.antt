@@ -11,8 +11,8 @@ use Rattle.gate_journal.specs.declared.command.Command.{Command}
 use Rattle.gate_journal.specs.declared.command.Command.TheVariants as commands
 use Rattle.gate_journal.specs.declared.row.Row.{Row}
 use Rattle.line_words.specs.declared.request.Request.{Request}
-use Rattle.line_words.specs.declared.request.Request.TheVariants.{Open, Line, Char, File, Last}
-use Rattle.line_words.specs.declared.request.Request.TheVariants.{Close, Watch}
+use Rattle.line_words.specs.declared.request.Request.TheVariants.{Open, Line, Char, File, Size}
+use Rattle.line_words.specs.declared.request.Request.TheVariants.{Last, Close, Watch}
 use Rattle.line_words.specs.Spelling.{IsRequest}
 use Rattle.line_words.proofs.RequestLaws.{request_only}
 use Rattle.story_run.specs.declared.story.Story.{Story}
@@ -69,6 +69,7 @@ close_ends (commands.Open key story digest seed cols rows budget) = refl
 close_ends (commands.Line win term text) = refl
 close_ends (commands.Char win code) = refl
 close_ends (commands.File name) = refl
+close_ends (commands.Size cols rows) = refl
 close_ends commands.Close = refl
 
 joined_ends : (g : List Command) (c : Command)
@@ -100,6 +101,7 @@ agree-follow xs (commands.Line win term text) m a =
     agree-one xs (commands.Line win term text) refl a m
 agree-follow xs (commands.Char win code) m a = agree-one xs (commands.Char win code) refl a m
 agree-follow xs (commands.File name) m a = agree-one xs (commands.File name) refl a m
+agree-follow xs (commands.Size cols rows) m a = agree-one xs (commands.Size cols rows) refl a m
 agree-follow xs commands.Close m a = agree-one xs commands.Close refl a m
 
 -- ---- what holds of the commands of a session
@@ -144,6 +146,7 @@ follows desk commands.Close a ready = rw (a, ready) refl
 follows desk (commands.Line win term text) a ready = rw (a, ready.0) refl
 follows desk (commands.Char win code) a ready = rw (a, ready.0) refl
 follows desk (commands.File name) a ready = rw (a, ready.0) refl
+follows desk (commands.Size cols rows) a ready = rw (a, ready.0) refl
 
 -- the journal may keep what a desk accepts
 pub may_stand : (desk : DeskState) (rows : List Row) (c : Command)
@@ -177,6 +180,7 @@ in_range stories (Open s key story seed cols rows budget) c range e digest =
 in_range stories (Line s key n win text term) c range e digest = rw (sym (some_is _ c e)) range
 in_range stories (Char s key n win code) c range e digest = rw (sym (some_is _ c e)) range
 in_range stories (File s key n name) c range e digest = rw (sym (some_is _ c e)) range
+in_range stories (Size s key n cols rows) c range e digest = rw (sym (some_is _ c e)) range
 in_range stories (Last s key) c range e digest = absurd cc
 in_range stories (Close s key n) c range e digest = rw (sym (some_is _ c e)) tt
 in_range stories (Watch s word from) c range e digest = absurd cc
@@ -185,20 +189,22 @@ digest_range : (request : Request) (budget : ℕ)
     → IsRequest request → IsBudget budget
     → IsInRange (with_budget budget request)
 digest_range (Open s key story seed cols rows budget) b r is =
-    λ digest e. (r.0.1, r.1, e, r.2, r.3, r.4, r.5, r.6, is)
+    λ digest e. (r.0.1, r.1, e, r.2, r.3.0, r.3.1, r.3.2, r.3.3, is)
 digest_range (Line s key n win text term) b r is = (r.1, r.3, r.2)
 digest_range (Char s key n win code) b r is = (r.1, r.2)
 digest_range (File s key n name) b r is = r.1
+digest_range (Size s key n cols rows) b r is = r.1
 digest_range (Last s key) b r is = tt
 digest_range (Close s key n) b r is = tt
 digest_range (Watch s word from) b r is = tt
 
 as_read : (request : Request) → IsRequest request → with_budget 50000000 request ≡ request
 as_read (Open s key story seed cols rows budget) r =
-    ap (λ (b : ℕ). Open s key story seed cols rows b) (sym r.7)
+    ap (λ (b : ℕ). Open s key story seed cols rows b) (sym r.4)
 as_read (Line s key n win text term) r = refl
 as_read (Char s key n win code) r = refl
 as_read (File s key n name) r = refl
+as_read (Size s key n cols rows) r = refl
 as_read (Last s key) r = refl
 as_read (Close s key n) r = refl
 as_read (Watch s word from) r = refl

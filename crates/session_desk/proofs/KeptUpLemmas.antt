@@ -106,6 +106,7 @@ none_since (commands.Open key story digest seed cols rows budget) opens = omega 
 none_since (commands.Line win term text) opens = absurd cc
 none_since (commands.Char win code) opens = absurd cc
 none_since (commands.File name) opens = absurd cc
+none_since (commands.Size cols rows) opens = absurd cc
 none_since commands.Close opens = absurd cc
 
 pub kept-behind : {D : Type 0} (saves : SavesState D) (places : List ℕ) (history : List Command)
@@ -132,6 +133,7 @@ input_held desk commands.Close ready = inl refl
 input_held desk (commands.Line win term text) ready = inr ready.1
 input_held desk (commands.Char win code) ready = inr ready.1
 input_held desk (commands.File name) ready = inr ready.1
+input_held desk (commands.Size cols rows) ready = inr ready.1
 
 not_due : {D : Type 0} (saves : SavesState D) (now : Option WorldState) (row : Option ℕ) (count : ℕ)
     → keeping.due_with saves now row count ≡ false

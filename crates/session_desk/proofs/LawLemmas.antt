@@ -5,8 +5,8 @@ use Rattle.gate_journal.specs.Rows.{is_open}
 use Rattle.gate_journal.specs.declared.command.Command.{Command}
 use Rattle.gate_journal.specs.declared.command.Command.TheVariants as commands
 use Rattle.line_words.specs.declared.request.Request.{Request}
-use Rattle.line_words.specs.declared.request.Request.TheVariants.{Open, Line, Char, File, Last}
-use Rattle.line_words.specs.declared.request.Request.TheVariants.{Close, Watch}
+use Rattle.line_words.specs.declared.request.Request.TheVariants.{Open, Line, Char, File, Size}
+use Rattle.line_words.specs.declared.request.Request.TheVariants.{Last, Close, Watch}
 use Rattle.line_words.specs.declared.reply.No.{No}
 use Rattle.story_run.specs.declared.story.Story.{Story}
 use Rattle.story_run.specs.World.{WorldState}
@@ -34,6 +34,7 @@ same_number g h (Open s key story seed cols rows budget) f = refl
 same_number g h (Line s key n win text term) f = refl
 same_number g h (Char s key n win code) f = refl
 same_number g h (File s key n name) f = refl
+same_number g h (Size s key n cols rows) f = refl
 same_number g h (Last s key) f = absurd cc
 same_number g h (Close s key n) f = refl
 same_number g h (Watch s word from) f = absurd cc
@@ -91,6 +92,9 @@ shown_fresh desk (commands.Char win code) ready =
     (λ w. refl) ready
 shown_fresh desk (commands.File name) ready =
     input_shown desk.stories desk.commands desk.held (commands.File name) refl (λ w. refl)
+    (λ w. refl) ready
+shown_fresh desk (commands.Size cols rows) ready =
+    input_shown desk.stories desk.commands desk.held (commands.Size cols rows) refl (λ w. refl)
     (λ w. refl) ready
 
 pub shows_fresh : ShowsFresh

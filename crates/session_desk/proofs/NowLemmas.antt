@@ -4,8 +4,8 @@ use Rattle.std.proofs.Common.{None, is_none, refl, sym, ap, ◌∙◌}
 use Rattle.gate_journal.specs.declared.command.Command.{Command}
 use Rattle.gate_journal.specs.declared.command.Command.TheVariants as commands
 use Rattle.line_words.specs.declared.request.Request.{Request}
-use Rattle.line_words.specs.declared.request.Request.TheVariants.{Open, Line, Char, File, Last}
-use Rattle.line_words.specs.declared.request.Request.TheVariants.{Close, Watch}
+use Rattle.line_words.specs.declared.request.Request.TheVariants.{Open, Line, Char, File, Size}
+use Rattle.line_words.specs.declared.request.Request.TheVariants.{Last, Close, Watch}
 use Rattle.line_words.specs.declared.reply.No.{No}
 use Rattle.line_words.specs.declared.reply.Reply.TheVariants as replies
 use Rattle.story_run.specs.declared.story.Story.{Story}
@@ -89,6 +89,9 @@ show_free stories history now other (Char s key n win code) none free =
 show_free stories history now other (File s key n name) none free =
     absurd (asks_story (is_in_use (game_of history))
     (finds_use stories (game_of history) (File s key n name) none) free)
+show_free stories history now other (Size s key n cols rows) none free =
+    absurd (asks_story (is_in_use (game_of history))
+    (finds_use stories (game_of history) (Size s key n cols rows) none) free)
 show_free stories history now other (Last s key) none free =
     absurd (asks_story (is_in_use (game_of history))
     (finds_use stories (game_of history) (Last s key) none) free)

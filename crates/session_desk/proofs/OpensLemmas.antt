@@ -19,8 +19,8 @@ use Rattle.gate_journal.specs.declared.entry.Entry.{Entry as JournalEntry}
 use Rattle.gate_journal.specs.declared.entry.Entry.TheVariants.{Kept, Faulted}
 use Rattle.gate_journal.proofs.RowLemmas.{spelled-push}
 use Rattle.line_words.specs.declared.request.Request.{Request}
-use Rattle.line_words.specs.declared.request.Request.TheVariants.{Open, Line, Char, File, Last}
-use Rattle.line_words.specs.declared.request.Request.TheVariants.{Close, Watch}
+use Rattle.line_words.specs.declared.request.Request.TheVariants.{Open, Line, Char, File, Size}
+use Rattle.line_words.specs.declared.request.Request.TheVariants.{Last, Close, Watch}
 use Rattle.story_run.specs.declared.story.Story.{Story}
 use Rattle.session_core.specs.Checks.{command_of, opening_command}
 use Rattle.session_core.specs.History.{game_of, is_in_use, later, story_at}
@@ -287,6 +287,7 @@ to_open stories (Open s key story seed cols rows budget) c e =
 to_open stories (Line s key n win text term) c e = rw (sym (some_is _ c e)) refl
 to_open stories (Char s key n win code) c e = rw (sym (some_is _ c e)) refl
 to_open stories (File s key n name) c e = rw (sym (some_is _ c e)) refl
+to_open stories (Size s key n cols rows) c e = rw (sym (some_is _ c e)) refl
 to_open stories (Last s key) c e = absurd cc
 to_open stories (Close s key n) c e = rw (sym (some_is _ c e)) refl
 to_open stories (Watch s word from) c e = absurd cc

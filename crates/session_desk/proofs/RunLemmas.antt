@@ -38,3 +38,5 @@ to_run desk (commands.Char win code) ready =
     input_runs desk.held (commands.Char win code) _ (λ w. refl) ready.1
 to_run desk (commands.File name) ready =
     input_runs desk.held (commands.File name) _ (λ w. refl) ready.1
+to_run desk (commands.Size cols rows) ready =
+    input_runs desk.held (commands.Size cols rows) _ (λ w. refl) ready.1

@@ -46,6 +46,7 @@ story_in stories (commands.Open key story digest seed cols rows budget ∷ cs) b
 story_in stories (commands.Line win term text ∷ cs) b used e = absurd (let x = b in cc)
 story_in stories (commands.Char win code ∷ cs) b used e = absurd (let x = b in cc)
 story_in stories (commands.File name ∷ cs) b used e = absurd (let x = b in cc)
+story_in stories (commands.Size cols rows ∷ cs) b used e = absurd (let x = b in cc)
 story_in stories (commands.Close ∷ cs) b used e = absurd (let x = b in cc)
 
 some_world : (story : Story) (found : Option Story) (setup : Setup) (inputs : List Input)

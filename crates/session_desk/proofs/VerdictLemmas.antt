@@ -8,8 +8,8 @@ use Rattle.glk_input.specs.declared.input.Input.TheVariants as inputs
 use Rattle.gate_journal.specs.declared.command.Command.{Command}
 use Rattle.gate_journal.specs.declared.command.Command.TheVariants as commands
 use Rattle.line_words.specs.declared.request.Request.{Request}
-use Rattle.line_words.specs.declared.request.Request.TheVariants.{Open, Line, Char, File, Last}
-use Rattle.line_words.specs.declared.request.Request.TheVariants.{Close, Watch}
+use Rattle.line_words.specs.declared.request.Request.TheVariants.{Open, Line, Char, File, Size}
+use Rattle.line_words.specs.declared.request.Request.TheVariants.{Last, Close, Watch}
 use Rattle.line_words.specs.declared.reply.No.{No}
 use Rattle.line_words.specs.declared.reply.No.TheVariants as no
 use Rattle.story_run.specs.declared.story.Story.{Story}
@@ -134,6 +134,7 @@ asks stories game (Open s key story seed cols rows budget) none fresh =
 asks stories game (Line s key n win text term) none fresh = (commands.Line win term text, refl)
 asks stories game (Char s key n win code) none fresh = (commands.Char win code, refl)
 asks stories game (File s key n name) none fresh = (commands.File name, refl)
+asks stories game (Size s key n cols rows) none fresh = (commands.Size cols rows, refl)
 asks stories game (Last s key) none fresh = absurd cc
 asks stories game (Close s key n) none fresh = (commands.Close, refl)
 asks stories game (Watch s word from) none fresh = absurd cc
@@ -153,6 +154,7 @@ given-asked stories (Open s key story seed cols rows budget) =
 given-asked stories (Line s key n win text term) = refl
 given-asked stories (Char s key n win code) = refl
 given-asked stories (File s key n name) = refl
+given-asked stories (Size s key n cols rows) = refl
 given-asked stories (Last s key) = refl
 given-asked stories (Close s key n) = refl
 given-asked stories (Watch s word from) = refl
@@ -213,6 +215,7 @@ finds_use stories g request none = by request (all_fail (plain_checks stories g 
         in_use (nat_le 64 s) (has_key g key) (is_in_use g) false a refl
     by (Char s key n win code) a = in_use (nat_le 64 s) (has_key g key) (is_in_use g) false a refl
     by (File s key n name) a = in_use (nat_le 64 s) (has_key g key) (is_in_use g) false a refl
+    by (Size s key n cols rows) a = in_use (nat_le 64 s) (has_key g key) (is_in_use g) false a refl
     by (Last s key) a = in_use (nat_le 64 s) (has_key g key) (is_in_use g) false a refl
     by (Close s key n) a =
         in_use (nat_le 64 s) (has_key g key) (is_in_use g) (n == command_count g) a
@@ -234,6 +237,8 @@ free_gives stories game (Char s key n win code) none free =
     absurd (asks_story (is_in_use game) (finds_use stories game (Char s key n win code) none) free)
 free_gives stories game (File s key n name) none free =
     absurd (asks_story (is_in_use game) (finds_use stories game (File s key n name) none) free)
+free_gives stories game (Size s key n cols rows) none free =
+    absurd (asks_story (is_in_use game) (finds_use stories game (Size s key n cols rows) none) free)
 free_gives stories game (Last s key) none free = refl
 free_gives stories game (Close s key n) none free = refl
 free_gives stories game (Watch s word from) none free = refl
@@ -281,6 +286,7 @@ refusal-outline w (Open s key story seed cols rows budget) = refl
 refusal-outline w (Line s key n win text term) = rw (wants-line w win text term) refl
 refusal-outline w (Char s key n win code) = refl
 refusal-outline w (File s key n name) = rw (wants-file w name) refl
+refusal-outline w (Size s key n cols rows) = refl
 refusal-outline w (Last s key) = refl
 refusal-outline w (Close s key n) = refl
 refusal-outline w (Watch s word from) = refl

@@ -7,8 +7,8 @@ use Rattle.gate_journal.specs.declared.command.Command.{Command}
 use Rattle.gate_journal.specs.declared.command.Command.TheVariants as commands
 use Rattle.line_words.specs.declared.reply.No.{No}
 use Rattle.line_words.specs.declared.request.Request.{Request}
-use Rattle.line_words.specs.declared.request.Request.TheVariants.{Open, Line, Char, File, Last}
-use Rattle.line_words.specs.declared.request.Request.TheVariants.{Close, Watch}
+use Rattle.line_words.specs.declared.request.Request.TheVariants.{Open, Line, Char, File, Size}
+use Rattle.line_words.specs.declared.request.Request.TheVariants.{Last, Close, Watch}
 use Rattle.story_run.specs.declared.setup.Setup.{Setup}
 use Rattle.story_run.specs.declared.story.Story.{Story}
 use Rattle.story_run.specs.World.{WorldState}
@@ -49,6 +49,7 @@ unchanged stories g request none asks =
     by (Line s key n win text term) same asks = same
     by (Char s key n win code) same asks = same
     by (File s key n name) same asks = same
+    by (Size s key n cols rows) same asks = same
     by (Last s key) same asks = same
     by (Close s key n) same asks =
         absurd (let e = (and_parts (is_in_use g) false asks).1 in cc)
@@ -125,6 +126,8 @@ after_run desk (commands.Char win code) ready =
     input_run desk.stories desk.commands (commands.Char win code) desk.held (λ w. refl) ready.1
 after_run desk (commands.File name) ready =
     input_run desk.stories desk.commands (commands.File name) desk.held (λ w. refl) ready.1
+after_run desk (commands.Size cols rows) ready =
+    input_run desk.stories desk.commands (commands.Size cols rows) desk.held (λ w. refl) ready.1
 
 -- ---- where the last show is given again
 
@@ -135,6 +138,7 @@ last_closes (Some (commands.Open k story digest seed cols rows budget)) s key n 
 last_closes (Some (commands.Line win term text)) s key n e = absurd cc
 last_closes (Some (commands.Char win code)) s key n e = absurd cc
 last_closes (Some (commands.File name)) s key n e = absurd cc
+last_closes (Some (commands.Size cols rows)) s key n e = absurd cc
 last_closes (Some commands.Close) s key n e = refl
 
 not_taken : (fresh : Bool) (c : Command) → cond fresh (Some c) None ≡ None → fresh ≡ false
@@ -189,6 +193,8 @@ after_again desk request e =
     by (Char s key n win code) plain accepted held =
         held_by _ (is_in_use (game desk)) _ plain held
     by (File s key n name) plain accepted held = held_by _ (is_in_use (game desk)) _ plain held
+    by (Size s key n cols rows) plain accepted held =
+        held_by _ (is_in_use (game desk)) _ plain held
     by (Last s key) plain accepted held = held_by _ (is_in_use (game desk)) _ plain held
     by (Close s key n) plain accepted held =
         rw (closed_again desk.stories (game desk) s key n plain accepted) refl

@@ -10,8 +10,8 @@ use Rattle.gate_journal.specs.declared.command.Command.{Command}
 use Rattle.gate_journal.specs.declared.command.Command.TheVariants as commands
 use Rattle.gate_journal.specs.declared.entry.Entry.TheVariants.{Kept, Faulted}
 use Rattle.line_words.specs.declared.request.Request.{Request}
-use Rattle.line_words.specs.declared.request.Request.TheVariants.{Open, Line, Char, File, Last}
-use Rattle.line_words.specs.declared.request.Request.TheVariants.{Close, Watch}
+use Rattle.line_words.specs.declared.request.Request.TheVariants.{Open, Line, Char, File, Size}
+use Rattle.line_words.specs.declared.request.Request.TheVariants.{Last, Close, Watch}
 use Rattle.session_core.specs.Checks.{command_of}
 use Rattle.session_desk.specs.declared.refused.Refused.{Refused}
 use Rattle.session_desk.specs.declared.refused.Refused.TheVariants.{DiskFault, NoMemory}
@@ -26,6 +26,7 @@ IsInRange (Open s key story seed cols rows budget) =
 IsInRange (Line s key n win text term) = IsCommand (commands.Line win term text)
 IsInRange (Char s key n win code) = IsCommand (commands.Char win code)
 IsInRange (File s key n name) = IsCommand (commands.File name)
+IsInRange (Size s key n cols rows) = IsCommand (commands.Size cols rows)
 IsInRange (Last s key) = Unit {0}
 IsInRange (Close s key n) = Unit {0}
 IsInRange (Watch s word from) = Unit {0}

@@ -3,8 +3,8 @@ use Rattle.std.specs.Prelude.{[], ◌∷◌, Option, Some, None}
 use Rattle.glk_input.specs.declared.input.Input.{Input}
 use Rattle.glk_input.specs.declared.input.Input.TheVariants as inputs
 use Rattle.line_words.specs.declared.request.Request.{Request}
-use Rattle.line_words.specs.declared.request.Request.TheVariants.{Open, Line, Char, File, Last}
-use Rattle.line_words.specs.declared.request.Request.TheVariants.{Close, Watch}
+use Rattle.line_words.specs.declared.request.Request.TheVariants.{Open, Line, Char, File, Size}
+use Rattle.line_words.specs.declared.request.Request.TheVariants.{Last, Close, Watch}
 use Rattle.line_words.specs.declared.reply.No.{No}
 use Rattle.line_words.specs.declared.reply.No.TheVariants.{Over, Unwanted}
 use Rattle.story_run.specs.World.{WorldState}
@@ -17,6 +17,7 @@ request_input (Open s key story seed cols rows budget) = None
 request_input (Line s key n win text term) = Some (inputs.Line win text term)
 request_input (Char s key n win code) = Some (inputs.Char win code)
 request_input (File s key n name) = Some (inputs.File name)
+request_input (Size s key n cols rows) = Some (inputs.Size cols rows)
 request_input (Last s key) = None
 request_input (Close s key n) = None
 request_input (Watch s word from) = None
@@ -27,6 +28,7 @@ outline (Open s key story seed cols rows budget) = None
 outline (Line s key n win text term) = Some (inputs.Line win [] term)
 outline (Char s key n win code) = Some (inputs.Char win code)
 outline (File s key n name) = Some (inputs.File [])
+outline (Size s key n cols rows) = Some (inputs.Size cols rows)
 outline (Last s key) = None
 outline (Close s key n) = None
 outline (Watch s word from) = None

@@ -33,6 +33,10 @@ fn outline(alloc: Global, request: &Request) -> Option<Input>
         Request::File { .. } => Some(Input::File {
             name: no_text(alloc),
         }),
+        Request::Size { cols, rows, .. } => Some(Input::Size {
+            cols: *cols,
+            rows: *rows,
+        }),
         Request::Open { .. }
         | Request::Last { .. }
         | Request::Close { .. }

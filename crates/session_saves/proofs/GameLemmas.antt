@@ -12,6 +12,7 @@ use Rattle.glk_input.specs.declared.input.Input.{Input}
 use Rattle.gate_journal.specs.Rows.{is_open}
 use Rattle.gate_journal.specs.declared.command.Command.{Command}
 use Rattle.gate_journal.specs.declared.command.Command.TheVariants.{Open, Line, Char, File, Close}
+use Rattle.gate_journal.specs.declared.command.Command.TheVariants.{Size}
 use Rattle.story_run.specs.declared.setup.Setup.{Setup}
 use Rattle.story_run.specs.declared.stage.Stage.{Stage}
 use Rattle.story_run.specs.declared.stage.Stage.TheVariants.{AtSelect, AtPrompt, Quit, Fault}
@@ -48,6 +49,7 @@ world_at-all stories (Open key story digest seed cols rows budget ∷ after) =
 world_at-all stories (Line win term text ∷ after) = refl
 world_at-all stories (Char win code ∷ after) = refl
 world_at-all stories (File name ∷ after) = refl
+world_at-all stories (Size cols rows ∷ after) = refl
 world_at-all stories (Close ∷ after) = refl
 
 -- ---- with a command more
@@ -58,11 +60,13 @@ story_of-more stories [] (Open key story digest seed cols rows budget) shut = ab
 story_of-more stories [] (Line win term text) shut = refl
 story_of-more stories [] (Char win code) shut = refl
 story_of-more stories [] (File name) shut = refl
+story_of-more stories [] (Size cols rows) shut = refl
 story_of-more stories [] Close shut = refl
 story_of-more stories (Open key story digest seed cols rows budget ∷ after) c shut = refl
 story_of-more stories (Line win term text ∷ after) c shut = refl
 story_of-more stories (Char win code ∷ after) c shut = refl
 story_of-more stories (File name ∷ after) c shut = refl
+story_of-more stories (Size cols rows ∷ after) c shut = refl
 story_of-more stories (Close ∷ after) c shut = refl
 
 setup_of-more : (game : List Command) (c : Command) → is_open c ≡ false
@@ -71,11 +75,13 @@ setup_of-more [] (Open key story digest seed cols rows budget) shut = absurd cc
 setup_of-more [] (Line win term text) shut = refl
 setup_of-more [] (Char win code) shut = refl
 setup_of-more [] (File name) shut = refl
+setup_of-more [] (Size cols rows) shut = refl
 setup_of-more [] Close shut = refl
 setup_of-more (Open key story digest seed cols rows budget ∷ after) c shut = refl
 setup_of-more (Line win term text ∷ after) c shut = refl
 setup_of-more (Char win code ∷ after) c shut = refl
 setup_of-more (File name ∷ after) c shut = refl
+setup_of-more (Size cols rows ∷ after) c shut = refl
 setup_of-more (Close ∷ after) c shut = refl
 
 pub is_other_story-more : (stories : List Story) (game : List Command) (c : Command)
@@ -85,11 +91,13 @@ is_other_story-more stories [] (Open key story digest seed cols rows budget) shu
 is_other_story-more stories [] (Line win term text) shut = refl
 is_other_story-more stories [] (Char win code) shut = refl
 is_other_story-more stories [] (File name) shut = refl
+is_other_story-more stories [] (Size cols rows) shut = refl
 is_other_story-more stories [] Close shut = refl
 is_other_story-more stories (Open key story digest seed cols rows budget ∷ after) c shut = refl
 is_other_story-more stories (Line win term text ∷ after) c shut = refl
 is_other_story-more stories (Char win code ∷ after) c shut = refl
 is_other_story-more stories (File name ∷ after) c shut = refl
+is_other_story-more stories (Size cols rows ∷ after) c shut = refl
 is_other_story-more stories (Close ∷ after) c shut = refl
 
 pub inputs_of-more : (game : List Command) (c : Command)

@@ -45,10 +45,13 @@ pub fn opened<'a, 'i>(stories: &'a [Story<'i>], game: &[Command]) -> Option<(&'a
 fn is_input(command: &Command) -> bool
     ensures { result ≡ is_some (input_of command.now) }
 {
-    matches!(
-        command,
-        Command::Line { .. } | Command::Char { .. } | Command::File { .. }
-    )
+    match command {
+        Command::Line { .. }
+        | Command::Char { .. }
+        | Command::File { .. }
+        | Command::Size { .. } => true,
+        Command::Open { .. } | Command::Close => false,
+    }
 }
 
 /// How many inputs came since the OPEN.

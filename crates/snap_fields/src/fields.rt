@@ -4,8 +4,8 @@ use crate::glk::{File, FileRef, Stream, Window};
 use crate::items::Items;
 use vm_heap::Block;
 
-/// How the story was begun: the seed of its random words, the screen in characters, and the budget
-/// of a turn in ticks.
+/// What turns go by: the seed of the story's random words, the present screen in characters, and
+/// the budget of a turn in ticks.
 #[derive(Clone, Copy)]
 pub struct Setup {
     pub seed: u64,

@@ -11,6 +11,7 @@ use Rattle.std.proofs.lemmas.List.Elements.{Contains-append_cases, Contains-push
 use Rattle.gate_journal.specs.Rows.{is_open}
 use Rattle.gate_journal.specs.declared.command.Command.{Command}
 use Rattle.gate_journal.specs.declared.command.Command.TheVariants.{Open, Line, Char, File, Close}
+use Rattle.gate_journal.specs.declared.command.Command.TheVariants.{Size}
 use Rattle.gate_journal.specs.declared.row.Row.{Row}
 use Rattle.gate_journal.specs.Rows.{EachNext, IsJournal, IsNext, row_body, commands_of}
 use Rattle.gate_journal.specs.Rows.{may_follow, journal_bytes, is_open as opens_there}
@@ -33,6 +34,7 @@ same_word (Open key story digest seed cols rows budget) = refl
 same_word (Line win term text) = refl
 same_word (Char win code) = refl
 same_word (File name) = refl
+same_word (Size cols rows) = refl
 same_word Close = refl
 
 abbrev pub IsBegun : List Command → Type 0

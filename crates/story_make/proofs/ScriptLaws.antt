@@ -268,10 +268,7 @@ opening_reads number s seed small =
       (omega arith, refl),
       omega arith,
       omega arith,
-      omega arith,
-      omega arith,
-      omega arith,
-      omega arith,
+      (omega arith, omega arith, omega arith, omega arith),
       refl,
     ) in
     record {

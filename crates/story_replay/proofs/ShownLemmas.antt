@@ -7,8 +7,8 @@ use Rattle.gate_journal.specs.Rows.{is_open}
 use Rattle.gate_journal.specs.declared.command.Command.{Command}
 use Rattle.gate_journal.specs.declared.command.Command.TheVariants as commands
 use Rattle.line_words.specs.declared.request.Request.{Request}
-use Rattle.line_words.specs.declared.request.Request.TheVariants.{Open, Line, Char, File, Last}
-use Rattle.line_words.specs.declared.request.Request.TheVariants.{Close, Watch}
+use Rattle.line_words.specs.declared.request.Request.TheVariants.{Open, Line, Char, File, Size}
+use Rattle.line_words.specs.declared.request.Request.TheVariants.{Last, Close, Watch}
 use Rattle.line_words.specs.declared.reply.Reply.TheVariants as replies
 use Rattle.story_run.specs.declared.story.Story.{Story}
 use Rattle.session_core.specs.Answer.{accepted_by, answer, checks, game_show, history_extended}
@@ -66,6 +66,9 @@ counts_request stories history (Char s key n win code) x a f e =
     (next_counts stories history s _ key n (commands.Char win code) refl a f)
 counts_request stories history (File s key n name) x a f e =
     rw (sym (some_is _ x e)) (next_counts stories history s _ key n (commands.File name) refl a f)
+counts_request stories history (Size s key n cols rows) x a f e =
+    rw (sym (some_is _ x e))
+    (next_counts stories history s _ key n (commands.Size cols rows) refl a f)
 counts_request stories history (Last s key) x a f e = absurd cc
 counts_request stories history (Close s key n) x a f e =
     rw (sym (some_is _ x e)) (next_counts stories history s _ key n commands.Close refl a f)

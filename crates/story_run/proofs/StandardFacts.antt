@@ -2,7 +2,7 @@
 use Rattle.std.proofs.Common.{◌≡◌, true, false, [], ◌∷◌, map, codes, refl}
 use Rattle.std.specs.Fmt.{digits}
 use Rattle.vm_exec.specs.declared.machine.Machine.{Machine}
-use Rattle.glk_input.specs.declared.input.Input.TheVariants.{Line, Char, File}
+use Rattle.glk_input.specs.declared.input.Input.TheVariants.{Line, Char, File, Size}
 use Rattle.glk_dispatch.specs.Glk.{empty_screen}
 use Rattle.glk_dispatch.specs.declared.called.Called.{Called}
 use Rattle.glk_dispatch.specs.declared.glk.Glk.{Glk}
@@ -10,17 +10,22 @@ use Rattle.story_show.specs.Lines.{end_line}
 use Rattle.story_run.specs.Show.{initial, turn_show}
 use Rattle.story_run.specs.Solo.{stage_wants}
 use Rattle.story_run.specs.Step.{call_charged, done, faults}
-use Rattle.story_run.specs.declared.stage.Stage.TheVariants.{AtPrompt, Quit, Fault}
+use Rattle.story_run.specs.declared.stage.Stage.TheVariants.{AtPrompt, AtSelect, Quit, Fault}
+
+-- at a select each size of the screen is wanted, and no name of a file
+pub select_wants : (m : Machine) → map (stage_wants (AtSelect m) []) (Size 40 10 ∷ File [] ∷ [])
+    ≡ true ∷ false ∷ []
+select_wants m = refl
 
 -- at a prompt the name of a file is wanted, the empty one too, and nothing else
 pub prompt_wants : (m : Machine) → map (stage_wants (AtPrompt m) [])
-    (File [] ∷ File (97 ∷ []) ∷ Line 1 [] 0 ∷ Char 1 65 ∷ [])
-    ≡ true ∷ true ∷ false ∷ false ∷ []
+    (File [] ∷ File (97 ∷ []) ∷ Line 1 [] 0 ∷ Char 1 65 ∷ Size 40 10 ∷ [])
+    ≡ true ∷ true ∷ false ∷ false ∷ false ∷ []
 prompt_wants m = refl
 
 -- once over nothing is wanted
-pub over_wants : map (stage_wants Quit []) (File [] ∷ Line 1 [] 0 ∷ Char 1 65 ∷ [])
-    ≡ false ∷ false ∷ false ∷ []
+pub over_wants : map (stage_wants Quit []) (File [] ∷ Line 1 [] 0 ∷ Char 1 65 ∷ Size 40 10 ∷ [])
+    ≡ false ∷ false ∷ false ∷ false ∷ []
 over_wants = refl
 
 -- a call may read and write as many characters as there are ticks left, and no more

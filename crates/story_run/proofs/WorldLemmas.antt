@@ -2,7 +2,7 @@
 use Rattle.std.proofs.Common.{◌≡◌, ◌∙◌, ◌⊎◌, inl, inr, ℕ, subst, sym}
 use Rattle.std.proofs.Common.{Bool, true, false, refl, ap, cond, List}
 use Rattle.glk_input.specs.declared.input.Input.{Input}
-use Rattle.glk_input.specs.declared.input.Input.TheVariants.{Line, Char, File}
+use Rattle.glk_input.specs.declared.input.Input.TheVariants.{Line, Char, File, Size}
 use Rattle.glk_input.specs.declared.request.WindowInput.{WindowInput}
 use Rattle.std.proofs.Common.{[], ◌∷◌, map}
 use Rattle.glk_windows.specs.Output.{content_kept, window_kept}
@@ -45,9 +45,11 @@ awaits : (stage : Stage) (ws : List WindowInput) (input : Input)
 awaits (AtSelect m) ws (Line win text key) e = e
 awaits (AtSelect m) ws (Char win code) e = e
 awaits (AtSelect m) ws (File name) e = refl
+awaits (AtSelect m) ws (Size cols rows) e = refl
 awaits (AtPrompt m) ws (Line win text key) e = absurd cc
 awaits (AtPrompt m) ws (Char win code) e = absurd cc
 awaits (AtPrompt m) ws (File name) e = refl
+awaits (AtPrompt m) ws (Size cols rows) e = absurd cc
 awaits Quit ws input e = absurd cc
 awaits (Fault n) ws input e = absurd cc
 

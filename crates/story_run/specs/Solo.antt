@@ -2,7 +2,7 @@
 use Rattle.std.specs.Prelude.{ℕ, Bool, true, false, if◌then◌else◌, List, [], ◌∷◌}
 use Rattle.glk_input.specs.Delivery as delivery
 use Rattle.glk_input.specs.declared.input.Input.{Input}
-use Rattle.glk_input.specs.declared.input.Input.TheVariants.{Line, Char, File}
+use Rattle.glk_input.specs.declared.input.Input.TheVariants.{Line, Char, File, Size}
 use Rattle.glk_input.specs.declared.request.WindowInput.{WindowInput}
 use Rattle.glk_dispatch.specs.Glk as state
 use Rattle.glk_dispatch.specs.Glk.{empty_screen, turn_begun}
@@ -48,8 +48,10 @@ abbrev pub is_name : Input → Bool
 is_name (Line win text key) = false
 is_name (Char win code) = false
 is_name (File name) = true
+is_name (Size cols rows) = false
 
--- a story wants what its windows ask for, or at a prompt the name of a file; nothing once over
+-- a story wants what its windows ask for and each size of the screen, or at a prompt the name of a
+-- file; nothing once over
 abbrev pub stage_wants : Stage → List WindowInput → Input → Bool
 stage_wants (AtSelect m) requests input = delivery.wants requests input
 stage_wants (AtPrompt m) requests input = is_name input

@@ -59,8 +59,8 @@ impl<'i> World<'i> {
         rest(alloc, image, setup.seed, setup.budget, glk, stage)
     }
 
-    /// Whether the story waits for this input: what a window asks for, or at a prompt the name of a
-    /// file.
+    /// Whether the story waits for this input: what a window asks for or a size of the screen, or at
+    /// a prompt the name of a file.
     #[tactic(auto, unfolding(crate::specs::Solo::is_wanted))]
     pub fn wants(&self, input: &Input) -> bool
         ensures value { result ≡ is_wanted self.now input.now }

@@ -13,7 +13,7 @@ use Rattle.story_run.specs.World.{WorldState}
 use Rattle.story_run.specs.declared.stage.Stage.{Stage}
 use Rattle.story_run.specs.declared.stage.Stage.TheVariants.{AtSelect, AtPrompt, Quit, Fault}
 
--- what the session began with
+-- the seed with which the session began, its present screen, and its budget
 abbrev pub world_setup : WorldState → Setup
 world_setup w = record { seed = w.seed; cols = w.glk.cols; rows = w.glk.rows; budget = w.budget }
 

@@ -21,7 +21,10 @@ const BUDGET: u64 = 50_000_000;
 const TURNS: u32 = 99;
 
 // A journal without rows.
-const JOURNAL: [u8; 17] = *b"STHJ\x00\x00\x00\x01\x00\x00\x00\x00\x00\x00\x00\x00\x00";
+const JOURNAL: [u8; 17] = *b"STHJ\x00\x00\x00\x01\x01\x00\x00\x00\x00\x00\x00\x00\x00";
+
+// One of version 1.
+const OLDER: [u8; 17] = *b"STHJ\x00\x00\x00\x01\x00\x00\x00\x00\x00\x00\x00\x00\x00";
 
 fn bytes(alloc: Global, list: &[u8]) -> Result<Bytes, Fail> {
     Ok(Bytes::of(Vec::from_slice(alloc, list)?))
@@ -146,6 +149,26 @@ fn host_replies<R: Threads + Wait + Sync>(
         return Err("a host that ends otherwise".into());
     }
     Ok(output.bytes().to_vec(alloc)?)
+}
+
+// What tells the version of the older journal, behind so many calls of its opening.
+fn version_after(alloc: Global, calls: u8) -> Result<u8, Fail> {
+    let mut events = Vec::new(alloc);
+    for at in 0..=calls {
+        events.push(opening_event(alloc, at)?)?;
+    }
+    let host = HostState::down(alloc, &bytes(alloc, &OLDER)?)?;
+    let host = follow(alloc, &[], BUDGET, host, &events)?;
+    let version = host.journal().get(8).ok_or("a header")?;
+    Ok(*version)
+}
+
+#[test]
+fn an_older_journal_is_of_version_2_behind_the_fourth_call(rt: HostRuntime) -> Result<(), Fail> {
+    for (calls, version) in [(3, 0), (4, 1), (5, 1)] {
+        assert_eq!(rt; version_after(rt.alloc(), calls)?, version);
+    }
+    Ok(())
 }
 
 #[test]

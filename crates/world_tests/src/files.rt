@@ -12,7 +12,7 @@ use story_text::Bytes;
 const BUDGET: u64 = 50_000_000;
 
 // A journal without rows.
-const JOURNAL: [u8; 17] = *b"STHJ\x00\x00\x00\x01\x00\x00\x00\x00\x00\x00\x00\x00\x00";
+const JOURNAL: [u8; 17] = *b"STHJ\x00\x00\x00\x01\x01\x00\x00\x00\x00\x00\x00\x00\x00";
 
 // How a new snapshot file begins; 4,088 zeros follow.
 const FRONT: [u8; 8] = *b"STHS\x00\x00\x00\x01";

@@ -113,10 +113,14 @@ fn fill(file: &Option<File>, place: u64, into: &mut [u8]) -> io::Result<()> {
     Ok(())
 }
 
-// A write that puts less than was asked has failed.
+// A write that puts less than was asked has failed. Another one for the rest tells why, as that the
+// disk is full.
 fn put(file: &File, place: u64, piece: &[u8]) -> io::Result<()> {
-    if file.write_at(piece, place)? < piece.len() {
-        return Err(ErrorKind::WriteZero.into());
+    let got = file.write_at(piece, place)?;
+    if got < piece.len() {
+        file.write_at(&piece[got..], place.saturating_add(got as u64))?;
+        let message = "the system took a part of it alone";
+        return Err(io::Error::new(ErrorKind::WriteZero, message));
     }
     Ok(())
 }

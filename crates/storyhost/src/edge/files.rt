@@ -20,6 +20,7 @@ use std::env::Env;
 use std::fs::{self, File};
 use std::io::{self, Eprint, ErrorKind, Read};
 use std::net::{Net, TcpListener, TcpStream};
+use std::path::Path;
 use std::rt::Files;
 use std::time::Clock;
 
@@ -46,6 +47,8 @@ pub struct SystemFiles<'r, R> {
     tells: bool,
     /// What went wrong first.
     trouble: Option<Trouble>,
+    /// A journal that isn't there.
+    missing: Option<Trouble>,
     ghost below: { AreBelow (get_by_text loans) calls },
 }
 
@@ -65,6 +68,7 @@ impl<'r, R> SystemFiles<'r, R> {
             looks: false,
             tells,
             trouble: None,
+            missing: None,
         }
     }
 }
@@ -81,6 +85,9 @@ impl<'r, R: Files<File = File>> SystemFiles<'r, R> {
     pub fn trouble(self, alloc: Global, code: u8) -> Option<Trouble> {
         if code == Status::Refused.code() {
             return self.refusal(alloc);
+        }
+        if code == Status::BadFolder.code() {
+            return self.missing;
         }
         self.trouble.filter(|trouble| trouble.is_of(code))
     }
@@ -113,6 +120,15 @@ fn keep_name(
     // Where memory is wanting for the name it isn't told.
     if let Ok(name) = String::from_str(alloc, name) {
         keep(first, Some(Trouble::of_name(status, name, cause)));
+    }
+}
+
+/// Keeps that a journal is missing, where this is one.
+fn keep_missing(first: &mut Option<Trouble>, alloc: Global, name: &str) {
+    if Path::new(name).file_name() == Some("journal") {
+        let message = "it isn't there; `storyhost init` begins a folder";
+        let cause = io::Error::new(ErrorKind::NotFound, message);
+        keep_name(first, Status::BadFolder, alloc, name, cause);
     }
 }
 
@@ -210,6 +226,9 @@ where
                 return Err(Fetch::Failed);
             }
         };
+        if file.is_none() {
+            keep_missing(&mut self.missing, alloc, name);
+        }
         let Ok(mut disk) = FileDisk::new(alloc, self.log, name, file) else {
             return Err(Fetch::NoMemory);
         };

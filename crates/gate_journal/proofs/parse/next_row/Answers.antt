@@ -6,7 +6,7 @@ use Rattle.gate_journal.proofs.RowLemmas.{body_parts}
 use Rattle.gate_journal.proofs.parse.next_row.Goals as goal
 
 pub returns-in_default-2 : goal.returns-in_default-2
-returns-in_default-2 c rows counts at r rest next is =
+returns-in_default-2 c rows counts at r rest next in_version is =
     let past = c.args.past.now in
     let none = rw c.in_default-2.is at c.in_ok-command.ensures in
     let parts = body_parts r rest past next.stands.ranges is in

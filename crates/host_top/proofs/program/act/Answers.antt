@@ -1,5 +1,6 @@
 use Rattle.std.proofs.Common.{rules, sym, ap, ◌∙◌, Err}
 use Rattle.host_top.proofs.ToldLemmas.{does_nothing, both, left_alone}
+use Rattle.line_talk.proofs.StreamsLemmas.{wrote_none}
 use Rattle.host_top.proofs.program.act.Goals as goal
 
 pub returns-in_default-clause-value : goal.returns-in_default-clause-value
@@ -7,6 +8,9 @@ returns-in_default-clause-value g c = does_nothing _ _ _ _ _ _
 
 pub returns-in-Err-NoMemory-clause-value : goal.returns-in-Err-NoMemory-clause-value
 returns-in-Err-NoMemory-clause-value g c = does_nothing _ _ _ _ _ _
+
+pub returns-in-Err-NoMemory-clause-unsaid : goal.returns-in-Err-NoMemory-clause-unsaid
+returns-in-Err-NoMemory-clause-unsaid g c = λ once none. wrote_none _
 
 pub returns-in-Err-Refused-clause-value : goal.returns-in-Err-Refused-clause-value
 returns-in-Err-Refused-clause-value g c =

@@ -1,13 +1,17 @@
-use Rattle.std.proofs.Common.{◌∙◌, ap, map, string_bytes, sym}
+use Rattle.std.proofs.Common.{◌≡◌, ◌∙◌, [], ap, map, string_bytes, sym, true}
 use Rattle.std.specs.Option.{option_map}
 use Rattle.command_words.specs.Words.{command_asked, asked_by}
 use Rattle.host_top.proofs.CauseLemmas.{failed_six, failed_nine, coded_zero, coded_two, coded_four}
-use Rattle.host_top.proofs.CauseLemmas.{coded_five}
+use Rattle.host_top.proofs.CauseLemmas.{coded_five, coded_seven}
 use Rattle.host_top.proofs.CompleteLemmas.{completes, completes_unlisted}
 use Rattle.host_top.proofs.CompleteLemmas.{complete_no_memory}
 use Rattle.host_top.proofs.HasCauseLemmas.{cause_no_memory, has_cause}
 use Rattle.host_top.proofs.WritesLemmas.{writes_all, writes_no_memory}
 use Rattle.host_top.proofs.ToldLemmas.{tells, told_no_memory, done_no_memory}
+use Rattle.host_top.proofs.ToldLemmas.{whatever_is_asked}
+use Rattle.host_top.specs.Speech.{writes_once}
+use Rattle.line_talk.proofs.StreamsLemmas.{wrote_none}
+use Rattle.line_talk.specs.Streams.{Wrote}
 use Rattle.host_top.proofs.program.top.Goals as goal
 
 pub returns-in-Err-clause-told : goal.returns-in-Err-clause-told
@@ -85,6 +89,19 @@ returns-clause-door_fault g c =
 
 pub returns-clause-kept : goal.returns-clause-kept
 returns-clause-kept g c = c.follow-status.ensures.kept
+
+pub returns-in-Err-clause-unsaid : goal.returns-in-Err-clause-unsaid
+returns-in-Err-clause-unsaid g c =
+    let sink = g.K.Sink.sink c.args.output.now in
+    whatever_is_asked (asked_by (map string_bytes c.args.words.now))
+    (λ asked. writes_once asked.action ≡ true → c.code-in-Err.result ≡ 7 → Wrote sink sink [])
+    (λ asked once seven. wrote_none sink)
+
+pub returns-clause-unsaid : goal.returns-clause-unsaid
+returns-clause-unsaid g c =
+    let is = sym c.in-Ok-Some.ensures ∙ ap (option_map command_asked) c.in-Ok-Some.field-0-is in
+    rw is (λ once seven. c.follow-status.ensures.unsaid once
+    (coded_seven _ _ c.code-2.ensures seven))
 
 pub returns-in-Err-clause-complete : goal.returns-in-Err-clause-complete
 returns-in-Err-clause-complete g c =

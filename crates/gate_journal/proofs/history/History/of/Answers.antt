@@ -1,4 +1,4 @@
-use Rattle.std.proofs.Common.{◌≡◌, ◌∙◌, ap, List, replicate, arith}
+use Rattle.std.proofs.Common.{◌∙◌, ap, List, replicate, arith}
 use Rattle.gate_journal.specs.declared.mark.Mark.{Mark}
 use Rattle.gate_journal.specs.declared.mark.Mark.TheVariants as marks
 use Rattle.gate_journal.specs.History.{rows_woven, count_rows}

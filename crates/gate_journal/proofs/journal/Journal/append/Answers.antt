@@ -1,9 +1,8 @@
 use Rattle.std.proofs.Common.{◌≡◌, ◌+◌, ◌++◌, ◌∷◌, [], ◌∙◌, ℕ}
 use Rattle.std.proofs.Common.{refl, ap, arith, length, rules}
 use Rattle.gate_journal.specs.Rows.{row_body}
-use Rattle.gate_journal.specs.declared.row.Row.{Row}
 use Rattle.disk_model.proofs.Moments.{holds_now}
-use Rattle.gate_journal.proofs.AppendLemmas.{faulted_entry, faulted_rows, kept_rows, crash_repair}
+use Rattle.gate_journal.proofs.AppendLemmas.{faulted_rows, kept_rows, crash_repair}
 use Rattle.gate_journal.proofs.AppendLemmas.{crash_row, row_is, sound_unrepaired}
 use Rattle.gate_journal.proofs.AppendLemmas.{sound_before, sound_at_gate, sound_row}
 use Rattle.gate_journal.proofs.SinceLemmas.{since_more, asked_row, same_then}
