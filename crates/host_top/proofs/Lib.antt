@@ -10,6 +10,7 @@ pub mod CompleteLemmas
 pub mod HasCauseLemmas
 pub mod WritesLemmas
 pub mod CallsLemmas
+pub mod StoodLemmas
 pub mod StopLemmas
 pub mod OutsideLemmas
 pub mod BorrowLemmas

@@ -48,10 +48,9 @@ pub record IsInOrder {D : Type 0} (disks : DiskWords D) (asked : Asked) (outside
   pub tells : (d : D) → IsTrue (disks.tells d)
   pub folder : HasFolder disks asked.action (outside.disk (journal_in asked.folder))
 
--- no fault is counted of a disk, a door, the input or the output
+-- no fault is counted of a door, the input or the output
 pub record NoneRose {D : Type 0} (outside beyond : OutsideState D) (input now : SourceState)
     (output new : SinkState) : Type 0 where
-  pub disks : Rose outside.disk_faults beyond.disk_faults → ⊥
   pub doors : Rose outside.door_faults beyond.door_faults → ⊥
   pub reads : Rose input.faults now.faults → ⊥
   pub writes : Rose output.faults new.faults → ⊥

@@ -9,7 +9,7 @@ ghost use Rattle.command_words.specs.Words.{command_asked, asked_by};
 ghost use Rattle.host_top.specs.Speech.{tasked, writes_once};
 ghost use Rattle.host_top.specs.Stories.{stories_of};
 ghost use Rattle.host_top.specs.Follows.{DoesTask, FollowsCommand, TellsCaller};
-ghost use Rattle.host_top.specs.Calls.{AreThere, NoneIsListed};
+ghost use Rattle.host_top.specs.Calls.{AreThere, DisksStand, NoneIsListed};
 ghost use Rattle.host_top.specs.Causes.{HasCause};
 ghost use Rattle.host_top.specs.Complete.{IsInOrder, NoneRose};
 ghost use Rattle.host_top.specs.Scene.{scene};
@@ -58,6 +58,8 @@ fn act<R: Threads + Wait + Sync, O: Outside, S: Source, K: Sink>(
         → Rose (K.sink output.old).faults (K.sink output.new).faults }
     ensures unsaid { writes_once command.now.action ≡ true → result ≡ Status.NoMemory
         → Wrote (K.sink output.old) (K.sink output.new) [] }
+    ensures stood { DisksStand (O.failing_loans outside.old) (O.outside outside.old)
+        (O.outside outside.new) → ¬ (result ≡ Status.DiskFault) }
     ensures kept { (O.outside outside.new).file ≡ (O.outside outside.old).file }
 {
     let Ok(mut buffer) = vec![in alloc; 0u8; ROOM] else {
@@ -116,6 +118,8 @@ fn follow<R: Threads + Wait + Sync, O: Outside, S: Source, K: Sink>(
         → Rose (K.sink output.old).faults (K.sink output.new).faults }
     ensures unsaid { writes_once (command_asked command.entry).action ≡ true
         → result ≡ Status.NoMemory → Wrote (K.sink output.old) (K.sink output.new) [] }
+    ensures stood { DisksStand (O.failing_loans outside.old) (O.outside outside.old)
+        (O.outside outside.new) → ¬ (result ≡ Status.DiskFault) }
     ensures kept { (O.outside outside.new).file ≡ (O.outside outside.old).file }
 {
     let files = match load_files(alloc, &command.names, outside) {
@@ -181,14 +185,18 @@ pub fn top<R: Threads + Wait + Sync, O: Outside, S: Source, K: Sink>(
         IsInOrder O.Disk.Disk asked (O.outside outside.old) (S.source input.old)
         (K.sink output.old)
         → ¬ (Rose (O.outside outside.old).faults (O.outside outside.new).faults)
+        → ¬ (Rose (O.outside outside.old).disk_faults (O.outside outside.new).disk_faults)
         → NoneRose (O.outside outside.old) (O.outside outside.new) (S.source input.old)
         (S.source input.new) (K.sink output.old) (K.sink output.new)
         → (result ≡ 0) ⊎ (result ≡ 7)) }
-    // and so it does where no load is to fail: it makes none of its own that does
+    // and so it does where no load is to fail and no call for a disk, none of these is out, and each
+    // stands: it makes no load or call of its own that fails
     ensures unprovoked { IfSome (asked_by (map string_bytes words.now)) (λ asked.
         IsInOrder O.Disk.Disk asked (O.outside outside.old) (S.source input.old)
         (K.sink output.old)
         → NoneIsListed (O.failing_loads outside.old)
+        → ¬ (Rose (O.outside outside.old).disk_faults (O.outside outside.new).disk_faults)
+        ⊎ DisksStand (O.failing_loans outside.old) (O.outside outside.old) (O.outside outside.new)
         → NoneRose (O.outside outside.old) (O.outside outside.new) (S.source input.old)
         (S.source input.new) (K.sink output.old) (K.sink output.new)
         → (result ≡ 0) ⊎ (result ≡ 7)) }
