@@ -2,6 +2,7 @@
 use Rattle.std.proofs.Common.{◌≡◌, ◌∙◌, ℕ, ◌<◌, Bool, true, false, List, [], ◌∷◌, Option, None}
 use Rattle.std.proofs.Common.{Some, IsSomeAnd, Result, Err, IsErrOf, refl, sym, ap, subst, arith}
 use Rattle.std.proofs.Common.{inl, inr}
+use Rattle.std.proofs.lemmas.Option.{same_Some}
 use Rattle.std.proofs.lemmas.Slice.Eq.{bytes_eq-Decides}
 use Rattle.std.specs.Option.{option_map}
 use Rattle.std.specs.Str.{bytes_eq}
@@ -12,17 +13,19 @@ use Rattle.line_talk.specs.Streams.{SourceState, SinkState}
 use Rattle.story_run.specs.declared.story.Story.{Story}
 use Rattle.turn_cell.specs.History.{Each}
 use Rattle.turn_cell.proofs.HistoryLemmas.{each_map}
-use Rattle.host_top.specs.Begun.{InitsFolder, InitsOver, TriesStores}
-use Rattle.host_top.specs.Borrowed.{HasFailed, IsLending, Lending, loan_by}
+use Rattle.host_top.specs.Begun.{InitsOver}
+use Rattle.host_top.specs.Borrowed.{HasFailed, IsLending, Lending, journal_in, loan_by}
+use Rattle.host_top.specs.Borrowed.{snaps_below}
 use Rattle.host_top.specs.Calls.{DisksStand, NoneFailed, NoneIsListed, NoneIsOut}
 use Rattle.host_top.specs.DoorServed.{OfDoor}
-use Rattle.host_top.specs.Files.{IsLent, KeepsDisks, Lends, OutsideState, TakesDiskBack, is_out}
+use Rattle.host_top.specs.Files.{KeepsDisks, Lends, OutsideState, TakesDiskBack, is_out}
 use Rattle.host_top.specs.Files.{returned}
-use Rattle.host_top.specs.Folder.{TakesDisks}
+use Rattle.host_top.specs.Folder.{TakesDisks, folder_back}
+use Rattle.host_top.specs.declared.folder.Back.{Back}
 use Rattle.host_top.specs.Headline.{Speech}
 use Rattle.host_top.specs.LinksServed.{ServesOver}
 use Rattle.host_top.specs.Piped.{PipesOver}
-use Rattle.host_top.specs.Replayed.{ReplaysFolder, ReplaysOver}
+use Rattle.host_top.specs.Replayed.{ReplaysFolder, ReplaysOver, journal_lent}
 use Rattle.host_top.specs.Spoken.{Spoken}
 use Rattle.host_top.specs.Status.{status_of_fetch}
 use Rattle.host_top.specs.declared.loan.Loan.{Loan}
@@ -30,7 +33,7 @@ use Rattle.host_top.specs.declared.outside.Fetch.{Fetch}
 use Rattle.host_top.specs.declared.outside.Fetch.TheVariants as fetch
 use Rattle.host_top.specs.declared.status.Status.{Status}
 use Rattle.host_top.specs.declared.status.Status.TheVariants.{DiskFault}
-use Rattle.host_top.proofs.BorrowLemmas.{elsewhere, there}
+use Rattle.host_top.proofs.BorrowLemmas.{elsewhere, lent_loan, same_name, there}
 use Rattle.host_top.proofs.CauseLemmas.{links_failed, no_line, pipe_failed, refusal_failed}
 use Rattle.host_top.proofs.CauseLemmas.{replayed_failed}
 
@@ -54,6 +57,15 @@ module _ {D : Type 0} (disks : DiskWords D) where
       each_map (IsLending disks a b) (λ l. HasFailed disks l → ⊥) ls
       (λ l is. back_stood b.loan l none is.loan l.back refl) each
 
+  taken_stood : (folder : List ℕ) (P : D → List D → Back D → Type 0) (a b : OutsideState D)
+      (t : TakesDisks disks folder P a b) → NoneFailed b.loan
+      → Each (λ l. HasFailed disks l → ⊥)
+      (folder_back (journal_in folder) (snaps_below folder 64) t.given t.givens t.back)
+  taken_stood folder P a b t none =
+      each_stood a b
+      (folder_back (journal_in folder) (snaps_below folder 64) t.given t.givens t.back) none
+      t.borrowed.each
+
   -- so neither `pipe` nor `serve` ends by a disk
   pub pipe_stood : {stories : List Story} {budget : ℕ} (folder : List ℕ)
       (outside beyond : OutsideState D) {input now : SourceState} (output new : SinkState)
@@ -68,7 +80,7 @@ module _ {D : Type 0} (disks : DiskWords D) where
       subst (λ (s : Status). TakesDisks disks folder
       (λ given givens b. PipesOver disks stories budget given givens b input now output new s)
       outside beyond) is taken in
-      (pipe_failed disks folder ⊥ output new t (each_stood outside beyond _ none t.borrowed.each)).0
+      (pipe_failed disks folder ⊥ output new t (taken_stood folder _ outside beyond t none)).0
 
   pub links_stood : {OnDoor : OfDoor D} {stories : List Story} {budget workers : ℕ}
       (folder : List ℕ) (outside beyond : OutsideState D) {input now : SourceState}
@@ -83,7 +95,7 @@ module _ {D : Type 0} (disks : DiskWords D) where
       subst (λ (s : Status). TakesDisks disks folder
       (λ given givens b. ServesOver disks OnDoor stories budget workers given givens b input now
       output new s) outside beyond) is taken in
-      (links_failed disks folder ⊥ output new t (each_stood outside beyond _ none t.borrowed.each)).0
+      (links_failed disks folder ⊥ output new t (taken_stood folder _ outside beyond t none)).0
 
   -- nor does `replay`
   pub replay_stood : (stories : List Story) (folder : List ℕ) (outside beyond : OutsideState D)
@@ -93,7 +105,7 @@ module _ {D : Type 0} (disks : DiskWords D) where
   replay_stood stories folder outside beyond output new status r none is =
       (replayed_failed disks stories ⊥ output new
       (subst (λ (s : Status). ReplaysOver disks stories r.given r.back output new s) is r.replays)
-      (each_stood outside beyond _ none r.borrowed.each).0).0
+      (each_stood outside beyond (journal_lent folder r.given r.back) none r.borrowed.each).0).0
 
   -- ---- a store's disk is lent, and put back
 
@@ -111,47 +123,53 @@ module _ {D : Type 0} (disks : DiskWords D) where
       of : (here : Bool) → bytes_eq second other ≡ here → is_out (c.loan other) ≡ false
       of true here =
           ap is_out (takes.loans other ∙ there (bytes_eq second other) _ (b.loan other) here)
-          ∙ out_no_more (disks.faults back) (b.loan other)
+          ∙ out_no_more (disks.faults back) (b.loan second)
       of false away =
           ap is_out (takes.loans other ∙ elsewhere (bytes_eq second other) _ (b.loan other) away
           ∙ lends.loans other ∙ elsewhere (bytes_eq first other) _ (a.loan other)
           (ap (λ (n : List ℕ). bytes_eq n other) (is ∙ sym again) ∙ away)) ∙ out
 
-  -- the store's disk failed: one that came back did
-  pub store_stood : (names : List (List ℕ)) (a c : OutsideState D)
-      (tried : TriesStores disks names a c)
-      → NoneFailed c.loan → Each (λ l. HasFailed disks l → ⊥) tried.stores
-  store_stood names a c tried none = each_stood a c tried.stores none tried.borrowed.each
+  -- ---- a disk that is out is put back
 
-  -- ---- the journal's disk is put back behind the stores'
+  lent_no_more : (k l : Loan) (to : ℕ) → Some k ≡ Some l → k.to ≡ None → l.to ≡ Some to → ⊥
+  lent_no_more k l to same out is =
+      grind (arith, out, ap (λ (x : Loan). x.to) (same_Some k l same), is)
 
-  lent_no_more : (loan : Option Loan) (label : ℕ) (l : Loan) (to : ℕ) → IsLent loan label
-      → loan ≡ Some l → l.to ≡ Some to → ⊥
-  lent_no_more None label l to lent is back = lent
-  lent_no_more (Some k) label l to lent is back =
-      grind (arith, lent.1, ap (λ (o : Option Loan). option_map (λ (x : Loan). x.to) o) is, back)
-
-  -- none failed before it was put back, either
-  pub none_before : (name : List ℕ) (back : D) (label : ℕ) (b c : OutsideState D)
-      → TakesDiskBack disks.faults name back b c → IsLent (b.loan name) label
-      → NoneFailed c.loan → NoneFailed b.loan
-  none_before name back label b c takes lent none other l to at is rose =
-      of (bytes_eq name other) refl
+  -- none failed before it was, and it didn't fail
+  pub put_back_stood : (name : List ℕ) (given back : D) (b c : OutsideState D)
+      → b.loan name ≡ Some (loan_by disks (record { name = name; given = given; back = None }))
+      → TakesDiskBack disks.faults name back b c → NoneFailed c.loan
+      → NoneFailed b.loan × (Rose (disks.faults given) (disks.faults back) → ⊥)
+  put_back_stood name given back b c out takes none = (before, itself)
     where
-      of : (here : Bool) → bytes_eq name other ≡ here → ⊥
-      of true here =
-          lent_no_more (b.loan name) label l to lent
-          (ap b.loan ((bytes_eq-Decides name other).0 here) ∙ at) is
-      of false away =
-          none other l to (takes.loans other
-          ∙ elsewhere (bytes_eq name other) _ (b.loan other) away ∙ at) is rose
+      itself : Rose (disks.faults given) (disks.faults back) → ⊥
+      itself rose =
+          none name
+          (loan_by disks (record { name = name; given = given; back = Some back }))
+          (disks.faults back)
+          (takes.loans name ∙ there (bytes_eq name name) _ (b.loan name) (same_name name)
+          ∙ ap (returned (disks.faults back)) out) refl rose
 
-  pub init_stood : {folder : List ℕ} (outside beyond : OutsideState D)
-      {input now : SourceState} {output new : SinkState} {status : Status}
-      (i : InitsFolder disks folder outside beyond input now output new status)
-      → NoneFailed beyond.loan → Rose (disks.faults i.given) (disks.faults i.back) → ⊥
-  init_stood outside beyond i none rose =
-      (each_stood outside beyond _ none i.inits.borrowed.each).0 rose
+      before : NoneFailed b.loan
+      before other l to at is rose = of (bytes_eq name other) refl
+        where
+          of : (here : Bool) → bytes_eq name other ≡ here → ⊥
+          of true here =
+              lent_no_more
+              (loan_by disks (record { name = name; given = given; back = None })) l to
+              (sym out ∙ ap b.loan ((bytes_eq-Decides name other).0 here) ∙ at) refl is
+          of false away =
+              none other l to (takes.loans other
+              ∙ elsewhere (bytes_eq name other) _ (b.loan other) away ∙ at) is rose
+
+  -- so it is with the disk of a store
+  pub store_stood : (first second : List ℕ) (given back : D) (a b c : OutsideState D)
+      → first ≡ second → Lends disks.label disks.faults first given a b
+      → TakesDiskBack disks.faults second back b c → NoneFailed c.loan
+      → Rose (disks.faults given) (disks.faults back) → ⊥
+  store_stood first second given back a b c same lends takes none =
+      (put_back_stood first given back b c (lent_loan disks first given a b lends)
+      (subst (λ (n : List ℕ). TakesDiskBack disks.faults n back b c) (sym same) takes) none).1
 
   -- the journal wasn't begun, since its disk failed
   pub begin_failed : (given mid back : D) (output new : SinkState) (status : Status)

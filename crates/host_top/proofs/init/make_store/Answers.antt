@@ -1,4 +1,4 @@
-use Rattle.std.proofs.Common.{◌∙◌, [], ◌∷◌, ap, refl, rules}
+use Rattle.std.proofs.Common.{◌∙◌, [], ◌∷◌, ap, refl, rules, sym}
 use Rattle.host_top.specs.Borrowed.{snap_in}
 use Rattle.host_top.proofs.InitLemmas.{no_stores, store_made, store_tried}
 use Rattle.host_top.proofs.CallsLemmas.{fails_by_cause, no_failure, none_still}
@@ -59,7 +59,10 @@ returns-in_err-disk-clause-stood g c = λ none out stood.
 
 pub returns-clause-stood : goal.returns-clause-stood
 returns-clause-stood g c = λ none out stood failed.
-    (store_stood g.O.Disk.Disk _ _ _ (returns-clause-err g c) stood).0 c.in-Err.ensures.cause.rose
+    store_stood g.O.Disk.Disk c.deref.result.now c.deref-2.result.now c.in_ok-disk.disk _ _ _ _
+    (c.deref.ensures ∙ c.in-Ok.ensures ∙ sym (c.deref-2.ensures ∙ c.in-Ok.ensures))
+    c.in_ok-disk.ensures.ok c.put_back.ensures.back stood
+    (search (rules))
 
 pub returns-in_err-disk-clause-listed : goal.returns-in_err-disk-clause-listed
 returns-in_err-disk-clause-listed g c =
@@ -67,11 +70,11 @@ returns-in_err-disk-clause-listed g c =
 
 pub returns-clause-listed : goal.returns-clause-listed
 returns-clause-listed g c =
-    λ none. rw c.put_back.ensures.others.1.0 (none_still _ _ _ _ none c.in_ok-disk.ensures.listed)
+    λ none. rw c.put_back.ensures.others.1 (none_still _ _ _ _ none c.in_ok-disk.ensures.listed)
 
 pub returns-in-Ok-made-clause-listed : goal.returns-in-Ok-made-clause-listed
 returns-in-Ok-made-clause-listed g c =
-    λ none. rw c.put_back.ensures.others.1.0 (none_still _ _ _ _ none c.in_ok-disk.ensures.listed)
+    λ none. rw c.put_back.ensures.others.1 (none_still _ _ _ _ none c.in_ok-disk.ensures.listed)
 
 pub returns-in_err-disk-clause-back : goal.returns-in_err-disk-clause-back
 returns-in_err-disk-clause-back g c =

@@ -49,4 +49,4 @@ returns-in-Ok-clause-listed g c = λ none. none_still _ _ _ _ none c.in_ok-disk.
 
 pub returns-in-Err-clause-listed : goal.returns-in-Err-clause-listed
 returns-in-Err-clause-listed g c =
-    λ none. rw c.put_back.ensures.others.1.0 (none_still _ _ _ _ none c.in_ok-disk.ensures.listed)
+    λ none. rw c.put_back.ensures.others.1 (none_still _ _ _ _ none c.in_ok-disk.ensures.listed)

@@ -1,4 +1,4 @@
-use Rattle.std.proofs.Common.{inl, inr, ◌∙◌, refl, rules, [], ◌∷◌}
+use Rattle.std.proofs.Common.{inl, inr, ◌∙◌, refl, rules, sym, [], ◌∷◌}
 use Rattle.host_top.specs.Borrowed.{journal_in}
 use Rattle.host_top.proofs.BegunLemmas.{fetch_cause, no_folder}
 use Rattle.host_top.proofs.ReplayLemmas.{folder_replayed, journal_is_lent}
@@ -37,8 +37,8 @@ returns-in-Err-clause-stood g c = λ stand.
     let same = c.only_look.ensures.value in
     fetch_stood {T = g.row.O-Disk.Denot} c.in-Err.why _ c.of_fetch.ensures
     (no_failure g.row.O-Disk.Denot _ _
-    (fails_by_cause _ _ _ _ (rw ← c.only_look.ensures.others.1.0 at stand.unlisted)
-    c.in-Err.ensures.listed ∙ (rw ← same at stand.none_out) _)
+    (fails_by_cause _ _ _ _ (rw (sym c.only_look.ensures.others.1) at stand.unlisted)
+    c.in-Err.ensures.listed ∙ (rw (sym same) at stand.none_out) _)
     (λ e. search (rules)))
 
 pub returns-clause-stood : goal.returns-clause-stood
