@@ -1,0 +1,6 @@
+pub mod CallLemmas
+pub mod CommandLemmas
+pub mod LiveLemmas
+pub mod ImageLemmas
+pub mod PlainLemmas
+pub mod PlaceLemmas
