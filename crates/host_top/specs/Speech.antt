@@ -71,6 +71,7 @@ writes_once Init = true
 writes_once Pipe = false
 writes_once (Serve serving) = false
 writes_once Replay = false
+writes_once Pack = true
 writes_once (Drill number) = true
 writes_once (Help topic) = true
 writes_once Version = true

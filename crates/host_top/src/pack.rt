@@ -1,5 +1,5 @@
 //! The command `pack`, which begins a folder with the games of another one that are in use.
-ghost use Rattle.std.specs.Prelude.{◌≡◌, IfOk, List, false, string_bytes};
+ghost use Rattle.std.specs.Prelude.{◌≡◌, [], IfOk, List, false, string_bytes};
 ghost use Rattle.std.specs.Str.{bytes_eq};
 ghost use Rattle.disk_model.specs.Disk.{SameDisk};
 ghost use Rattle.host_top.specs.Borrowed.{Lending};
@@ -7,7 +7,7 @@ ghost use Rattle.host_top.specs.Files.{KeepsDoors, KeepsFiles};
 ghost use Rattle.host_top.specs.Packed.{Packs, PacksNew, PacksOn, PacksOver, SaysPackFault};
 ghost use Rattle.host_top.specs.Packed.{packed_line};
 ghost use Rattle.line_talk.specs.Causes.{Rose};
-ghost use Rattle.line_talk.specs.Streams.{SourceState};
+ghost use Rattle.line_talk.specs.Streams.{SourceState, Wrote};
 
 use crate::folder::journal_name;
 use crate::init::{is_empty, make_stores};
@@ -32,6 +32,8 @@ fn say_pack_fault<K: Sink>(alloc: Global, fault: PackFault, output: &mut K) -> S
     ensures value { SaysPackFault fault (K.sink output.old) (K.sink output.new) result }
     ensures write_fault { result ≡ Status.WriteFault
         → Rose (K.sink output.old).faults (K.sink output.new).faults }
+    ensures unsaid { result ≡ Status.NoMemory
+        → Wrote (K.sink output.old) (K.sink output.new) [] }
     ensures read_fault { ¬ (result ≡ Status.ReadFault) }
 {
     match fault {
@@ -55,6 +57,8 @@ fn pack_over<D: Disk, K: Sink>(alloc: Global, old: &mut D, new: &mut D, output: 
     ensures read_fault { ¬ (result ≡ Status.ReadFault) }
     ensures write_fault { result ≡ Status.WriteFault
         → Rose (K.sink output.old).faults (K.sink output.new).faults }
+    ensures unsaid { result ≡ Status.NoMemory
+        → Wrote (K.sink output.old) (K.sink output.new) [] }
 {
     let packed = match pack(alloc, old, new) {
         Ok(packed) => packed,
@@ -88,6 +92,8 @@ fn pack_all<O: Outside, K: Sink>(
     ensures read_fault { ¬ (result ≡ Status.ReadFault) }
     ensures write_fault { result ≡ Status.WriteFault
         → Rose (K.sink output.old).faults (K.sink output.new).faults }
+    ensures unsaid { result ≡ Status.NoMemory
+        → Wrote (K.sink output.old) (K.sink output.new) [] }
     ensures files { KeepsFiles (O.outside outside.old) (O.outside outside.new) }
     ensures doors { KeepsDoors (O.outside outside.old) (O.outside outside.new) }
 {
@@ -116,6 +122,8 @@ fn pack_into<O: Outside, K: Sink>(
     ensures read_fault { ¬ (result ≡ Status.ReadFault) }
     ensures write_fault { result ≡ Status.WriteFault
         → Rose (K.sink output.old).faults (K.sink output.new).faults }
+    ensures unsaid { result ≡ Status.NoMemory
+        → Wrote (K.sink output.old) (K.sink output.new) [] }
     ensures files { KeepsFiles (O.outside outside.old) (O.outside outside.new) }
     ensures doors { KeepsDoors (O.outside outside.old) (O.outside outside.new) }
 {
@@ -146,6 +154,8 @@ pub fn pack_folder<O: Outside, K: Sink>(
     ensures read_fault { ¬ (result ≡ Status.ReadFault) }
     ensures write_fault { result ≡ Status.WriteFault
         → Rose (K.sink output.old).faults (K.sink output.new).faults }
+    ensures unsaid { result ≡ Status.NoMemory
+        → Wrote (K.sink output.old) (K.sink output.new) [] }
     ensures files { KeepsFiles (O.outside outside.old) (O.outside outside.new) }
     ensures doors { KeepsDoors (O.outside outside.old) (O.outside outside.new) }
 {

@@ -10,26 +10,28 @@ use Rattle.std.proofs.lemmas.Bool.Decides.{Decides-eqb}
 use Rattle.std.proofs.lemmas.Slice.Eq.{starts_is}
 use Rattle.std.proofs.lemmas.List.{append-nil, length-drop, nil_from_length, get_or-append_right}
 use Rattle.disk_model.specs.Disk.{Holds, Torn, file_written}
-use Rattle.disk_model.proofs.Torn.{holds_both}
+use Rattle.disk_model.proofs.Torn.{holds_both, holds_front}
 use Rattle.gate_journal.specs.declared.row.Row.{Row}
-use Rattle.gate_journal.specs.Gate.{IsShut}
-use Rattle.gate_journal.specs.Rows.{journal_header, journal_bytes, rows_behind_open_gates, IsJournal}
-use Rattle.gate_journal.specs.Rows.{HasNoHeader}
-use Rattle.gate_journal.proofs.RowLemmas.{front_of, spells_shut, shut_zero}
+use Rattle.gate_journal.specs.Rows.{journal_header, rows_behind_open_gates, IsJournal}
+use Rattle.gate_journal.specs.Rows.{header_with, version_byte, HasNoHeader}
+use Rattle.gate_journal.proofs.RowLemmas.{holds_all}
 use Rattle.gate_journal.proofs.CorruptLemmas.{corrupt_end, no_header}
+use Rattle.gate_journal.proofs.VersionLemmas.{are_second}
 use Rattle.journal_pack.specs.Laws.{IsSpelled}
 use Rattle.journal_pack.specs.Live.{packed}
 use Rattle.journal_pack.proofs.LiveLemmas.{live_journal}
-use Rattle.journal_pack.specs.Images.{IsRefused, NoneOrAll, SpellsClosed, blank, closed_journal}
+use Rattle.journal_pack.proofs.VersionLemmas.{closed, in_any_version}
+use Rattle.journal_pack.specs.Images.{IsRefused, NoneOrAll, blank, closed_journal}
 
--- the header, or it isn't there
-has_header : (c : List ℕ) → (c ≡ journal_header ++ drop 16 c) ⊎ HasNoHeader c
-has_header c = elim (cases_Bool (starts_with nat_eq c journal_header)) [
-  | inr other ↦ inr (no_header c other)
-  | inl begins ↦ inl ((starts_is Decides-eqb c journal_header true (sym begins)).0 refl)
+-- a header, or there is none
+has_header : (c : List ℕ) → (c ≡ header_with (version_byte c) ++ drop 16 c) ⊎ HasNoHeader c
+has_header c = elim (cases_Bool (starts_with nat_eq c (header_with (version_byte c)))) [
+  | inr other ↦ inr (no_header (version_byte c) c other)
+  | inl begins ↦
+      inl ((starts_is Decides-eqb c (header_with (version_byte c)) true (sym begins)).0 refl)
 ]
 
--- Bytes that end with their first 16 are no journal: where these are the header the first gate is
+-- Bytes that end with their first 16 are no journal: where these are a header the first gate is
 -- missing.
 pub short_refused : (c : List ℕ) → length c ≤ 16 → IsRefused c
 short_refused c le = elim (has_header c) [
@@ -39,7 +41,8 @@ short_refused c le = elim (has_header c) [
       nil_from_length (drop 16 c) (omega (arith, length-drop 16 c, le)) in
       inr (
         16,
-        corrupt_end [] c 16 tt (begins ∙ ap (λ (l : List ℕ). journal_header ++ l) rest) refl,
+        corrupt_end (version_byte c) [] c 16 tt tt
+            (begins ∙ ap (λ (l : List ℕ). header_with (version_byte c) ++ l) rest) refl,
       )
 ]
 
@@ -83,39 +86,36 @@ whole rows body bytes =
     ap (λ (l : List ℕ). journal_header ++ l) bytes
     ∙ sym (append_assoc journal_header (rows_behind_open_gates rows) (0 ∷ []))
 
-module _ (rows : List Row) (all : IsJournal rows) (body : List ℕ)
-    (bytes : body ≡ rows_behind_open_gates rows ++ 0 ∷ []) where
-  pub closed : (c : List ℕ) → IsShut (journal_bytes rows) c → SpellsClosed rows c
-  closed c shut = record {
-    spells = spells_shut rows c all shut;
-    gate = shut_zero (journal_bytes rows) c shut;
-  }
-
-  -- or in part
-  pub third_torn : (c d : List ℕ) → d ≡ blank ++ body → Torn 0 16 d c → NoneOrAll rows c
-  third_torn c d is torn = elim (has_header c) [
-    | inr none ↦ inl (inl none)
-    | inl begins ↦
-        let size : length d ≡ 16 + length body = omega (arith, ap length is) in
-        let header : Holds c 0 journal_header = front_of [] c (drop 16 c) begins in
-        let behind : Holds c 16 body = record {
-          within = omega (arith, torn.no_shorter, size);
-          each = λ i lt.
-              torn.above (16 + i) (omega (arith, size, lt)) (omega arith)
-              ∙ ap (λ (l : List ℕ). get_or l (16 + i) 0) is
-              ∙ get_or-append_right blank body 16 (16 + i) 0 refl (omega arith)
-              ∙ ap (λ (k : ℕ). get_or body k 0) (omega arith);
-        } in
-        inr (closed c
-        (subst (λ (l : List ℕ). Holds c 0 l) (whole rows body bytes)
-        (holds_both {p = 0} journal_header body (omega arith) header behind)))
-  ]
+-- or in part: whatever version the header then tells
+pub third_torn : (rows : List Row) → IsJournal rows → (body : List ℕ)
+    → body ≡ rows_behind_open_gates rows ++ 0 ∷ []
+    → (c d : List ℕ) → d ≡ blank ++ body → Torn 0 16 d c → NoneOrAll rows c
+third_torn rows all body bytes c d is torn = elim (has_header c) [
+  | inr none ↦ inl (inl none)
+  | inl begins ↦
+      let v = version_byte c in
+      let size : length d ≡ 16 + length body = omega (arith, ap length is) in
+      let header : Holds c 0 (header_with v) =
+      holds_front (header_with v) (drop 16 c)
+      (subst (λ (l : List ℕ). Holds c 0 l) begins (holds_all c)) in
+      let behind : Holds c 16 body = record {
+        within = omega (arith, torn.no_shorter, size);
+        each = λ i lt.
+            torn.above (16 + i) (omega (arith, size, lt)) (omega arith)
+            ∙ ap (λ (l : List ℕ). get_or l (16 + i) 0) is
+            ∙ get_or-append_right blank body 16 (16 + i) 0 refl (omega arith)
+            ∙ ap (λ (k : ℕ). get_or body k 0) (omega arith);
+      } in
+      in_any_version rows c all
+      (subst (λ (l : List ℕ). Holds c 0 l) (ap (λ (l : List ℕ). header_with v ++ l) bytes)
+      (holds_both {p = 0} (header_with v) body (omega arith) header behind))
+]
 
 -- a packed journal as it is written
 pub packed_spells : IsSpelled
 packed_spells rows all =
-    closed (packed rows) (live_journal rows all)
-    (rows_behind_open_gates (packed rows) ++ 0 ∷ []) refl (closed_journal (packed rows))
+    closed (packed rows) (closed_journal (packed rows)) (live_journal rows all)
+    (are_second (packed rows))
     (record {
       within = omega arith;
       each = λ i lt. ap (λ (k : ℕ). get_or (closed_journal (packed rows)) k 0) (omega arith);

@@ -12,8 +12,8 @@ use disk_model::{Disk, Failed, write_through};
 use gate_journal::{Row, row_bytes};
 use std::alloc::{AllocError, Global};
 
-/// What a packed journal begins with: the header of version 1.
-const HEADER: [u8; 16] = [83, 84, 72, 74, 0, 0, 0, 1, 0, 0, 0, 0, 0, 0, 0, 0];
+/// What a packed journal begins with: the header of version 2.
+const HEADER: [u8; 16] = [83, 84, 72, 74, 0, 0, 0, 1, 1, 0, 0, 0, 0, 0, 0, 0];
 
 /// What stands behind the header of a journal of these rows: each behind an open gate, and a closed
 /// gate.
