@@ -126,7 +126,6 @@ SpellsPlay bytes (plays.Char win code) =
     × (bytes ≡ codes "CHAR" ++ (number_field win ++ number_field code))
 SpellsPlay bytes (plays.File name) =
     (word : List ℕ) × texts.WordSpells word name × (bytes ≡ codes "FILE" ++ field word)
-
 SpellsPlay bytes (plays.Size cols rows) =
     IsScreen cols rows × (bytes ≡ codes "SIZE" ++ screen_fields cols rows)
 

@@ -59,12 +59,10 @@ pub fn aside<'i>(command: &Command, held: Held<'i>) -> Held<'i>
 {
     match command {
         Command::Open { .. } | Command::Close => Held::Nothing,
-        Command::Line { .. }
-        | Command::Char { .. }
-        | Command::File { .. }
-        | Command::Size { .. } => match held {
-            Held::Current(world) => Held::Previous(world),
-            Held::Nothing | Held::Previous(_) => Held::Nothing,
-        },
+        Command::Line { .. } | Command::Char { .. } | Command::File { .. } | Command::Size { .. } =>
+            match held {
+                Held::Current(world) => Held::Previous(world),
+                Held::Nothing | Held::Previous(_) => Held::Nothing,
+            },
     }
 }

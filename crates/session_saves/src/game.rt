@@ -46,10 +46,8 @@ fn is_input(command: &Command) -> bool
     ensures { result ≡ is_some (input_of command.now) }
 {
     match command {
-        Command::Line { .. }
-        | Command::Char { .. }
-        | Command::File { .. }
-        | Command::Size { .. } => true,
+        Command::Line { .. } | Command::Char { .. } | Command::File { .. } | Command::Size { .. } =>
+            true,
         Command::Open { .. } | Command::Close => false,
     }
 }
