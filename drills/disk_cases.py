@@ -109,6 +109,11 @@ HEADER = bytes.fromhex("5354484A0000000101") + bytes(7)
 GATE, VERSION = 76, 8
 
 
+def has_header(held):
+    """Whether bytes begin with a header of either version."""
+    return held.part(0, VERSION) + held.part(VERSION + 1, 7) == HEADER[:VERSION] + HEADER[VERSION + 1 :]
+
+
 def row_of(command):
     """A row without its gate."""
     session, kind, words = command
@@ -203,7 +208,7 @@ def answer(journal, line):
 
 def host(disk, lines):
     """The status and the replies of a host over a disk."""
-    if disk.seen.part(0, 16) != HEADER:
+    if not has_header(disk.seen):
         return "8"
     try:
         journal = Journal(disk)
@@ -296,7 +301,7 @@ def pack_case(work, fails, choice):
     images = [held_of(Image(disk, choice)) for disk in (new, old)]
     for image in images:
         told.append(f"{host(Disk(image), [LAST, OTHER_LAST])}, {image.length} bytes")
-    if images[0].part(0, 16) != HEADER:
+    if not has_header(images[0]):
         return "; ".join(told), None
     rows = rows_in(images[0])[0]
     return "; ".join(told), tuple(sum(row[0] == session for row in rows) for session in (0, 1))
