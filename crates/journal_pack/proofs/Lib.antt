@@ -1,6 +1,7 @@
 pub mod CallLemmas
 pub mod CommandLemmas
 pub mod LiveLemmas
+pub mod KeptLemmas
 pub mod VersionLemmas
 pub mod ImageLemmas
 pub mod PlainLemmas

@@ -14,7 +14,7 @@ ghost use Rattle.journal_pack.specs.Images.{IsRefused, NoneOrAll, closed_journal
 ghost use Rattle.journal_pack.specs.Live.{live_rows, packed, AreRowsOf};
 
 use crate::fault::{PackFault, Packed};
-use crate::kept::live;
+use crate::kept::live_among;
 use crate::written::{bytes_behind_header, write_whole};
 use disk_model::Disk;
 use gate_journal::{DiskFault, JournalFault, scan};
@@ -47,8 +47,7 @@ fn find<D: Disk>(alloc: Global, old: &mut D) -> Result<Found, JournalFault>
 {
     let rows = scan(alloc, old)?;
     let all = rows.len() as u64;
-    let kept = live(alloc, &rows)?;
-    drop(rows);
+    let kept = live_among(alloc, rows)?;
     let body = bytes_behind_header(alloc, &kept)?;
     let packed = Packed {
         kept: kept.len() as u64,

@@ -15,17 +15,16 @@ kept_plain rows spelled kept is live = live ∙ ap live_rows is ∙ plain_rows s
 pub bytes_behind_header-requires : goal.bytes_behind_header-requires
 bytes_behind_header-requires g c =
     let found = c.in_ok-rows.ensures.ok in
-    let rows : c.deref.result.now ≡ map unnumbered found.0 = c.deref.ensures.value ∙ found.2 in
     subst (λ (l : List Row). HaveRanges l)
-    (sym (c.deref-2.ensures.value ∙ c.in_ok-kept.ensures ∙ ap live_rows rows))
+    (sym (c.deref.ensures.value ∙ c.in_ok-kept.ensures ∙ ap live_rows found.2))
     (plain_ranges found.0 found.1)
 
 pub returns-clause-ok : goal.returns-clause-ok
 returns-clause-ok g c =
     let found = c.in_ok-rows.ensures.ok in
-    let rows : c.deref.result.now ≡ map unnumbered found.0 = c.deref.ensures.value ∙ found.2 in
     let kept =
-    kept_plain c.deref.result.now found.0 c.in_ok-kept.kept.items rows c.in_ok-kept.ensures in
+    kept_plain c.in_ok-rows.rows.items found.0 c.in_ok-kept.kept.items found.2
+    c.in_ok-kept.ensures in
     let kept_many : vec_len c.in_ok-kept.kept ≡ length c.in_ok-kept.kept.items =
     omega (arith, c.in_ok-kept.kept.ok.0) in
     let rows_many : vec_len c.in_ok-rows.rows ≡ length c.in_ok-rows.rows.items =
@@ -39,6 +38,6 @@ returns-clause-ok g c =
             ∙ plain_length found.0,
       ),
       c.in_ok-body.ensures
-          ∙ ap (λ (l : List Row). rows_behind_open_gates l ++ 0 ∷ []) (c.deref-2.ensures.value ∙ kept)
+          ∙ ap (λ (l : List Row). rows_behind_open_gates l ++ 0 ∷ []) (c.deref.ensures.value ∙ kept)
           ∙ ap (λ (l : List ℕ). l ++ 0 ∷ []) (plain_bytes (live_rows found.0)),
     )
