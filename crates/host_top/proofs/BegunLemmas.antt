@@ -24,7 +24,7 @@ use Rattle.host_top.specs.declared.outside.Fetch.{Fetch}
 use Rattle.host_top.specs.declared.outside.Fetch.TheVariants as fetch
 use Rattle.host_top.specs.declared.status.Status.{Status}
 use Rattle.host_top.specs.declared.status.Status.TheVariants as ends
-use Rattle.host_top.proofs.BorrowLemmas.{lent_loan}
+use Rattle.host_top.proofs.BorrowLemmas.{out_still}
 use Rattle.host_top.proofs.LoansLemmas.{counts_one, counts_out, lent_nothing}
 use Rattle.host_top.proofs.BorrowLemmas.{lent_one, one_back, together, turned_about}
 use Rattle.host_top.proofs.NameLemmas.{each_snap, journal_apart, snap_each}
@@ -304,10 +304,10 @@ module _ {D : Type 0} (disks : DiskWords D) where
       (loan_by disks (record { name = journal_in folder; given = given; back = None }))
   journal_out folder given o a b stores lends named borrowed =
       let name : List ℕ = journal_in folder in
-      (borrowed.others name (named name (snap_each (λ n. bytes_eq n name ≡ false) folder 64
+      out_still disks name given o a b stores lends borrowed
+      (named name (snap_each (λ n. bytes_eq n name ≡ false) folder 64
       (λ t low. turned_about name (snap_in folder t)
-      (each_snap (λ n. bytes_eq name n ≡ false) folder 64 t (journal_apart folder 64) low))))).1
-      ∙ lent_loan disks name given o a lends
+      (each_snap (λ n. bytes_eq name n ≡ false) folder 64 t (journal_apart folder 64) low))))
 
   pub folder_lent : (folder first second : List ℕ) (given back : D) (o a b : OutsideState D)
       (output new : SinkState) (status : Status)

@@ -1,16 +1,19 @@
 -- The status of a disk that failed.
-use Rattle.std.proofs.Common.{◌≡◌, ◌∙◌, ℕ, zero, suc, Bool, inl, inr, List, [], ◌∷◌, length}
+use Rattle.std.proofs.Common.{◌≡◌, ◌⊎◌, ◌∙◌, ℕ, zero, suc, Bool, inl, inr, List, [], ◌∷◌, length}
 use Rattle.std.proofs.Common.{slice_get, refl, sym, subst, arith, Some, Result, Ok, Err}
 use Rattle.gate_journal.specs.Faults.{HasCause, HasInitCause}
 use Rattle.gate_journal.specs.declared.fault.InitFault.{InitFault}
 use Rattle.gate_journal.specs.declared.fault.InitFault.TheVariants as begin
 use Rattle.gate_journal.specs.declared.fault.JournalFault.{JournalFault}
 use Rattle.gate_journal.specs.declared.fault.JournalFault.TheVariants as fault
+use Rattle.journal_pack.specs.Faults.{Counts, HasPackCause}
+use Rattle.journal_pack.specs.declared.fault.PackFault.{PackFault}
+use Rattle.journal_pack.specs.declared.fault.PackFault.TheVariants as pack
 use Rattle.story_run.specs.declared.story.Story.{Story}
 use Rattle.host_top.specs.DoorServed.{OfDoor}
 use Rattle.host_top.specs.Begun.{InitsOn, SaysRefusal}
-use Rattle.host_top.specs.Borrowed.{HasFailed, NotLent, journal_in, lent_as}
-use Rattle.host_top.specs.Borrowed.{snaps_below}
+use Rattle.host_top.specs.Borrowed.{HasFailed, Lending, NotLent, journal_in}
+use Rattle.host_top.specs.Borrowed.{lent_as, snaps_below}
 use Rattle.host_top.specs.Folder.{TakesDisks, back_at, folder_back}
 use Rattle.host_top.specs.declared.folder.Back.{Back}
 use Rattle.host_top.specs.declared.folder.Back.TheVariants as back
@@ -21,8 +24,9 @@ use Rattle.host_top.specs.Follows.{DoesTask, FollowsCommand}
 use Rattle.host_top.specs.LinksServed.{LinksServed, ServesOver}
 use Rattle.host_top.specs.Piped.{HostedOver, PipesOver}
 use Rattle.host_top.specs.Said.{SaysFault, SaysLine}
+use Rattle.host_top.specs.Packed.{IsNotPacked, Journals, PacksOn, PacksOver, SaysPackFault, journal_loan}
 use Rattle.host_top.specs.Replayed.{ReplaysOn, ReplaysOver}
-use Rattle.host_top.specs.Speech.{Task, Says, Serves, ServesLinks, Begins, Replays}
+use Rattle.host_top.specs.Speech.{Task, Says, Serves, ServesLinks, Begins, Replays, PacksFrom}
 use Rattle.host_top.specs.Status.{status_of, status_of_served, status_of_stop}
 use Rattle.line_talk.specs.Streams.{SourceState, SinkState, Wrote}
 use Rattle.command_words.specs.Words.{Asked}
@@ -202,6 +206,68 @@ replay_failed disks stories folder outside beyond output new (inl none) =
 replay_failed disks stories folder outside beyond output new (inr r) =
     replayed_failed disks stories _ output new r.replays r.counts.rose.0
 
+-- no line of a packing ends so
+packing_failed : (why : PackFault) (before after : Counts) (output new : SinkState)
+    → HasPackCause before after why → SaysPackFault why output new DiskFault
+    → (Rose before.old after.old ⊎ Rose before.new after.new) × Wrote output new []
+packing_failed (pack.Old fault) before after output new cause says =
+    let failed = opening_failed fault before.old after.old output new cause.0 says in
+    (inl failed.0, failed.1)
+packing_failed pack.NotEmpty before after output new cause says =
+    no_line _ (λ e. absurd (grind (arith, e))) says
+packing_failed (pack.New counts) before after output new cause says =
+    (inr cause.1.rose, says.1)
+packing_failed pack.NoMemory before after output new cause says = absurd (grind (arith, says.0))
+
+-- where a disk of both journals' failed, of which P follows
+pack_counted : {D : Type 0} (disks : DiskWords D) (old new : List ℕ) (both : Journals D)
+    (stores : List (Lending D)) (P : Type 0) (output after : SinkState)
+    → Each (λ l. HasFailed disks l → P)
+    (journal_loan old both.old both.old_back ∷ journal_loan new both.new both.new_back ∷ stores)
+    → IsNotPacked disks both output after DiskFault → Failed P output after
+pack_counted disks old new both stores P output after each n =
+    let failed = packing_failed n.fault _ _ output after n.cause n.says in (
+      elim failed.0 [
+        | inl first ↦ each.0 first
+        | inr second ↦ each.1.0 second
+      ],
+      failed.1,
+    )
+
+-- a packing that ends so failed by one of its disks
+pub over_failed : {D : Type 0} (disks : DiskWords D) (both : Journals D) (given : D)
+    (output after : SinkState) (status : Status) → disks.faults both.new ≡ disks.faults given
+    → PacksOver disks both output after status → status ≡ DiskFault
+    → Rose (disks.faults both.old) (disks.faults both.old_back)
+    ⊎ Rose (disks.faults given) (disks.faults both.new_back)
+over_failed disks both given output after status same over is =
+    elim (subst (λ (s : Status). PacksOver disks both output after s) is over).does [
+      | inl packed ↦ no_line _ (λ e. absurd (grind (arith, e))) packed.says
+      | inr n ↦ subst (λ (count : ℕ). Rose (disks.faults both.old) (disks.faults both.old_back)
+          ⊎ Rose count (disks.faults both.new_back)) same
+          (packing_failed n.fault _ _ output after n.cause n.says).0
+    ]
+
+pack_failed : {D : Type 0} (disks : DiskWords D) (old into : List ℕ)
+    (outside beyond : OutsideState D) {input now : SourceState} (output new : SinkState)
+    → PacksOn disks old into outside beyond input now output new DiskFault
+    → Failed (Rose outside.disk_faults beyond.disk_faults) output new
+pack_failed disks old into outside beyond output new (inl none) =
+    not_lent_failed disks (journal_in old ∷ journal_in into ∷ []) outside beyond output new none
+pack_failed disks old into outside beyond output new (inr p) = elim p.packs.does [
+  | inl done ↦ elim done.1 [
+    | inl over ↦ elim over.0.does [
+      | inl packed ↦ no_line _ (λ e. absurd (grind (arith, e))) packed.says
+      | inr n ↦ pack_counted disks old into p.both p.stores _ output new done.0.rose n
+    ]
+    | inr n ↦ pack_counted disks old into p.both p.stores _ output new done.0.rose n.0
+  ]
+  | inr u ↦ elim u.0.cause [
+    | inl failed ↦ (failed.1, u.0.wrote)
+    | inr wanted ↦ absurd (grind (arith, wanted))
+  ]
+]
+
 does_failed : {D : Type 0} (disks : DiskWords D) (OnDoor : OfDoor D) (task : Result Task (List ℕ))
     (outside beyond : OutsideState D) (input now : SourceState) (output new : SinkState)
     → DoesTask disks OnDoor task outside beyond input now output new DiskFault
@@ -221,6 +287,8 @@ does_failed disks OnDoor (Ok (Begins folder)) outside beyond input now output ne
     init_failed disks folder outside beyond output new does.0
 does_failed disks OnDoor (Ok (Replays stories folder)) outside beyond input now output new does =
     replay_failed disks stories folder outside beyond output new does.0
+does_failed disks OnDoor (Ok (PacksFrom folder into)) outside beyond input now output new does =
+    pack_failed disks folder into outside beyond output new does.0
 
 disk_failed : {D : Type 0} (disks : DiskWords D) {OnDoor : OfDoor D} (asked : Asked)
     (outside beyond : OutsideState D) (input now : SourceState) (output new : SinkState)
@@ -273,6 +341,14 @@ unrefused : (why : InitFault) (output new : SinkState) (A : Type 0)
     → SaysRefusal why output new DoorFault → A
 unrefused begin.NotEmpty output new A says = unsaid A (λ e. absurd (grind (arith, e))) says
 unrefused (begin.DiskFault counts) output new A says = absurd (grind (arith, says.0))
+
+unpacked : (why : PackFault) (output new : SinkState) (A : Type 0)
+    → SaysPackFault why output new DoorFault → A
+unpacked (pack.Old fault) output new A says =
+    absurd (fault_no_door fault output new DoorFault says refl)
+unpacked pack.NotEmpty output new A says = unsaid A (λ e. absurd (grind (arith, e))) says
+unpacked (pack.New counts) output new A says = absurd (grind (arith, says.0))
+unpacked pack.NoMemory output new A says = absurd (grind (arith, says.0))
 
 not_lent_door : {D : Type 0} (disks : DiskWords D) (names : List (List ℕ))
     (outside beyond : OutsideState D) {input now : SourceState} {output new : SinkState}
@@ -332,6 +408,22 @@ door_in disks OnDoor (Ok (Replays stories folder)) outside beyond input now outp
     (inr r, doors) = elim r.replays.does [
       | inl t ↦ unsaid _ (λ e. absurd (grind (arith, e))) t.says
       | inr n ↦ absurd (fault_no_door n.fault output new DoorFault n.says refl)
+    ]
+door_in disks OnDoor (Ok (PacksFrom folder into)) outside beyond input now output new
+    (inl none, doors) = not_lent_door disks _ outside beyond _ none
+door_in disks OnDoor (Ok (PacksFrom folder into)) outside beyond input now output new
+    (inr p, doors) = elim p.packs.does [
+      | inl done ↦ elim done.1 [
+        | inl over ↦ elim over.0.does [
+          | inl packed ↦ unsaid _ (λ e. absurd (grind (arith, e))) packed.says
+          | inr n ↦ unpacked n.fault output new _ n.says
+        ]
+        | inr n ↦ unpacked n.0.fault output new _ n.0.says
+      ]
+      | inr u ↦ elim u.0.cause [
+        | inl failed ↦ absurd (grind (arith, failed.0))
+        | inr wanted ↦ absurd (grind (arith, wanted))
+      ]
     ]
 
 door_failed : {D : Type 0} (disks : DiskWords D) {OnDoor : OfDoor D} (asked : Asked)

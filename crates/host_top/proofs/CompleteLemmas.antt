@@ -5,7 +5,8 @@ use Rattle.std.proofs.Common.{Option, IfSome, IsErr}
 use Rattle.command_words.specs.Words.{Asked}
 use Rattle.command_words.specs.declared.words.Action.{Action}
 use Rattle.command_words.specs.declared.words.Action.TheVariants.{Run, Check, Pipe, Init, Help}
-use Rattle.command_words.specs.declared.words.Action.TheVariants.{Serve, Replay, Drill, Version}
+use Rattle.command_words.specs.declared.words.Action.TheVariants.{Serve, Replay, Pack, Drill}
+use Rattle.command_words.specs.declared.words.Action.TheVariants.{Version}
 use Rattle.disk_model.proofs.Torn.{holds_front}
 use Rattle.disk_model.specs.declared.disk.Disk.{Ghosts as DiskWords}
 use Rattle.gate_journal.proofs.RowLemmas.{never_both}
@@ -84,19 +85,22 @@ something : (c : List ℕ) → c ≡ [] → 0 < length c → ⊥
 something c none some = omega (arith, subst (λ (l : List ℕ). 0 < length l) none some)
 
 -- what makes a folder's journal bad isn't so where all is in order
-never_bad : {D : Type 0} (disks : DiskWords D) (action : Action) (told : Told D)
-    → ((d : D) → IsTrue (disks.tells d)) → HasFolder disks action told
-    → HasBadJournal disks action told → ⊥
-never_bad disks Run told tells f bad = bad
-never_bad disks Check told tells f bad = bad
-never_bad disks Pipe told tells f bad = not_refused disks told bad.0 tells f bad.1
-never_bad disks (Serve serving) told tells f bad = not_refused disks told bad.0 tells f bad.1
-never_bad disks Init told tells f bad =
+never_bad : {D : Type 0} (disks : DiskWords D) (action : Action) (told into : Told D)
+    → ((d : D) → IsTrue (disks.tells d)) → HasFolder disks action told into
+    → HasBadJournal disks action told into → ⊥
+never_bad disks Run told into tells f bad = bad
+never_bad disks Check told into tells f bad = bad
+never_bad disks Pipe told into tells f bad = not_refused disks told bad.0 tells f bad.1
+never_bad disks (Serve serving) told into tells f bad = not_refused disks told bad.0 tells f bad.1
+never_bad disks Init told into tells f bad =
     told_both disks told (λ c. c ≡ []) (λ c. 0 < length c) something f (bad tells)
-never_bad disks Replay told tells f bad = not_refused disks told bad.0 tells f bad.1
-never_bad disks (Drill number) told tells f bad = bad
-never_bad disks (Help topic) told tells f bad = bad
-never_bad disks Version told tells f bad = bad
+never_bad disks Replay told into tells f bad = not_refused disks told bad.0 tells f bad.1
+never_bad disks Pack told into tells f (inl bad) = not_refused disks told bad.0 tells f.0 bad.1
+never_bad disks Pack told into tells f (inr some) =
+    told_both disks into (λ c. c ≡ []) (λ c. 0 < length c) something f.1 (some tells)
+never_bad disks (Drill number) told into tells f bad = bad
+never_bad disks (Help topic) told into tells f bad = bad
+never_bad disks Version told into tells f bad = bad
 
 never_err : (found : Result (List Story) Refusal) → IsOk found → IsErr found → ⊥
 never_err (Ok stories) ok err = absurd (grind (arith, err))
@@ -158,10 +162,11 @@ ends_well disks {OnDoor} asked status code outside beyond input now output new f
     ends status code is
     (no_refusal _ _ order.bytes status
     (never_err (stories_of (map (take 67108865) order.files)) order.are_stories)
-    (never_bad disks asked.action (outside.disk (journal_in asked.folder)) order.tells order.folder)
+    (never_bad disks asked.action (outside.disk (journal_in asked.folder))
+    (outside.disk (journal_in asked.into)) order.tells order.folder)
     order.within
     (tasked_cause disks asked.action (stories_of (map (take 67108865) order.files)) asked.budget
-    outside.disk asked.folder order.bytes t.0 status t.2))
+    outside.disk asked.folder asked.into order.bytes t.0 status t.2))
     reads
     (λ e. none.writes (writes e))
     fails

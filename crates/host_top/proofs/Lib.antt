@@ -4,6 +4,8 @@ pub mod StoriesLemmas
 pub mod ServedLemmas
 pub mod WrittenLemmas
 pub mod ReplayLemmas
+pub mod PackLemmas
+pub mod PackToldLemmas
 pub mod ToldLemmas
 pub mod CauseLemmas
 pub mod CompleteLemmas

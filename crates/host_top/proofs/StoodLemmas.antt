@@ -191,15 +191,21 @@ pub fetch_stood : {T : Type 0} (why : Fetch) (status : Status) → status ≡ st
 fetch_stood fetch.Failed status is f e = f refl
 fetch_stood fetch.NoMemory status is f e = absurd (grind (arith, is, e))
 
--- the stores' disks aren't out once the journal's is lent
+-- a disk that isn't out isn't once another one is lent
+pub others_in : {D : Type 0} (label faults : D → ℕ) (name : List ℕ) (given : D)
+    (a b : OutsideState D) (other : List ℕ) → Lends label faults name given a b
+    → bytes_eq name other ≡ false → is_out (a.loan other) ≡ false → is_out (b.loan other) ≡ false
+others_in label faults name given a b other lends away out =
+    ap is_out (lends.loans other ∙ elsewhere (bytes_eq name other) _ (a.loan other) away) ∙ out
+
+-- so the stores' disks aren't out once the journal's is lent
 pub stores_in : {D : Type 0} (label faults : D → ℕ) (name : List ℕ) (given : D)
     (a b : OutsideState D) (names : List (List ℕ)) → Lends label faults name given a b
     → Each (λ n. bytes_eq name n ≡ false) names → NoneIsOut a.loan
     → Each (λ n. is_out (b.loan n) ≡ false) names
 stores_in label faults name given a b names lends apart out =
     each_map (λ n. bytes_eq name n ≡ false) (λ n. is_out (b.loan n) ≡ false) names
-    (λ n away. ap is_out (lends.loans n ∙ elsewhere (bytes_eq name n) _ (a.loan n) away) ∙ out n)
-    apart
+    (λ n away. others_in label faults name given a b n lends away (out n)) apart
 
 -- where the files are loaded the disks stand as before
 pub stand_behind : {D : Type 0} (failing now : Option Failing) (a b c : OutsideState D)

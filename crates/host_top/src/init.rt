@@ -1,7 +1,7 @@
 //! The command `init`, which makes the stores of a folder and begins its journal.
 ghost use Rattle.std.specs.Prelude.{◌≡◌, ◌≤◌, ◌<◌, ◌∷◌, [], ℕ, List, true, false, length, IsTrue};
 ghost use Rattle.std.specs.Prelude.{IfOk, OnOk, OnErr, IsErrOf};
-ghost use Rattle.disk_model.specs.Disk.{CountsErrors, SameDisk};
+ghost use Rattle.disk_model.specs.Disk.{CountsErrors, NoneNew, SameDisk};
 ghost use Rattle.host_top.specs.Begun.{Inits, InitsOn, InitsOver, IsLookedAt, MakesStores};
 ghost use Rattle.host_top.specs.Begun.{TriesStores};
 ghost use Rattle.host_top.specs.Borrowed.{Lending, snap_in, snaps_below};
@@ -21,10 +21,12 @@ use snap_store::make;
 use std::alloc::Global;
 
 /// Whether a disk holds nothing.
-fn is_empty<D: Disk>(disk: &mut D) -> Result<bool, Failed>
+pub fn is_empty<D: Disk>(disk: &mut D) -> Result<bool, Failed>
     ensures ok { IfOk result (λ empty. IsTrue (D.tells disk.old)
         → (empty ≡ true → D.seen disk.old ≡ []) × (empty ≡ false → 0 < length (D.seen disk.old))) }
     ensures looks { IsLookedAt D.Disk disk.old disk.new }
+    ensures images { IsTrue (D.tells disk.old)
+        → NoneNew (D.may_leave disk.old) (D.may_leave disk.new) }
     ensures seen { OnOk result (IsTrue (D.tells disk.old) → D.seen disk.new ≡ D.seen disk.old) }
     ensures cause { CountsErrors result (D.faults disk.old) (D.faults disk.new) }
     ensures kept { SameDisk D.tells D.room D.label disk.old disk.new }
@@ -89,7 +91,7 @@ fn make_store<O: Outside>(
 }
 
 /// Makes the stores of all sessions, each with its disk back before the next one's is lent.
-fn make_stores<O: Outside>(alloc: Global, folder: &str, outside: &mut O) -> Result<(), Fetch>
+pub fn make_stores<O: Outside>(alloc: Global, folder: &str, outside: &mut O) -> Result<(), Fetch>
     ensures ok { OnOk result (MakesStores O.Disk.Disk (snaps_below folder.now 64)
         (O.outside outside.old) (O.outside outside.new)) }
     ensures err { OnErr result (TriesStores O.Disk.Disk (snaps_below folder.now 64)

@@ -20,6 +20,7 @@ use crate::drill::drill;
 use crate::init::init_folder;
 use crate::once::say_once;
 use crate::outside::{Fetch, Outside};
+use crate::pack::pack_folder;
 use crate::pipe::pipe;
 use crate::refuse::refuse;
 use crate::replay::replay;
@@ -49,7 +50,7 @@ fn act<R: Threads + Wait + Sync, O: Outside, S: Source, K: Sink>(
     ensures value { DoesTask O.Disk.Disk
         (HostServes O.Door.Door O.Door.Conn.source O.Door.Conn.sink O.Door.Conn.lent O.Disk.Disk)
         (tasked command.now.action (stories_of (map (λ f. f.items) files.now))
-        command.now.budget command.now.folder.now)
+        command.now.budget command.now.folder.now command.now.into.now)
         (O.outside outside.old) (O.outside outside.new) (S.source input.old) (S.source input.new)
         (K.sink output.old) (K.sink output.new) result }
     ensures read_fault { result ≡ Status.ReadFault
@@ -86,6 +87,7 @@ fn act<R: Threads + Wait + Sync, O: Outside, S: Source, K: Sink>(
             )
         }
         Action::Replay => replay(rt, alloc, &stories, command.folder, outside, output),
+        Action::Pack => pack_folder(alloc, command.folder, command.into, outside, output),
         Action::Drill(number) => drill(rt, alloc, number, output),
         Action::Help(topic) => say_once(help_text(topic).as_bytes(), output),
         Action::Version => say_once(VERSION_TEXT.as_bytes(), output),

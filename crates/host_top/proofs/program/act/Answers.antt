@@ -42,6 +42,12 @@ returns-in-Pipe-clause-value g c =
     rw (c.in-Pipe.is, c.in-Ok-stories_of.ensures.ok, ← c.deref-in-Pipe.ensures.value)
     (both c.pipe.ensures.value c.pipe.ensures.doors)
 
+pub returns-in-Pack-clause-value : goal.returns-in-Pack-clause-value
+returns-in-Pack-clause-value g c =
+    rw (c.in-Pack.is, c.in-Ok-stories_of.ensures.ok)
+    (both (c.pack_folder.ensures.value (g.S.Source.source c.args.input.now))
+    c.pack_folder.ensures.doors)
+
 pub returns-in-Serve-clause-value : goal.returns-in-Serve-clause-value
 returns-in-Serve-clause-value g c =
     rw (c.in-Serve.is, c.in-Ok-stories_of.ensures.ok, ← c.deref-in-Serve.ensures.value)
