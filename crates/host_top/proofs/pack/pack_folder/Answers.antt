@@ -69,7 +69,7 @@ returns-clause-stood g c = λ stand is.
     at (rw c.only_look.ensures.value at c.in-Ok-disk.ensures.ok) in
     let writes = c.may_write.ensures.value in
     let others =
-    lent_new into c.in-Ok-disk.disk c.pack_into-status.new.old
+    lent_new g.O.Disk.Disk into c.in-Ok-disk.disk c.pack_into-status.new.old
     (g.O.Outside.outside c.disk.new.self) (g.O.Outside.outside c.pack_into-status.new.outside)
     any_source _ _ _ (journal_in from) (other_journal from into c.requires) (no_stores from into)
     (rw writes at (c.pack_into-status.ensures.value any_source)) in
