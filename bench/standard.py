@@ -20,7 +20,7 @@ import sys
 TOP = pathlib.Path(__file__).resolve().parent.parent
 PAGE = TOP / "docs" / "STANDARD.md"
 OPERAND, EXEC, GLK = (TOP / "crates" / crate for crate in ("vm_operand", "vm_exec", "glk_dispatch"))
-# words of many equations, which the page names once
+# words of many equations, which the page names above its tables
 COMMON = {"goes", "puts", "operation_coded", "gives", "within", "over_glk_alone", "slots"}
 
 
