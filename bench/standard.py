@@ -1,17 +1,17 @@
 #!/usr/bin/env python3
-"""What docs/STANDARD.md has of the sources: the tables of all opcodes and of all Glk selectors, each with the lines of its
-definition and of its code; and, in the rows of the standards' sections, the files of the definitions.
+"""What docs/STANDARD.md has of the sources: the tables of all opcodes and of all Glk selectors, each with the lines of
+its definition and of its code; and, in the rows of the standards' sections, the files of the definitions.
 
     bench/standard.py            looks whether they stand there as the sources have them
     bench/standard.py --write    writes them
 
-An opcode's number and operands are a row of vm_operand's `Opcode`, what it does an equation of a chapter of vm_exec's `Rows`,
-its code an arm of the function of that chapter. A selector is a row of glk_dispatch's `Selector`, with the name that
-stories/infglk.h has for it, and its equation and arm stand in the files of its class. Behind an equation stand the words that
-it cites, behind an arm the functions that it calls, each with its own line.
+An opcode's number and operands are a row of vm_operand's `Opcode`, what it does an equation of a chapter of vm_exec's
+`Rows`, its code an arm of the function of that chapter. A selector is a row of glk_dispatch's `Selector`, with the name
+that stories/infglk.h has for it, and its equation and arm stand in the files of its class. Behind an equation stand the
+words that it cites, behind an arm the functions that it calls, each with its own line.
 
-In a section's row the column In has the specs file of each definition, the source file of that name where there is one, and
-behind it those that were put there by hand."""
+In a section's row the column In has the specs file of each definition, the source file of that name where there is one,
+and behind it those that were put there by hand."""
 
 import pathlib
 import re
@@ -24,8 +24,12 @@ OPERAND, EXEC, GLK = (TOP / "crates" / crate for crate in ("vm_operand", "vm_exe
 COMMON = {"goes", "puts", "operation_coded", "gives", "within", "over_glk_alone", "slots"}
 
 
+def text_of(file):
+    return file.read_text(encoding="utf-8")
+
+
 def lines_of(file):
-    return file.read_text(encoding="utf-8").splitlines()
+    return text_of(file).splitlines()
 
 
 def link(text, file, line):
@@ -55,7 +59,7 @@ def imports(file):
     """The specs file of each word that a specs file imports, and of each name that it gives a module."""
     words, modules = {}, {}
     for crate, path, names, alias in re.findall(
-            r"(?m)^use Rattle\.(\w+)\.specs\.([\w.]+?)(?:\.\{([^}]*)\}| as (\w+))$", file.read_text(encoding="utf-8")):
+            r"(?m)^use Rattle\.(\w+)\.specs\.([\w.]+?)(?:\.\{([^}]*)\}| as (\w+))$", text_of(file)):
         found = (TOP / "crates" / crate / "specs").joinpath(*path.split(".")).with_suffix(".antt")
         if found.is_file():
             modules.update({alias: found} if alias else {})
@@ -80,7 +84,7 @@ def equation(file, work, name):
 
 
 def words_of(file, body, name):
-    """A link for each word of a definition that an equation cites: to the word's own equation of this name, if it has one."""
+    """A link for each word that an equation cites: to the word's own equation of this name, if it has one."""
     words, modules = imports(file)
     links = {}
     for module, word in re.findall(r"(?:\b(\w+)\.)?\b([a-z]\w*)\b", body):
@@ -101,7 +105,8 @@ def arm(file, begin, kind, name):
         indent = re.match(" *", lines[number - 1])[0]
         text = lines[number - 1]
         for line in lines[number:]:
-            if not line.startswith(indent) or "=>" in text and not line.startswith((indent + " ", indent + "}", indent + ")")):
+            inside = line.startswith((indent + " ", indent + "}", indent + ")"))
+            if not line.startswith(indent) or "=>" in text and not inside:
                 break
             text += line
         return number, text.partition("=>")[2]
@@ -109,19 +114,20 @@ def arm(file, begin, kind, name):
 
 
 def function(folder, file, call, name):
-    """Where the function of a call stands: in the file of the call, or in the one of the crate that hands it out, if any."""
+    """Where the function of a call stands: in the file of the call, or in the one of its crate that hands it out."""
     indent = "    " if call == "self." else ""
-    homes = [(home, first(home, rf"^{indent}pub(?:\(crate\))? fn {name}\b")) for home in sorted((folder / "src").rglob("*.rt"))]
-    own = first(file, rf"^{indent}(?:pub(?:\(crate\))? )?fn {name}\b")
-    homes = [(file, own)] + [(home, at) for home, at in homes if home != file]
-    found = [(home, at) for home, at in homes if at]
+    found = [(file, first(file, rf"^{indent}(?:pub(?:\(crate\))? )?fn {name}\b"))]
+    for home in sorted((folder / "src").rglob("*.rt")):
+        if home != file:
+            found.append((home, first(home, rf"^{indent}pub(?:\(crate\))? fn {name}\b")))
+    found = [(home, at) for home, at in found if at]
     if len(found) > 1 and found[0][0] != file:
         sys.exit(f"standard: {name} stands in more than one file of {folder.relative_to(TOP)}")
     return found[0] if found else (None, None)
 
 
 def code_of(folder, file, kind, name, whole):
-    """Links to the arm of this name in a chapter's function, or to that function, and to the functions that the arm calls."""
+    """Links to the arm of this name in a chapter's function, or to that function, and to those that the arm calls."""
     begin = needed(file, rf"fn {whole}\b")
     number, text = arm(file, begin, kind, name)
     if number is None:
@@ -141,10 +147,10 @@ def defined(file, number, words):
 def opcodes():
     """The rows of the table of opcodes, by number."""
     table = OPERAND / "specs" / "Opcode.antt"
-    kinds = dict(re.findall(r"(?m)^abbrev pub (\w+_row) : (\w+) → OpcodeRow", table.read_text(encoding="utf-8")))
+    kinds = dict(re.findall(r"(?m)^abbrev pub (\w+_row) : (\w+) → OpcodeRow", text_of(table)))
     chapters = {}
     for file in sorted((EXEC / "specs" / "Rows").glob("*.antt")):
-        for work, kind in re.findall(r"(?m)^unfoldable pub (\w+_work) : (\w+) → Machine", file.read_text(encoding="utf-8")):
+        for work, kind in re.findall(r"(?m)^unfoldable pub (\w+_work) : (\w+) → Machine", text_of(file)):
             chapters[kind] = file, work
     rows = []
     for at, line in enumerate(lines_of(table), 1):
@@ -155,7 +161,7 @@ def opcodes():
         file, work = chapters[kind]
         number, body = equation(file, work, name)
         source = EXEC / "src" / f"{file.stem.lower()}.rt"
-        whole = re.search(r"fn (\w+_op)\(", source.read_text(encoding="utf-8"))[1]
+        whole = re.search(r"fn (\w+_op)\(", text_of(source))[1]
         code = code_of(EXEC, source, kind, name, whole)
         for part in ("arithmetic.rt", "branches.rt"):
             own, _ = arm(OPERAND / "src" / part, 1, kind, name)
@@ -170,19 +176,20 @@ def opcodes():
 
 def names_of_calls():
     """The name of each selector by stories/infglk.h."""
-    header = (TOP / "stories" / "infglk.h").read_text(encoding="utf-8")
-    return {int(number, 16): name for name, number in re.findall(r"\[ (glk_\w+) _vararg_count r;\s*@glk \$(\w+) ", header)}
+    header = text_of(TOP / "stories" / "infglk.h")
+    calls = re.findall(r"\[ (glk_\w+) _vararg_count r;\s*@glk \$(\w+) ", header)
+    return {int(number, 16): name for name, number in calls}
 
 
 def selectors():
     """The rows of the table of selectors, by number, and one for those that do nothing."""
     table = GLK / "specs" / "Selector.antt"
     names, modules, rows = names_of_calls(), {}, []
-    for module, kind, alias in re.findall(r"declared\.(\w+)\.(\w+)\.TheVariants as (\w+)", table.read_text(encoding="utf-8")):
+    for module, kind, alias in re.findall(r"declared\.(\w+)\.(\w+)\.TheVariants as (\w+)", text_of(table)):
         modules[alias] = module, kind
     works = {}
     for file in sorted((GLK / "specs").glob("*.antt")):
-        for work, kind in re.findall(r"(?m)^unfoldable pub (\w+_work) : (\w+) → GlkCall", file.read_text(encoding="utf-8")):
+        for work, kind in re.findall(r"(?m)^unfoldable pub (\w+_work) : (\w+) → GlkCall", text_of(file)):
             works[kind] = file, work
     for at, line in enumerate(lines_of(table), 1):
         found = re.search(r"\((0x[0-9A-F]+), (\d+), (\w+)\.(\w+)(?: \w+)?\)", line)
@@ -193,7 +200,7 @@ def selectors():
         file, work = works[kind]
         number, body = equation(file, work, name)
         source = GLK / "src" / f"{module}.rt"
-        whole = re.search(r"fn (do_\w+)\(", source.read_text(encoding="utf-8"))[1]
+        whole = re.search(r"fn (do_\w+)\(", text_of(source))[1]
         shown = defined(file, number, words_of(file, body, name))
         code = code_of(GLK, source, kind, name, whole)
         cells = [f"{link(selector, table, at)} `{names[int(selector, 16)]}`", count, shown, ", ".join(code)]
@@ -276,7 +283,7 @@ def placed(page, name, lines):
 
 
 def main():
-    page = PAGE.read_text(encoding="utf-8")
+    page = text_of(PAGE)
     whole = placed(placed(indexed(page), "opcodes", opcodes()), "selectors", selectors())
     if sys.argv[1:] == ["--write"]:
         PAGE.write_text(whole, encoding="utf-8")
