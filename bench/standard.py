@@ -52,7 +52,7 @@ def needed(file, pattern):
 
 
 def definition_line(file, word):
-    return first(file, rf"^(?:abbrev|unfoldable|foldable)? ?(?:pub )?{re.escape(word)} :")
+    return first(file, rf"^(?:abbrev |unfoldable )?(?:pub )?{re.escape(word)} :")
 
 
 def imports(file):
