@@ -6,7 +6,7 @@ syncs on the same file system: two of each an input, and, unless it leaves them 
 syncs more for a snapshot of the same length behind every 16th input. All take turns in one run; each
 figure is the best of its rounds. Then journals of as many rows as there may be, 64 sessions of 8,192 each, with short lines and
 with lines of 1,024 characters: how long `pipe` takes to open it, and what memory it then holds besides
-what it holds over an empty one.
+what it holds over an empty one; and how long `pack` takes to pack it, and what memory.
 
     bench/journal.py [INPUTS] [FOLDER]"""
 
@@ -118,6 +118,17 @@ def opened(room, journal):
     return seconds, peak
 
 
+def packed(room, journal):
+    """Seconds that `pack` takes for this journal once it was opened, and kilobytes that it holds."""
+    old = room / f"d{len(journal)}"
+    began = time.perf_counter()
+    process = subprocess.Popen([PROGRAM, "pack", old, room / "new"], stdout=subprocess.DEVNULL)
+    _, status, used = os.wait4(process.pid, 0)
+    if status or (room / "new" / "journal").read_bytes() != (old / "journal").read_bytes():
+        raise SystemExit("bench: not every row was kept")
+    return time.perf_counter() - began, used.ru_maxrss
+
+
 def main():
     inputs = int(sys.argv[1]) if len(sys.argv) > 1 else 1000
     above = sys.argv[2] if len(sys.argv) > 2 else None
@@ -133,15 +144,17 @@ def main():
     print(f"| those of rows and of snapshots of {length} bytes | {inputs / min(both):,.0f} |")
     print(f"| `pipe` on the Echo story | {inputs / min(host):,.0f} |")
     print(f"\nratio {min(both) / min(host):.2f}, {inputs:,} inputs, best of {ROUNDS} rounds each")
-    print("\n| Journal | MB | seconds | memory, MB | times its size |\n|---|---|---|---|---|")
+    print("\n| Journal | MB | seconds | memory, MB | times its size | `pack`, seconds | times its size |")
+    print("|---|---|---|---|---|---|---|")
     for text in (b"take all from cupboard", b"x" * 1024):
         with tempfile.TemporaryDirectory(prefix="journal-", dir=above) as room:
             journal = longest(text)
             _, empty = opened(pathlib.Path(room), journal[:16] + b"\0")
             seconds, peak = opened(pathlib.Path(room), journal)
+            shorter, most = packed(pathlib.Path(room), journal)
         size, taken = len(journal) / 2**20, (peak - empty) / 1024
         print(f"| 524,288 rows, lines of {len(text):,} characters | {size:.1f} | {seconds:.2f} "
-              f"| {taken:.1f} | {taken / size:.1f} |")
+              f"| {taken:.1f} | {taken / size:.1f} | {shorter:.2f} | {most / 1024 / size:.1f} |")
 
 
 main()

@@ -1,7 +1,7 @@
 #!/usr/bin/env python3
 """Kills a host while it plays, starts it again, and looks whether a game is where it was left.
 
-    drills/crash.py [ROUNDS] [--serve] [--seed N] [--sessions N] [--moves N] [--story FILE] [--starts]
+    drills/crash.py [ROUNDS] [--serve] [--pack] [--seed N] [--sessions N] [--moves N] [--story FILE] [--starts]
 
 A round: `init` makes a folder, whose journal is marked as one of before in every other round or so; `pipe`
 serves it; each session plays a game of lines and, among them, sizes of its screen, closes it and plays
@@ -20,6 +20,10 @@ many inputs each session has behind the newest one of its game, which must be 16
 the kill met. Before every third start or so it then spoils an open area by hand: its gate is 0, or it is
 torn too, or cut, or its bytes are no world's, or the file loses its header. The games must be the same. A
 session whose file was spoiled may have more inputs to play, so it isn't counted in that round any more.
+
+With `--pack` the folder is packed into another one before each start behind a kill, and that one takes its place; one
+packing of three is killed before, and what it made is removed. The old journal must be as it was, and the
+games the same; a CLOSE that was kept and is sent again is answered by `NO 2` then.
 
 It says how many rounds it ran, how many kills met a move under way, and, with `--starts` start by start,
 what stood in the folder. It ends with 1 where a round lost an acknowledged move or applied one twice, where
@@ -167,8 +171,8 @@ class Session:
     """What a player of one session knows. Moves are lines of `run`. A step is a request, and the number of the show
     that LAST has behind it, if any."""
 
-    def __init__(self, number, games):
-        self.number, self.games = number, games
+    def __init__(self, number, games, packs=False):
+        self.number, self.games, self.packs = number, games, packs
         self.steps = []
         for moves in games:
             self.steps.append((f"OPEN {number} k{number} 0 1 80 24", 0))
@@ -187,7 +191,9 @@ class Session:
 
     def take(self, step, reply):
         head, _, show = reply.partition("\n")
-        if head.split()[:2] != ["SHOW", str(self.number)]:
+        if head == "NO 2" and self.packs and self.line(step).startswith("CLOSE "):
+            show = "E closed\n.\n"
+        elif head.split()[:2] != ["SHOW", str(self.number)]:
             raise Lost(f"session {self.number}, {self.line(step)}: {head}")
         del self.shows[step:]
         self.shows.append(show)
@@ -223,7 +229,7 @@ class Starts:
         self.made = True
         self.open = collections.Counter()
         self.spoils = collections.Counter()
-        self.starts = self.met = self.behind = 0
+        self.starts = self.met = self.behind = self.packed = 0
 
     def begin_round(self, folder):
         """Behind `init`."""
@@ -264,11 +270,20 @@ class Starts:
             if self.tells:
                 print(f"crash: {way}, of session {session}")
 
+    def pack(self, draw, sessions):
+        """Packs the folder, before a start, where sessions' folders are packed. No snapshot is there then."""
+        if not sessions[0].packs:
+            return
+        pack_anew(draw, self.folder)
+        self.packed += 1
+        self.spoiled.update(session.number for session in sessions)
+
     def told(self):
         spoils = ", ".join(f"{count} {way}" for way, count in sorted(self.spoils.items()))
         return (
             f"{self.starts} starts with {min(self.open)} to {max(self.open)} areas open, at most "
-            f"{self.behind} inputs behind one; {self.met} puts were met under way; spoiled: {spoils or 'none'}"
+            f"{self.behind} inputs behind one; {self.met} puts were met under way; {self.packed} packings; "
+            f"spoiled: {spoils or 'none'}"
         )
 
 
@@ -321,6 +336,25 @@ def age(draw, folder):
         files.write_at(pathlib.Path(folder) / "journal", 8, bytes([draw.choice((0, 0, 2, 255))]))
 
 
+def pack_anew(draw, old):
+    """Packs a folder into another one, which takes its place."""
+    anew, journal = old.with_name("anew"), (old / "journal").read_bytes()
+    words = [PROGRAM, "pack", old, anew]
+    if draw.random() < 1 / 3:
+        process = subprocess.Popen(words, stdout=subprocess.DEVNULL)
+        time.sleep(draw.random() ** 2 * 0.05)
+        process.kill()
+        process.wait()
+        shutil.rmtree(anew, ignore_errors=True)
+    told = subprocess.run(words, capture_output=True).stdout
+    if not told.startswith(b"packed "):
+        raise Lost(f"pack writes {told!r}")
+    if (old / "journal").read_bytes() != journal:
+        raise Lost("pack changes the old journal")
+    shutil.rmtree(old)
+    anew.rename(old)
+
+
 def draw_kills(draw, turns, kills):
     """So many turns at which the host is to be killed, and how soon behind their beginning."""
     due = [at for at, (session, step) in enumerate(turns) if falls_due(session.shown_behind(step))]
@@ -365,6 +399,7 @@ def play(draw, folder, story, sessions, kills, starts):
             killed += 1
             starts.look(sessions)
             starts.spoil(draw, sessions)
+            starts.pack(draw, sessions)
             host = Host(folder, story)
             for other in sessions:
                 met += look_again(host, other)
@@ -444,6 +479,7 @@ def play_links(draw, folder, story, sessions, kills, starts):
         killed += 1
         starts.look(sessions)
         starts.spoil(draw, sessions)
+        starts.pack(draw, sessions)
         server.start()
     for player in players:
         player.join(timeout=120)
@@ -475,6 +511,7 @@ def main():
     words.add_argument("rounds", type=int, nargs="?", default=30)
     words.add_argument("--seed", type=int, default=1)
     words.add_argument("--serve", action="store_true")
+    words.add_argument("--pack", action="store_true")
     words.add_argument("--sessions", type=int)
     words.add_argument("--moves", type=int, default=40, help="of each of a session's two games")
     words.add_argument("--story")
@@ -488,7 +525,7 @@ def main():
         story = room / "story.ulx"
         story.write_bytes(pathlib.Path(asked.story).read_bytes() if asked.story else echo_story())
         sessions = [
-            Session(s, [draw_moves(draw, asked.moves) for _ in range(2)])
+            Session(s, [draw_moves(draw, asked.moves) for _ in range(2)], asked.pack)
             for s in range(asked.sessions or (8 if asked.serve else 3))
         ]
         try:
@@ -504,7 +541,7 @@ def main():
             print(f"crash: round {number} of seed {asked.seed}: {cause}; its folder is {room}")
             return 1
         shutil.rmtree(room)
-    name = f"crash{' --serve' if asked.serve else ''}"
+    name = f"crash{' --serve' if asked.serve else ''}{' --pack' if asked.pack else ''}"
     print(f"{name}: {asked.rounds} rounds, {killed} kills, {met} requests were kept before their reply: none lost, none applied twice")
     if not starts.made:
         print(f"{name}: init makes no snapshot files, or others than docs/FORMATS.md has")

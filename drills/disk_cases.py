@@ -6,7 +6,7 @@
 A case is a piece of work on a disk in memory, which of its device calls fail, counted from 0, and the choice
 of a stop. This is a model of its own, written from docs/FORMATS.md, docs/HOSTING.md and the page of
 `disk_model`: the calls that each piece of work makes, in order; what a disk reads as and what a stop may leave
-of it; what a reader finds in such bytes; and what a host answers over it. It looks whether
+of it; what a reader finds in such bytes; what a host answers over it; and what a packing does. It looks whether
 crates/disk_cases/stdin has each case and crates/disk_cases/stdout what must come of it (`rt ci` compares the
 second with what the program writes), and whether over all choices each case ends in each of the ways that the
 table ENDS has, and in no other. With `--write` it writes both files. It ends with 1 where something is
@@ -109,9 +109,16 @@ HEADER = bytes.fromhex("5354484A0000000101") + bytes(7)
 GATE, VERSION = 76, 8
 
 
+def has_header(held):
+    """Whether bytes begin with a header of either version."""
+    return held.part(0, VERSION) + held.part(VERSION + 1, 7) == HEADER[:VERSION] + HEADER[VERSION + 1 :]
+
+
 def row_of(command):
     """A row without its gate."""
     session, kind, words = command
+    if kind == "CLOSE":
+        return struct.pack(">BBH", session, 5, 0)
     if kind == "OPEN":
         # the story's digest isn't looked at: a host of the same story reads it
         payload = struct.pack(">B2sH32sQBBQ", 2, words.encode(), 0, bytes(32), 7, 80, 24, 50_000_000)
@@ -120,13 +127,20 @@ def row_of(command):
     return struct.pack(">BBH", session, 2, len(payload)) + payload
 
 
+def command_in(kind, payload):
+    """A command's name, and its key or text."""
+    if kind == 5:
+        return "CLOSE", ""
+    return ("OPEN", payload[1:3].decode()) if kind == 1 else ("LINE", payload[8:].decode())
+
+
 def rows_in(held):
     """The commands that bytes spell, and the place of the first gate that isn't 1."""
     rows, at = [], 16
     while held.byte(at) == 1:
         session, kind, length = struct.unpack(">BBH", held.part(at + 1, 4))
         payload = held.part(at + 5, length)
-        rows.append((session, "OPEN", payload[1:3].decode()) if kind == 1 else (session, "LINE", payload[8:].decode()))
+        rows.append((session, *command_in(kind, payload)))
         at += 5 + length
     return rows, at
 
@@ -179,7 +193,7 @@ def answer(journal, line):
     session = int(words[1])
     of_session = [row for row in journal.rows if row[0] == session]
     if words[0] == "LAST":
-        return show(session, journal.rows) if of_session else "NO 2"
+        return show(session, journal.rows) if of_session and of_session[-1][1] != "CLOSE" else "NO 2"
     if words[0] == "OPEN":
         command = (session, "OPEN", words[2])
     else:
@@ -194,6 +208,8 @@ def answer(journal, line):
 
 def host(disk, lines):
     """The status and the replies of a host over a disk."""
+    if not has_header(disk.seen):
+        return "8"
     try:
         journal = Journal(disk)
     except Fault:
@@ -245,6 +261,49 @@ def journal_case(work, fails, choice):
         other = Disk(image)
         told.append(f"{host(other, after)}, {other.seen.length} bytes")
     rows = rows_in(image)[0]
+    return "; ".join(told), tuple(sum(row[0] == session for row in rows) for session in (0, 1))
+
+
+# A journal that is packed into another one: `top` asks for the new one's size, and `pack` does so again; then it
+# reads the old one by two calls, and writes the new one by six.
+
+PACKED = [(0, "OPEN", "k1"), (0, "LINE", "go"), (1, "OPEN", "k2"), (1, "CLOSE", "")]
+
+
+def pack(old, new):
+    """How the program ends, and what it writes."""
+    try:
+        new.look()
+        new.look()
+        old.look()
+        old.look()
+        rows, _ = rows_in(old.seen)
+        closed = {row[0] for row in rows if row[1] == "CLOSE"}
+        kept = [row for row in rows if row[0] not in closed]
+        new.write(0, bytes(16))
+        new.sync()
+        new.write(16, b"".join(b"\1" + row_of(row) for row in kept) + b"\0")
+        new.sync()
+        new.write(0, HEADER)
+        new.sync()
+    except Fault:
+        return "6 "
+    return f"0 packed {len(kept)} of {len(rows)}"
+
+
+def pack_case(work, fails, choice):
+    """What comes of a case, and how many commands each session of the new journal then has, if it is one."""
+    held = Bytes()
+    held.put(0, HEADER + b"".join(b"\1" + row_of(row) for row in PACKED) + b"\0")
+    old = Disk(held, fails if work == "pack-old" else ())
+    new = Disk(Bytes(), () if work == "pack-old" else fails)
+    told = [pack(old, new)]
+    images = [held_of(Image(disk, choice)) for disk in (new, old)]
+    for image in images:
+        told.append(f"{host(Disk(image), [LAST, OTHER_LAST])}, {image.length} bytes")
+    if not has_header(images[0]):
+        return "; ".join(told), None
+    rows = rows_in(images[0])[0]
     return "; ".join(told), tuple(sum(row[0] == session for row in rows) for session in (0, 1))
 
 
@@ -412,6 +471,18 @@ ENDS = {
     ("append-three", (5, 6)): {REPAIRED},
     ("append-three", (6, 7)): {REPAIRED},
     ("append-three", (6, 8)): {REPAIRED},
+    # the new journal is none, or the whole one: its header is written last
+    ("pack", ()): {BOTH},
+    ("pack", (0,)): {None},
+    ("pack", (1,)): {None},
+    ("pack", (2,)): {None},
+    ("pack", (3,)): {None},
+    ("pack", (4,)): {None},
+    ("pack", (5,)): {None},
+    ("pack", (6,)): {None, BOTH},
+    ("pack", (7,)): {None, BOTH},
+    ("pack-old", (0,)): {None},
+    ("pack-old", (1,)): {None},
     ("make", ()): {NONE},
     ("make", (0,)): {"no header", NONE},
     ("make", (1,)): {"no header", NONE},
@@ -441,6 +512,12 @@ ENDS = {
 }
 
 
+def case_of(work):
+    if work in JOURNALS:
+        return journal_case
+    return pack_case if work.startswith("pack") else store_case
+
+
 def main():
     given, wanted, otherwise = [], [], []
     for (work, fails), ends in ENDS.items():
@@ -448,12 +525,12 @@ def main():
         large = work == "put" or (work, fails) == ("put-two", ())
         for choice in FEW_CHOICES if large else CHOICES:
             case = f"{work} {','.join(map(str, fails)) or '-'} {choice}"
-            outcome, end = (journal_case if work in JOURNALS else store_case)(work, fails, choice)
+            outcome, end = case_of(work)(work, fails, choice)
             given.append(case + "\n")
             wanted.append(f"{case}: {outcome}\n")
             found.add(end)
         if found != ends:
-            otherwise.append(f"{work} {fails}: ends as {sorted(found)} in place of {sorted(ends)}")
+            otherwise.append(f"{work} {fails}: ends as {found} in place of {ends}")
     for name, lines in (("stdin", given), ("stdout", wanted)):
         if sys.argv[1:] == ["--write"]:
             (FOLDER / name).write_text("".join(lines))

@@ -29,6 +29,13 @@ port_rule = required_rule (codes "PORT")
 abbrev pub workers_rule : Rule
 workers_rule = required_rule (codes "WORKERS")
 
+-- OLD, and NEW
+abbrev pub old_rule : Rule
+old_rule = required_rule (codes "OLD")
+
+abbrev pub new_folder_rule : Rule
+new_folder_rule = required_rule (codes "NEW")
+
 -- N
 abbrev pub number_argument : Rule
 number_argument = required_rule (codes "N")
@@ -75,6 +82,10 @@ serve_app = with_rule (with_rule (with_rule served_app stories_rule) budget_rule
 abbrev pub replay_app : App
 replay_app = with_rule (with_rule (new_app (codes "replay")) folder_rule) stories_rule
 
+-- `pack OLD NEW`
+abbrev pub pack_app : App
+pack_app = with_rule (with_rule (new_app (codes "pack")) old_rule) new_folder_rule
+
 -- `drill N`
 abbrev pub drill_app : App
 drill_app = with_rule (new_app (codes "drill")) number_argument
@@ -96,10 +107,14 @@ solo_app = with_subcommand (with_subcommand bare_app run_app.top) check_app.top
 abbrev pub folder_app : App
 folder_app = with_subcommand (with_subcommand solo_app init_app.top) pipe_app.top
 
--- with these, and the commands over links and over a journal alone
+-- with these, and the command over links
 abbrev pub host_app : App
-host_app = with_subcommand (with_subcommand folder_app serve_app.top) replay_app.top
+host_app = with_subcommand folder_app serve_app.top
+
+-- with these, and the commands over a journal that no host holds
+abbrev pub journal_app : App
+journal_app = with_subcommand (with_subcommand host_app replay_app.top) pack_app.top
 
 -- `storyhost` with its commands
 abbrev pub storyhost_app : App
-storyhost_app = with_subcommand host_app drill_app.top
+storyhost_app = with_subcommand journal_app drill_app.top

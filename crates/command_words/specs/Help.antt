@@ -3,10 +3,11 @@ use Rattle.std.specs.Prelude.{ℕ, if◌then◌else◌, List, [], ◌∷◌, cod
 use Rattle.std.specs.Str.{bytes_eq}
 use Rattle.command_words.specs.declared.help.TheConstants.{PROGRAM_HELP, RUN_HELP, CHECK_HELP}
 use Rattle.command_words.specs.declared.help.TheConstants.{INIT_HELP, PIPE_HELP, SERVE_HELP}
-use Rattle.command_words.specs.declared.help.TheConstants.{REPLAY_HELP, DRILL_HELP, VERSION_TEXT}
+use Rattle.command_words.specs.declared.help.TheConstants.{REPLAY_HELP, PACK_HELP, DRILL_HELP}
+use Rattle.command_words.specs.declared.help.TheConstants.{VERSION_TEXT}
 use Rattle.command_words.specs.declared.help.Topic.{Topic}
 use Rattle.command_words.specs.declared.help.Topic.TheVariants.{Program, Run, Check, Init}
-use Rattle.command_words.specs.declared.help.Topic.TheVariants.{Pipe, Serve, Replay, Drill}
+use Rattle.command_words.specs.declared.help.Topic.TheVariants.{Pipe, Serve, Replay, Pack, Drill}
 
 -- the text for a topic
 abbrev pub help_text : Topic → List ℕ
@@ -17,6 +18,7 @@ help_text Init = INIT_HELP.now
 help_text Pipe = PIPE_HELP.now
 help_text Serve = SERVE_HELP.now
 help_text Replay = REPLAY_HELP.now
+help_text Pack = PACK_HELP.now
 help_text Drill = DRILL_HELP.now
 
 -- the text of the version
@@ -32,7 +34,8 @@ topic_named word =
     (if bytes_eq word (codes "pipe") then Pipe else
     (if bytes_eq word (codes "serve") then Serve else
     (if bytes_eq word (codes "replay") then Replay else
-    (if bytes_eq word (codes "drill") then Drill else Program))))))
+    (if bytes_eq word (codes "pack") then Pack else
+    (if bytes_eq word (codes "drill") then Drill else Program)))))))
 
 -- what help is asked of: the command that the first word names, or else the program
 abbrev pub topic_of : List (List ℕ) → Topic

@@ -15,15 +15,17 @@ use Rattle.command_words.specs.Serving.{serving_in}
 use Rattle.command_words.specs.declared.help.Topic.{Topic}
 use Rattle.command_words.specs.declared.words.Action.{Action}
 use Rattle.command_words.specs.declared.words.Action.TheVariants.{Run, Check, Pipe, Init, Help}
-use Rattle.command_words.specs.declared.words.Action.TheVariants.{Serve, Replay, Drill, Version}
+use Rattle.command_words.specs.declared.words.Action.TheVariants.{Serve, Replay, Pack, Drill}
+use Rattle.command_words.specs.declared.words.Action.TheVariants.{Version}
 use Rattle.command_words.specs.declared.words.Serving.{Serving}
 use Rattle.command_words.specs.declared.command.Command.{Command}
 
--- what the program is asked to do, with the folder, the names of its story files and the budget of
--- a turn
+-- what the program is asked to do, with the folder, the one that it is packed into, the names of its
+-- story files and the budget of a turn
 pub record Asked : Type 0 where
   pub action : Action
   pub folder : Text
+  pub into : Text
   pub names : List Text
   pub budget : ℕ
 
@@ -32,6 +34,7 @@ abbrev pub command_asked : Command → Asked
 command_asked command = record {
   action = command.action;
   folder = command.folder.now;
+  into = command.into.now;
   names = map (λ name. name.now) command.names.items;
   budget = command.budget;
 }
@@ -43,7 +46,13 @@ asked_for action (Some folder) None budget = None
 asked_for action (Some folder) (Some names) None = None
 asked_for action (Some folder) (Some names) (Some budget) =
     if nat_le (length names) 64
-    then Some (record { action = action; folder = folder; names = names; budget = budget })
+    then Some (record {
+      action = action;
+      folder = folder;
+      into = [];
+      names = names;
+      budget = budget;
+    })
     else None
 
 -- what an action is given: the folder, the files of an argument, and the budget
@@ -59,7 +68,19 @@ folder_in rows = first_of (codes "DIR") rows
 abbrev pub asked_on : Action → Option Text → Option Asked
 asked_on action None = None
 asked_on action (Some folder) =
-    Some (record { action = action; folder = folder; names = []; budget = 50000000 })
+    Some (record { action = action; folder = folder; into = []; names = []; budget = 50000000 })
+
+-- one folder into another, which aren't named by the same word
+abbrev pub asked_between : Option Text → Option Text → Option Asked
+asked_between None new = None
+asked_between (Some old) None = None
+asked_between (Some old) (Some new) =
+    if bytes_eq old new then None
+    else Some (record { action = Pack; folder = old; into = new; names = []; budget = 50000000 })
+
+-- the old folder and the new one that are given
+abbrev pub asked_packing : List Row → Option Asked
+asked_packing rows = asked_between (first_of (codes "OLD") rows) (first_of (codes "NEW") rows)
 
 -- a folder and its story files, served so
 abbrev pub asked_serving : Option Serving → List Row → Option Asked
@@ -71,7 +92,7 @@ asked_serving (Some serving) rows =
 abbrev pub asked_alone : Option Action → Option Asked
 asked_alone None = None
 asked_alone (Some action) =
-    Some (record { action = action; folder = []; names = []; budget = 50000000 })
+    Some (record { action = action; folder = []; into = []; names = []; budget = 50000000 })
 
 -- the drill of the number that is given
 abbrev pub drill_in : List Row → Option Action
@@ -91,7 +112,8 @@ asked_in given =
     then asked_serving (serving_in given.1) given.1 else
     (if bytes_eq given.0 (codes "replay")
     then asked_with Replay (folder_in given.1) (codes "STORY") given.1 else
-    (if bytes_eq given.0 (codes "drill") then asked_alone (drill_in given.1) else None))))))
+    (if bytes_eq given.0 (codes "pack") then asked_packing given.1 else
+    (if bytes_eq given.0 (codes "drill") then asked_alone (drill_in given.1) else None)))))))
 
 -- the action that shows a text where `clap` says that one is wanted
 abbrev pub shown_by : Topic → ErrorKind → Option Action

@@ -5,7 +5,8 @@ ghost use Rattle.clap.specs.Walk.{rule_of};
 ghost use Rattle.clap.specs.Words.{AddsSubcommand};
 ghost use Rattle.clap.specs.declared.builder.command.Command.TheViews.{out-Command as fields_of};
 ghost use Rattle.command_words.specs.CommandLine.{bare_app, check_app, drill_app, folder_app};
-ghost use Rattle.command_words.specs.CommandLine.{host_app, init_app, named_rule, pipe_app};
+ghost use Rattle.command_words.specs.CommandLine.{host_app, init_app, journal_app, named_rule};
+ghost use Rattle.command_words.specs.CommandLine.{pack_app, pipe_app};
 ghost use Rattle.command_words.specs.CommandLine.{repeated_rule, replay_app};
 ghost use Rattle.command_words.specs.CommandLine.{required_rule, run_app, serve_app, served_app};
 ghost use Rattle.command_words.specs.CommandLine.{solo_app, storyhost_app};
@@ -107,6 +108,16 @@ fn replay_command<'w>(alloc: Global) -> Result<Command<'w>, AllocError>
         .arg(repeated_argument(alloc, "STORY"))
 }
 
+/// `pack OLD NEW`.
+fn pack_command<'w>(alloc: Global) -> Result<Command<'w>, AllocError>
+    ensures app { IfOk result (λ c. app_of c ≡ pack_app) }
+    ensures local { IfOk result (λ c. (fields_of c).has_globals ≡ false) }
+{
+    Command::new(alloc, "pack")
+        .arg(required_argument(alloc, "OLD"))?
+        .arg(required_argument(alloc, "NEW"))
+}
+
 /// `drill N`.
 fn drill_command<'w>(alloc: Global) -> Result<Command<'w>, AllocError>
     ensures app { IfOk result (λ c. app_of c ≡ drill_app) }
@@ -154,19 +165,27 @@ fn folder_command<'w>(alloc: Global) -> Result<Command<'w>, AllocError>
     with_command(program, pipe_command(alloc))
 }
 
-/// The program with these, and the commands over links and over a journal alone.
+/// The program with these, and the command over links.
 fn host_command<'w>(alloc: Global) -> Result<Command<'w>, AllocError>
     ensures { IfOk result (λ c. app_of c ≡ host_app) }
 {
     let folder = folder_command(alloc)?;
-    let program = with_command(folder, serve_command(alloc))?;
-    with_command(program, replay_command(alloc))
+    with_command(folder, serve_command(alloc))
+}
+
+/// The program with these, and the commands over a journal that no host holds.
+fn journal_command<'w>(alloc: Global) -> Result<Command<'w>, AllocError>
+    ensures { IfOk result (λ c. app_of c ≡ journal_app) }
+{
+    let host = host_command(alloc)?;
+    let program = with_command(host, replay_command(alloc))?;
+    with_command(program, pack_command(alloc))
 }
 
 /// The program with its commands.
 pub fn storyhost<'w>(alloc: Global) -> Result<Command<'w>, AllocError>
     ensures { IfOk result (λ c. app_of c ≡ storyhost_app) }
 {
-    let host = host_command(alloc)?;
-    with_command(host, drill_command(alloc))
+    let journal = journal_command(alloc)?;
+    with_command(journal, drill_command(alloc))
 }

@@ -12,6 +12,7 @@ pub enum Topic {
     Pipe,
     Serve,
     Replay,
+    Pack,
     Drill,
 }
 
@@ -34,6 +35,7 @@ Commands:
   serve DIR PORT WORKERS STORY.. [--budget N] [--links K]
                                    serve them over TCP, on this machine alone
   replay DIR STORY..               write all that the players of a folder saw
+  pack OLD NEW                     begin a folder anew with the games in use alone
   drill N                          play eight sessions by scripts, as a trial
 
   storyhost COMMAND --help         tells more of a command
@@ -175,6 +177,23 @@ of session 1 and so on up to 63, and then the line `done`. Of each game it write
                   isn't the one with which the game was opened
 ";
 
+/// What `pack` does.
+pub const PACK_HELP: &str = "\
+Begins a folder with a shorter journal: the games of another folder that are in
+use, without those that are over. The old folder is only read.
+
+Usage: storyhost pack OLD NEW
+
+  OLD           a folder with a journal, which no running host holds
+  NEW           another folder, which is made where it is missing
+
+Writes `packed A of B`: A moves were kept of B. Each player can go on in the new
+folder where the game stood; a session that was closed is one that was never
+opened. A NEW that has a journal is refused with exit status 8 and the line
+`not empty`, and no file is changed. Where the packing ends otherwise, NEW is of
+no use: remove it before the next.
+";
+
 /// What `drill` does.
 pub const DRILL_HELP: &str = "\
 Plays eight sessions of a small story, which only says what it is told, on a
@@ -204,6 +223,7 @@ pub fn help_text(topic: Topic) -> &'static str
         Topic::Pipe => PIPE_HELP,
         Topic::Serve => SERVE_HELP,
         Topic::Replay => REPLAY_HELP,
+        Topic::Pack => PACK_HELP,
         Topic::Drill => DRILL_HELP,
     }
 }

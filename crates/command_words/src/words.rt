@@ -7,10 +7,12 @@ ghost use Rattle.clap.specs.Simple.{subcommand_rows_of};
 ghost use Rattle.clap.specs.Walk.{first_of, rows_of};
 ghost use Rattle.command_words.specs.Help.{topic_named, topic_of};
 ghost use Rattle.command_words.specs.Numbers.{IsWorkerCount};
+ghost use Rattle.command_words.specs.Packing.{IsNoPacking};
 ghost use Rattle.command_words.specs.Serving.{HasWorkers, port_in, serving_in, workers_in};
 ghost use Rattle.command_words.specs.Words.{command_asked, asked_alone, asked_by, asked_in};
 ghost use Rattle.command_words.specs.Words.{asked_on};
-ghost use Rattle.command_words.specs.Words.{asked_serving, asked_with, drill_in, folder_in};
+ghost use Rattle.command_words.specs.Words.{asked_packing, asked_serving, asked_with, drill_in};
+ghost use Rattle.command_words.specs.Words.{folder_in};
 ghost use Rattle.command_words.specs.Words.{shown_by};
 
 use crate::command::Command;
@@ -50,6 +52,8 @@ pub enum Action {
     Serve(Serving),
     /// Writes what the players of a folder were shown, from its journal.
     Replay,
+    /// Begins a folder with the games of another one that are in use.
+    Pack,
     /// Plays eight sessions by the scripts of a number.
     Drill(u64),
     /// Shows help.
@@ -119,6 +123,7 @@ fn serving_in(matches: &ArgMatches<'_>) -> Option<Serving>
 fn drill_in(matches: &ArgMatches<'_>) -> Option<Action>
     ensures value { result ≡ drill_in (rows_of (found_of matches.now)) }
     ensures range { IfSome result HasWorkers }
+    ensures alone { IfSome result IsNoPacking }
 {
     let Some(word) = word_given(matches, "N") else {
         return None;
@@ -132,12 +137,14 @@ fn drill_in(matches: &ArgMatches<'_>) -> Option<Action>
 /// What an action is given that needs neither a folder nor files.
 fn command_alone<'w>(alloc: Global, action: Option<Action>) -> Option<Command<'w>>
     requires workers { IfSome action HasWorkers }
+    requires alone { IfSome action IsNoPacking }
     ensures { option_map command_asked result ≡ asked_alone action }
 {
     match action {
         Some(action) => Some(Command {
             action,
             folder: "",
+            into: "",
             names: Vec::new(alloc),
             budget: BUDGET,
         }),
@@ -148,6 +155,7 @@ fn command_alone<'w>(alloc: Global, action: Option<Action>) -> Option<Command<'w
 /// What an action is given: a folder alone.
 fn command_on<'w>(alloc: Global, action: Action, folder: Option<&'w str>) -> Option<Command<'w>>
     requires workers { HasWorkers action }
+    requires alone { IsNoPacking action }
     ensures { option_map command_asked result
         ≡ asked_on action (option_map (λ f. f.now) folder.entry) }
 {
@@ -155,11 +163,35 @@ fn command_on<'w>(alloc: Global, action: Action, folder: Option<&'w str>) -> Opt
         Some(folder) => Some(Command {
             action,
             folder,
+            into: "",
             names: Vec::new(alloc),
             budget: BUDGET,
         }),
         None => None,
     }
+}
+
+/// What `pack` is given: two folders that aren't named by the same word.
+fn command_packing<'w>(alloc: Global, matches: &ArgMatches<'w>) -> Option<Command<'w>>
+    ensures { option_map command_asked result
+        ≡ asked_packing (rows_of (found_of matches.now)) }
+{
+    let Some(old) = word_given(matches, "OLD") else {
+        return None;
+    };
+    let Some(new) = word_given(matches, "NEW") else {
+        return None;
+    };
+    if old == new {
+        return None;
+    }
+    Some(Command {
+        action: Action::Pack,
+        folder: old,
+        into: new,
+        names: Vec::new(alloc),
+        budget: BUDGET,
+    })
 }
 
 /// What an action is given: the folder, the files of an argument, and the budget.
@@ -171,6 +203,7 @@ fn command_with<'w>(
     matches: &ArgMatches<'w>,
 ) -> Result<Option<Command<'w>>, AllocError>
     requires workers { HasWorkers action }
+    requires alone { IsNoPacking action }
     ensures { IfOk result (λ command. option_map command_asked command
         ≡ asked_with action (Some folder.now) files.now
         (rows_of (found_of matches.now))) }
@@ -188,6 +221,7 @@ fn command_with<'w>(
     Ok(Some(Command {
         action,
         folder,
+        into: "",
         names,
         budget,
     }))
@@ -200,6 +234,7 @@ fn command_over<'w>(
     matches: &ArgMatches<'w>,
 ) -> Result<Option<Command<'w>>, AllocError>
     requires workers { HasWorkers action }
+    requires alone { IsNoPacking action }
     ensures { IfOk result (λ command. option_map command_asked command
         ≡ asked_with action (folder_in (rows_of (found_of matches.now))) (codes "STORY")
         (rows_of (found_of matches.now))) }
@@ -241,6 +276,7 @@ fn command_in<'w>(
             "pipe" => command_over(alloc, Action::Pipe, given),
             "serve" => command_serving(alloc, given),
             "replay" => command_over(alloc, Action::Replay, given),
+            "pack" => Ok(command_packing(alloc, given)),
             "drill" => Ok(command_alone(alloc, drill_in(given))),
             _ => Ok(None),
         },
@@ -259,6 +295,7 @@ fn topic_named(word: &str) -> Topic
         "pipe" => Topic::Pipe,
         "serve" => Topic::Serve,
         "replay" => Topic::Replay,
+        "pack" => Topic::Pack,
         "drill" => Topic::Drill,
         _ => Topic::Program,
     }
@@ -278,6 +315,7 @@ fn topic_of(words: &[String]) -> Topic
 fn shown_by(topic: Topic, kind: ErrorKind) -> Option<Action>
     ensures value { result ≡ shown_by topic kind }
     ensures range { IfSome result HasWorkers }
+    ensures alone { IfSome result IsNoPacking }
 {
     match kind {
         ErrorKind::DisplayHelp => Some(Action::Help(topic)),

@@ -86,17 +86,26 @@ pub const WORKS: [Work; 8] = [
     },
 ];
 
+/// A disk with a journal that has rows of these lines.
+pub fn journal_with<R: Threads + Wait + Sync>(
+    rt: &R,
+    alloc: Global,
+    lines: &str,
+) -> Result<MemDisk, AllocError> {
+    let mut disk = MemDisk::new(alloc);
+    let Ok(()) = init(&mut disk) else {
+        return Err(AllocError);
+    };
+    Ok(answer(rt, alloc, disk, lines)?.disk)
+}
+
 /// A disk that holds the journal of a piece of work, and of which no call was made.
 fn journal_of<R: Threads + Wait + Sync>(
     rt: &R,
     alloc: Global,
     work: &Work,
 ) -> Result<MemDisk, AllocError> {
-    let mut disk = MemDisk::new(alloc);
-    let Ok(()) = init(&mut disk) else {
-        return Err(AllocError);
-    };
-    let mut disk = answer(rt, alloc, disk, work.before)?.disk;
+    let mut disk = journal_with(rt, alloc, work.before)?;
     if work.torn && (disk.write_at(GATE, &[7]).is_err() || disk.sync().is_err()) {
         return Err(AllocError);
     }
@@ -123,7 +132,7 @@ fn told(alloc: Global, ran: &Ran) -> Result<String, AllocError> {
 }
 
 /// How many bytes a disk holds, and what a host over a copy of it answers to these lines.
-fn told_after<R: Threads + Wait + Sync>(
+pub fn told_after<R: Threads + Wait + Sync>(
     rt: &R,
     alloc: Global,
     disk: &MemDisk,

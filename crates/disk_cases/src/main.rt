@@ -6,6 +6,7 @@
 mod case;
 mod host;
 mod journal;
+mod pack;
 mod store;
 
 use case::{Case, read_case};
@@ -28,7 +29,10 @@ fn outcome_of<R: Threads + Wait + Sync>(
             return journal::outcome(rt, alloc, work, case);
         }
     }
-    store::outcome(alloc, two_areas, case)
+    match case.work {
+        "pack" | "pack-old" => pack::outcome(rt, alloc, case),
+        _ => store::outcome(alloc, two_areas, case),
+    }
 }
 
 fn main(rt: HostRuntime) -> io::Result<()> {

@@ -6,4 +6,6 @@ mod disk;
 #[cfg(test)]
 mod journal;
 #[cfg(test)]
+mod pack;
+#[cfg(test)]
 mod store;

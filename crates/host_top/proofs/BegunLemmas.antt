@@ -24,7 +24,7 @@ use Rattle.host_top.specs.declared.outside.Fetch.{Fetch}
 use Rattle.host_top.specs.declared.outside.Fetch.TheVariants as fetch
 use Rattle.host_top.specs.declared.status.Status.{Status}
 use Rattle.host_top.specs.declared.status.Status.TheVariants as ends
-use Rattle.host_top.proofs.BorrowLemmas.{lent_loan}
+use Rattle.host_top.proofs.BorrowLemmas.{out_still}
 use Rattle.host_top.proofs.LoansLemmas.{counts_one, counts_out, lent_nothing}
 use Rattle.host_top.proofs.BorrowLemmas.{lent_one, one_back, together, turned_about}
 use Rattle.host_top.proofs.NameLemmas.{each_snap, journal_apart, snap_each}
@@ -294,6 +294,21 @@ module _ {D : Type 0} (disks : DiskWords D) where
         })
       ]
 
+  -- it is out while the stores' disks are lent and put back
+  pub journal_out : (folder : List ℕ) (given : D) (o a b : OutsideState D)
+      (stores : List (Lending D))
+      → Lends disks.label disks.faults (journal_in folder) given o a
+      → AreNamed (snaps_below folder 64) stores → Borrowed disks a b stores
+      → b.loan (journal_in folder)
+      ≡ Some
+      (loan_by disks (record { name = journal_in folder; given = given; back = None }))
+  journal_out folder given o a b stores lends named borrowed =
+      let name : List ℕ = journal_in folder in
+      out_still disks name given o a b stores lends borrowed
+      (named name (snap_each (λ n. bytes_eq n name ≡ false) folder 64
+      (λ t low. turned_about name (snap_in folder t)
+      (each_snap (λ n. bytes_eq name n ≡ false) folder 64 t (journal_apart folder 64) low))))
+
   pub folder_lent : (folder first second : List ℕ) (given back : D) (o a b : OutsideState D)
       (output new : SinkState) (status : Status)
       → first ≡ journal_in folder → second ≡ journal_in folder
@@ -302,18 +317,11 @@ module _ {D : Type 0} (disks : DiskWords D) where
       → (stores : List (Lending D)) × Inits disks folder given back stores stores a b output new
       status → IsLent (b.loan second) (disks.label back)
   folder_lent folder first second given back o a b output new status is again lends same init =
-      let name : List ℕ = journal_in folder in
-      let l : Lending D = record { name = name; given = given; back = None } in
-      let far : Each (IsOther name) init.0 =
-      init.1.named name (snap_each (λ n. bytes_eq n name ≡ false) folder 64
-      (λ t low. turned_about name (snap_in folder t)
-      (each_snap (λ n. bytes_eq name n ≡ false) folder 64 t (journal_apart folder 64) low))) in
-      let loan : b.loan name ≡ Some (loan_by disks l) =
-      (init.1.borrowed.others name far).1
-      ∙ lent_loan disks name given o a
-      (subst (λ (n : List ℕ). Lends disks.label disks.faults n given o a) is lends) in
       subst (λ (n : List ℕ). IsLent (b.loan n) (disks.label back)) (sym again)
-      (subst (λ (x : Option Loan). IsLent x (disks.label back)) (sym loan) (sym same.name, refl))
+      (subst (λ (x : Option Loan). IsLent x (disks.label back))
+      (sym (journal_out folder given o a b init.0
+      (subst (λ (n : List ℕ). Lends disks.label disks.faults n given o a) is lends)
+      init.1.named init.1.borrowed)) (sym same.name, refl))
 
   pub no_folder : (names : List (List ℕ)) (outside beyond : OutsideState D) (input : SourceState)
       (output : SinkState) (status : Status)

@@ -70,6 +70,15 @@ module _ {D : Type 0} (disks : DiskWords D) where
   lent_loan name given outside mid lends =
       lends.loans name ∙ there (bytes_eq name name) _ (outside.loan name) (same_name name)
 
+  -- and it is out while others are lent and put back
+  pub out_still : (name : List ℕ) (given : D) (outside mid now : OutsideState D)
+      (ls : List (Lending D))
+      → Lends disks.label disks.faults name given outside mid → Borrowed disks mid now ls
+      → Each (IsOther name) ls
+      → now.loan name ≡ Some (loan_by disks (record { name = name; given = given; back = None }))
+  out_still name given outside mid now ls lends borrowed far =
+      (borrowed.others name far).1 ∙ lent_loan name given outside mid lends
+
   -- so it may be put back
   pub is_lent : (name : List ℕ) (given back : D) (outside mid : OutsideState D)
       → Lends disks.label disks.faults name given outside mid

@@ -22,7 +22,7 @@ cause_alone true due none = refl
 cause_alone false due none = none
 
 -- a call fails for its cause alone
-fails_by_cause : (old new : Option Failing) (cause fails : Bool) → NoneIsListed old
+pub fails_by_cause : (old new : Option Failing) (cause fails : Bool) → NoneIsListed old
     → FailsAsListed old new cause fails → fails ≡ cause
 fails_by_cause None new cause fails none listed = absurd none
 fails_by_cause (Some calls) new cause fails none listed =

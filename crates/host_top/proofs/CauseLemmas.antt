@@ -1,16 +1,19 @@
 -- The status of a disk that failed.
-use Rattle.std.proofs.Common.{◌≡◌, ◌∙◌, ℕ, zero, suc, Bool, inl, inr, List, [], ◌∷◌, length}
+use Rattle.std.proofs.Common.{◌≡◌, ◌⊎◌, ◌∙◌, ℕ, zero, suc, Bool, inl, inr, List, [], ◌∷◌, length}
 use Rattle.std.proofs.Common.{slice_get, refl, sym, subst, arith, Some, Result, Ok, Err}
 use Rattle.gate_journal.specs.Faults.{HasCause, HasInitCause}
 use Rattle.gate_journal.specs.declared.fault.InitFault.{InitFault}
 use Rattle.gate_journal.specs.declared.fault.InitFault.TheVariants as begin
 use Rattle.gate_journal.specs.declared.fault.JournalFault.{JournalFault}
 use Rattle.gate_journal.specs.declared.fault.JournalFault.TheVariants as fault
+use Rattle.journal_pack.specs.Faults.{Counts, HasPackCause}
+use Rattle.journal_pack.specs.declared.fault.PackFault.{PackFault}
+use Rattle.journal_pack.specs.declared.fault.PackFault.TheVariants as pack
 use Rattle.story_run.specs.declared.story.Story.{Story}
 use Rattle.host_top.specs.DoorServed.{OfDoor}
 use Rattle.host_top.specs.Begun.{InitsOn, SaysRefusal}
-use Rattle.host_top.specs.Borrowed.{CountsFaults, HasFailed, NotLent, journal_in, lent_as}
-use Rattle.host_top.specs.Borrowed.{snaps_below}
+use Rattle.host_top.specs.Borrowed.{HasFailed, Lending, NotLent, journal_in}
+use Rattle.host_top.specs.Borrowed.{lent_as, snaps_below}
 use Rattle.host_top.specs.Folder.{TakesDisks, back_at, folder_back}
 use Rattle.host_top.specs.declared.folder.Back.{Back}
 use Rattle.host_top.specs.declared.folder.Back.TheVariants as back
@@ -21,8 +24,9 @@ use Rattle.host_top.specs.Follows.{DoesTask, FollowsCommand}
 use Rattle.host_top.specs.LinksServed.{LinksServed, ServesOver}
 use Rattle.host_top.specs.Piped.{HostedOver, PipesOver}
 use Rattle.host_top.specs.Said.{SaysFault, SaysLine}
-use Rattle.host_top.specs.Replayed.{ReplaysOn}
-use Rattle.host_top.specs.Speech.{Task, Says, Serves, ServesLinks, Begins, Replays}
+use Rattle.host_top.specs.Packed.{IsNotPacked, Journals, PacksOn, PacksOver, SaysPackFault, journal_loan}
+use Rattle.host_top.specs.Replayed.{ReplaysOn, ReplaysOver}
+use Rattle.host_top.specs.Speech.{Task, Says, Serves, ServesLinks, Begins, Replays, PacksFrom}
 use Rattle.host_top.specs.Status.{status_of, status_of_served, status_of_stop}
 use Rattle.line_talk.specs.Streams.{SourceState, SinkState, Wrote}
 use Rattle.command_words.specs.Words.{Asked}
@@ -50,17 +54,18 @@ no_stop : (cause : Stop) (A : Type 0) → DiskFault ≡ status_of_stop cause →
 no_stop stop.Output A e = absurd (grind (arith, e))
 no_stop stop.Memory A e = absurd (grind (arith, e))
 
-no_line : {good : Status} {line : List ℕ} {output new : SinkState} (A : Type 0)
+pub no_line : {good : Status} {line : List ℕ} {output new : SinkState} (A : Type 0)
     → (DiskFault ≡ good → A) → SaysLine good line output new DiskFault → A
 no_line A f (inl said) = f said.0
 no_line A f (inr (cause, is, stopped)) = no_stop cause A is
 
--- the disk's count rose, and nothing was written
-abbrev Failed : ℕ → ℕ → SinkState → SinkState → Type 0
-Failed before now output new = Rose before now × Wrote output new []
+-- P holds, and nothing was written
+abbrev Failed : Type 0 → SinkState → SinkState → Type 0
+Failed P output new = P × Wrote output new []
 
 opening_failed : (why : JournalFault) (before now : ℕ) (output new : SinkState)
-    → HasCause before now why → SaysFault why output new DiskFault → Failed before now output new
+    → HasCause before now why → SaysFault why output new DiskFault
+    → Failed (Rose before now) output new
 opening_failed fault.NotJournal before now output new cause says =
     no_line _ (λ e. absurd (grind (arith, e))) says
 opening_failed (fault.Corrupt place) before now output new cause says =
@@ -81,41 +86,42 @@ rose_at {D} disks P (n ∷ ns) (h ∷ gs) zero g d many there each rose =
 rose_at disks P (n ∷ ns) (h ∷ gs) (suc s) g d many there each rose =
     rose_at disks P ns gs s g d (omega (arith, many)) there each.1 rose
 
--- where a host isn't opened, since a disk failed
+-- where a host isn't opened, since a disk failed, of which P follows
 hosted_failed : {D : Type 0} (disks : DiskWords D) (Hosts : D → List D → Type 0) (folder : List ℕ)
-    (given : D) (givens : List D) (b : Back D) (outside beyond : OutsideState D)
+    (given : D) (givens : List D) (b : Back D) (P : Type 0)
     (input now : SourceState) (output new : SinkState) → length givens ≡ 64
-    → CountsFaults disks outside beyond
+    → Each (λ l. HasFailed disks l → P)
     (folder_back (journal_in folder) (snaps_below folder 64) given givens b)
-    → ((journal : D) (snaps : List D) → Hosts journal snaps
-    → Failed outside.disk_faults beyond.disk_faults output new)
-    → HostedOver Hosts disks given givens b input now output new DiskFault
-    → Failed outside.disk_faults beyond.disk_faults output new
-hosted_failed disks Hosts folder given givens (back.All journal snaps) outside beyond input now
-    output new many counts f hosts = f journal snaps.items hosts
-hosted_failed disks Hosts folder given givens (back.Journal journal) outside beyond input now output
-    new many counts f n =
+    → ((journal : D) (snaps : List D) → Hosts journal snaps → Failed P output new)
+    → HostedOver Hosts disks given givens b input now output new DiskFault → Failed P output new
+hosted_failed disks Hosts folder given givens (back.All journal snaps) P input now
+    output new many each f hosts = f journal snaps.items hosts
+hosted_failed disks Hosts folder given givens (back.Journal journal) P input now output
+    new many each f n =
     let failed =
     opening_failed n.fault (disks.faults given) (disks.faults journal) output new n.cause n.says
-    in (counts.rose.0 failed.0, failed.1)
-hosted_failed disks Hosts folder given givens (back.Snap session snap) outside beyond input now
-    output new many counts f s = (
+    in (each.0 failed.0, failed.1)
+hosted_failed disks Hosts folder given givens (back.Snap session snap) P input now
+    output new many each f s = (
       rose_at disks _ (snaps_below folder 64) givens session s.given snap
-          (many ∙ sym (snaps_many folder 64)) s.stands counts.rose.1 s.rose,
+          (many ∙ sym (snaps_many folder 64)) s.stands each.1 s.rose,
       s.wrote,
     )
-hosted_failed disks Hosts folder given givens back.Nothing outside beyond input now output new many
-    counts f l = absurd (grind (arith, l.wanted))
+hosted_failed disks Hosts folder given givens back.Nothing P input now output new many
+    each f l = absurd (grind (arith, l.wanted))
 
-pipe_failed : {D : Type 0} (disks : DiskWords D) {stories : List Story} {budget : ℕ}
-    (folder : List ℕ) (outside beyond : OutsideState D) {input now : SourceState}
+pub pipe_failed : {D : Type 0} (disks : DiskWords D) {stories : List Story} {budget : ℕ}
+    (folder : List ℕ) {outside beyond : OutsideState D} (P : Type 0) {input now : SourceState}
     (output new : SinkState)
-    → TakesDisks disks folder
+    (t : TakesDisks disks folder
     (λ given givens b. PipesOver disks stories budget given givens b input now
-    output new DiskFault) outside beyond → Failed outside.disk_faults beyond.disk_faults output new
-pipe_failed disks {stories} {budget} folder outside beyond {input} {now} output new t =
-    hosted_failed disks _ folder t.given t.givens t.back outside beyond input now output new t.many
-    t.counts (λ journal snaps hosts. no_end hosts.0 _ hosts.1) t.done
+    output new DiskFault) outside beyond)
+    → Each (λ l. HasFailed disks l → P)
+    (folder_back (journal_in folder) (snaps_below folder 64) t.given t.givens t.back)
+    → Failed P output new
+pipe_failed disks folder P {input} {now} output new t each =
+    hosted_failed disks _ folder t.given t.givens t.back P input now output new t.many
+    each (λ journal snaps hosts. no_end hosts.0 _ hosts.1) t.done
 
 no_links : {D : Type 0} (disks : DiskWords D) {OnDoor : OfDoor D} {stories : List Story}
     {budget workers : ℕ} {given back : D} {givens backs : List D} {input now : SourceState}
@@ -128,20 +134,24 @@ no_links disks A served = elim served.how [
   | inr (inr wanted) ↦ absurd (grind (arith, wanted))
 ]
 
-links_failed : {D : Type 0} (disks : DiskWords D) {OnDoor : OfDoor D} {stories : List Story}
+pub links_failed : {D : Type 0} (disks : DiskWords D) {OnDoor : OfDoor D} {stories : List Story}
     {budget workers : ℕ} (folder : List ℕ)
-    (outside beyond : OutsideState D) {input now : SourceState} (output new : SinkState)
-    → TakesDisks disks folder
+    {outside beyond : OutsideState D} (P : Type 0) {input now : SourceState}
+    (output new : SinkState)
+    (t : TakesDisks disks folder
     (λ given givens b. ServesOver disks OnDoor stories budget workers given givens b input now
-    output new DiskFault) outside beyond → Failed outside.disk_faults beyond.disk_faults output new
-links_failed disks folder outside beyond {input} {now} output new t =
-    hosted_failed disks _ folder t.given t.givens t.back outside beyond input now output new t.many
-    t.counts (λ journal snaps hosts. no_links disks _ hosts) t.done
+    output new DiskFault) outside beyond)
+    → Each (λ l. HasFailed disks l → P)
+    (folder_back (journal_in folder) (snaps_below folder 64) t.given t.givens t.back)
+    → Failed P output new
+links_failed disks folder P {input} {now} output new t each =
+    hosted_failed disks _ folder t.given t.givens t.back P input now output new t.many
+    each (λ journal snaps hosts. no_links disks _ hosts) t.done
 
-refusal_failed : (why : InitFault) (tells : Bool) (seen : List ℕ) (before now : ℕ)
+pub refusal_failed : (why : InitFault) (tells : Bool) (seen : List ℕ) (before now : ℕ)
     (output new : SinkState) → HasInitCause tells seen before now why
     → SaysRefusal why output new DiskFault
-    → Failed before now output new
+    → Failed (Rose before now) output new
 refusal_failed begin.NotEmpty tells seen before now output new cause says =
     no_line _ (λ e. absurd (grind (arith, e))) says
 refusal_failed (begin.DiskFault counts) tells seen before now output new cause says =
@@ -150,7 +160,7 @@ refusal_failed (begin.DiskFault counts) tells seen before now output new cause s
 not_lent_failed : {D : Type 0} (disks : DiskWords D) (names : List (List ℕ))
     (outside beyond : OutsideState D) {input now : SourceState} (output new : SinkState)
     → NotLent disks names outside beyond input now output new DiskFault
-    → Failed outside.disk_faults beyond.disk_faults output new
+    → Failed (Rose outside.disk_faults beyond.disk_faults) output new
 not_lent_failed disks names outside beyond output new none = elim none.cause [
   | inl failed ↦ (failed.1, none.wrote)
   | inr wanted ↦ absurd (grind (arith, wanted))
@@ -159,7 +169,7 @@ not_lent_failed disks names outside beyond output new none = elim none.cause [
 init_failed : {D : Type 0} (disks : DiskWords D) (folder : List ℕ) (outside beyond : OutsideState D)
     {input now : SourceState} (output new : SinkState)
     → InitsOn disks folder outside beyond input now output new DiskFault
-    → Failed outside.disk_faults beyond.disk_faults output new
+    → Failed (Rose outside.disk_faults beyond.disk_faults) output new
 init_failed disks folder outside beyond output new (inl none) =
     not_lent_failed disks (journal_in folder ∷ []) outside beyond output new none
 init_failed disks folder outside beyond output new (inr i) = elim i.inits.does [
@@ -176,43 +186,114 @@ init_failed disks folder outside beyond output new (inr i) = elim i.inits.does [
   ]
 ]
 
+pub replayed_failed : {D : Type 0} (disks : DiskWords D) (stories : List Story)
+    {given back : D} (P : Type 0) (output new : SinkState)
+    → ReplaysOver disks stories given back output new DiskFault
+    → (Rose (disks.faults given) (disks.faults back) → P) → Failed P output new
+replayed_failed disks stories {given} {back} P output new r f = elim r.does [
+  | inl t ↦ no_line _ (λ e. absurd (grind (arith, e))) t.says
+  | inr n ↦ let failed =
+      opening_failed n.fault (disks.faults given) (disks.faults back) output new n.cause n.says
+      in (f failed.0, failed.1)
+]
+
 replay_failed : {D : Type 0} (disks : DiskWords D) (stories : List Story) (folder : List ℕ)
     (outside beyond : OutsideState D) {input now : SourceState} (output new : SinkState)
     → ReplaysOn disks stories folder outside beyond input now output new DiskFault
-    → Failed outside.disk_faults beyond.disk_faults output new
+    → Failed (Rose outside.disk_faults beyond.disk_faults) output new
 replay_failed disks stories folder outside beyond output new (inl none) =
     not_lent_failed disks (journal_in folder ∷ []) outside beyond output new none
-replay_failed disks stories folder outside beyond output new (inr r) = elim r.replays.does [
-  | inl t ↦ no_line _ (λ e. absurd (grind (arith, e))) t.says
-  | inr n ↦ let failed =
-      opening_failed n.fault (disks.faults r.given) (disks.faults r.back) output new n.cause n.says
-      in (r.counts.rose.0 failed.0, failed.1)
+replay_failed disks stories folder outside beyond output new (inr r) =
+    replayed_failed disks stories _ output new r.replays r.counts.rose.0
+
+-- no line of a packing ends so
+packing_failed : (why : PackFault) (before after : Counts) (output new : SinkState)
+    → HasPackCause before after why → SaysPackFault why output new DiskFault
+    → (Rose before.old after.old ⊎ Rose before.new after.new) × Wrote output new []
+packing_failed (pack.Old fault) before after output new cause says =
+    let failed = opening_failed fault before.old after.old output new cause.0 says in
+    (inl failed.0, failed.1)
+packing_failed pack.NotEmpty before after output new cause says =
+    no_line _ (λ e. absurd (grind (arith, e))) says
+packing_failed (pack.New counts) before after output new cause says =
+    (inr cause.1.rose, says.1)
+packing_failed pack.NoMemory before after output new cause says = absurd (grind (arith, says.0))
+
+-- where a disk of both journals' failed, of which P follows
+pack_counted : {D : Type 0} (disks : DiskWords D) (old new : List ℕ) (both : Journals D)
+    (stores : List (Lending D)) (P : Type 0) (output after : SinkState)
+    → Each (λ l. HasFailed disks l → P)
+    (journal_loan old both.old both.old_back ∷ journal_loan new both.new both.new_back ∷ stores)
+    → IsNotPacked disks both output after DiskFault → Failed P output after
+pack_counted disks old new both stores P output after each n =
+    let failed = packing_failed n.fault _ _ output after n.cause n.says in (
+      elim failed.0 [
+        | inl first ↦ each.0 first
+        | inr second ↦ each.1.0 second
+      ],
+      failed.1,
+    )
+
+-- a packing that ends so failed by one of its disks
+pub over_failed : {D : Type 0} (disks : DiskWords D) (both : Journals D) (given : D)
+    (output after : SinkState) (status : Status) → disks.faults both.new ≡ disks.faults given
+    → PacksOver disks both output after status → status ≡ DiskFault
+    → Rose (disks.faults both.old) (disks.faults both.old_back)
+    ⊎ Rose (disks.faults given) (disks.faults both.new_back)
+over_failed disks both given output after status same over is =
+    elim (subst (λ (s : Status). PacksOver disks both output after s) is over).does [
+      | inl packed ↦ no_line _ (λ e. absurd (grind (arith, e))) packed.says
+      | inr n ↦ subst (λ (count : ℕ). Rose (disks.faults both.old) (disks.faults both.old_back)
+          ⊎ Rose count (disks.faults both.new_back)) same
+          (packing_failed n.fault _ _ output after n.cause n.says).0
+    ]
+
+pack_failed : {D : Type 0} (disks : DiskWords D) (old into : List ℕ)
+    (outside beyond : OutsideState D) {input now : SourceState} (output new : SinkState)
+    → PacksOn disks old into outside beyond input now output new DiskFault
+    → Failed (Rose outside.disk_faults beyond.disk_faults) output new
+pack_failed disks old into outside beyond output new (inl none) =
+    not_lent_failed disks (journal_in old ∷ journal_in into ∷ []) outside beyond output new none
+pack_failed disks old into outside beyond output new (inr p) = elim p.packs.does [
+  | inl done ↦ elim done.1 [
+    | inl over ↦ elim over.0.does [
+      | inl packed ↦ no_line _ (λ e. absurd (grind (arith, e))) packed.says
+      | inr n ↦ pack_counted disks old into p.both p.stores _ output new done.0.rose n
+    ]
+    | inr n ↦ pack_counted disks old into p.both p.stores _ output new done.0.rose n.0
+  ]
+  | inr u ↦ elim u.0.cause [
+    | inl failed ↦ (failed.1, u.0.wrote)
+    | inr wanted ↦ absurd (grind (arith, wanted))
+  ]
 ]
 
 does_failed : {D : Type 0} (disks : DiskWords D) (OnDoor : OfDoor D) (task : Result Task (List ℕ))
     (outside beyond : OutsideState D) (input now : SourceState) (output new : SinkState)
     → DoesTask disks OnDoor task outside beyond input now output new DiskFault
-    → Failed outside.disk_faults beyond.disk_faults output new
+    → Failed (Rose outside.disk_faults beyond.disk_faults) output new
 does_failed disks OnDoor (Err line) outside beyond input now output new does = absurd does.0.leaves
 does_failed disks OnDoor (Ok (Says speech)) outside beyond input now output new does = absurd
     does.0.leaves
 does_failed disks OnDoor (Ok (Serves stories budget folder)) outside beyond input now output new
     (inl none, doors) = not_lent_failed disks _ outside beyond output new none
 does_failed disks OnDoor (Ok (Serves stories budget folder)) outside beyond input now output new
-    (inr t, doors) = pipe_failed disks folder outside beyond output new t
+    (inr t, doors) = pipe_failed disks folder _ output new t t.counts.rose
 does_failed disks OnDoor (Ok (ServesLinks stories budget folder serving)) outside beyond input now
     output new (inl none, doors) = not_lent_failed disks _ outside beyond output new none
 does_failed disks OnDoor (Ok (ServesLinks stories budget folder serving)) outside beyond input now
-    output new (inr t, doors) = links_failed disks folder outside beyond output new t
+    output new (inr t, doors) = links_failed disks folder _ output new t t.counts.rose
 does_failed disks OnDoor (Ok (Begins folder)) outside beyond input now output new does =
     init_failed disks folder outside beyond output new does.0
 does_failed disks OnDoor (Ok (Replays stories folder)) outside beyond input now output new does =
     replay_failed disks stories folder outside beyond output new does.0
+does_failed disks OnDoor (Ok (PacksFrom folder into)) outside beyond input now output new does =
+    pack_failed disks folder into outside beyond output new does.0
 
 disk_failed : {D : Type 0} (disks : DiskWords D) {OnDoor : OfDoor D} (asked : Asked)
     (outside beyond : OutsideState D) (input now : SourceState) (output new : SinkState)
     → FollowsCommand disks OnDoor asked DiskFault outside beyond input now output new
-    → Failed outside.disk_faults beyond.disk_faults output new
+    → Failed (Rose outside.disk_faults beyond.disk_faults) output new
 disk_failed disks asked outside beyond input now output new (inl none) = elim none.cause [
   | inl failed ↦ absurd (grind (arith, failed.0))
   | inr wanted ↦ absurd (grind (arith, wanted))
@@ -230,7 +311,7 @@ pub failed_six : {D : Type 0} (disks : DiskWords D) {OnDoor : OfDoor D} (asked :
     (output new : SinkState)
     → FollowsCommand disks OnDoor asked status outside beyond input now output new
     → status_of code ≡ Some status
-    → code ≡ 6 → Failed outside.disk_faults beyond.disk_faults output new
+    → code ≡ 6 → Failed (Rose outside.disk_faults beyond.disk_faults) output new
 failed_six disks {OnDoor} asked status code outside beyond input now output new follows is e =
     disk_failed disks asked outside beyond input now output new
     (subst
@@ -260,6 +341,14 @@ unrefused : (why : InitFault) (output new : SinkState) (A : Type 0)
     → SaysRefusal why output new DoorFault → A
 unrefused begin.NotEmpty output new A says = unsaid A (λ e. absurd (grind (arith, e))) says
 unrefused (begin.DiskFault counts) output new A says = absurd (grind (arith, says.0))
+
+unpacked : (why : PackFault) (output new : SinkState) (A : Type 0)
+    → SaysPackFault why output new DoorFault → A
+unpacked (pack.Old fault) output new A says =
+    absurd (fault_no_door fault output new DoorFault says refl)
+unpacked pack.NotEmpty output new A says = unsaid A (λ e. absurd (grind (arith, e))) says
+unpacked (pack.New counts) output new A says = absurd (grind (arith, says.0))
+unpacked pack.NoMemory output new A says = absurd (grind (arith, says.0))
 
 not_lent_door : {D : Type 0} (disks : DiskWords D) (names : List (List ℕ))
     (outside beyond : OutsideState D) {input now : SourceState} {output new : SinkState}
@@ -319,6 +408,22 @@ door_in disks OnDoor (Ok (Replays stories folder)) outside beyond input now outp
     (inr r, doors) = elim r.replays.does [
       | inl t ↦ unsaid _ (λ e. absurd (grind (arith, e))) t.says
       | inr n ↦ absurd (fault_no_door n.fault output new DoorFault n.says refl)
+    ]
+door_in disks OnDoor (Ok (PacksFrom folder into)) outside beyond input now output new
+    (inl none, doors) = not_lent_door disks _ outside beyond _ none
+door_in disks OnDoor (Ok (PacksFrom folder into)) outside beyond input now output new
+    (inr p, doors) = elim p.packs.does [
+      | inl done ↦ elim done.1 [
+        | inl over ↦ elim over.0.does [
+          | inl packed ↦ unsaid _ (λ e. absurd (grind (arith, e))) packed.says
+          | inr n ↦ unpacked n.fault output new _ n.says
+        ]
+        | inr n ↦ unpacked n.0.fault output new _ n.0.says
+      ]
+      | inr u ↦ elim u.0.cause [
+        | inl failed ↦ absurd (grind (arith, failed.0))
+        | inr wanted ↦ absurd (grind (arith, wanted))
+      ]
     ]
 
 door_failed : {D : Type 0} (disks : DiskWords D) {OnDoor : OfDoor D} (asked : Asked)

@@ -5,7 +5,8 @@ use Rattle.std.proofs.Common.{Option, IfSome, IsErr}
 use Rattle.command_words.specs.Words.{Asked}
 use Rattle.command_words.specs.declared.words.Action.{Action}
 use Rattle.command_words.specs.declared.words.Action.TheVariants.{Run, Check, Pipe, Init, Help}
-use Rattle.command_words.specs.declared.words.Action.TheVariants.{Serve, Replay, Drill, Version}
+use Rattle.command_words.specs.declared.words.Action.TheVariants.{Serve, Replay, Pack, Drill}
+use Rattle.command_words.specs.declared.words.Action.TheVariants.{Version}
 use Rattle.disk_model.proofs.Torn.{holds_front}
 use Rattle.disk_model.specs.declared.disk.Disk.{Ghosts as DiskWords}
 use Rattle.gate_journal.proofs.RowLemmas.{never_both}
@@ -84,19 +85,22 @@ something : (c : List ℕ) → c ≡ [] → 0 < length c → ⊥
 something c none some = omega (arith, subst (λ (l : List ℕ). 0 < length l) none some)
 
 -- what makes a folder's journal bad isn't so where all is in order
-never_bad : {D : Type 0} (disks : DiskWords D) (action : Action) (told : Told D)
-    → ((d : D) → IsTrue (disks.tells d)) → HasFolder disks action told
-    → HasBadJournal disks action told → ⊥
-never_bad disks Run told tells f bad = bad
-never_bad disks Check told tells f bad = bad
-never_bad disks Pipe told tells f bad = not_refused disks told bad.0 tells f bad.1
-never_bad disks (Serve serving) told tells f bad = not_refused disks told bad.0 tells f bad.1
-never_bad disks Init told tells f bad =
+never_bad : {D : Type 0} (disks : DiskWords D) (action : Action) (told into : Told D)
+    → ((d : D) → IsTrue (disks.tells d)) → HasFolder disks action told into
+    → HasBadJournal disks action told into → ⊥
+never_bad disks Run told into tells f bad = bad
+never_bad disks Check told into tells f bad = bad
+never_bad disks Pipe told into tells f bad = not_refused disks told bad.0 tells f bad.1
+never_bad disks (Serve serving) told into tells f bad = not_refused disks told bad.0 tells f bad.1
+never_bad disks Init told into tells f bad =
     told_both disks told (λ c. c ≡ []) (λ c. 0 < length c) something f (bad tells)
-never_bad disks Replay told tells f bad = not_refused disks told bad.0 tells f bad.1
-never_bad disks (Drill number) told tells f bad = bad
-never_bad disks (Help topic) told tells f bad = bad
-never_bad disks Version told tells f bad = bad
+never_bad disks Replay told into tells f bad = not_refused disks told bad.0 tells f bad.1
+never_bad disks Pack told into tells f (inl bad) = not_refused disks told bad.0 tells f.0 bad.1
+never_bad disks Pack told into tells f (inr some) =
+    told_both disks into (λ c. c ≡ []) (λ c. 0 < length c) something f.1 (some tells)
+never_bad disks (Drill number) told into tells f bad = bad
+never_bad disks (Help topic) told into tells f bad = bad
+never_bad disks Version told into tells f bad = bad
 
 never_err : (found : Result (List Story) Refusal) → IsOk found → IsErr found → ⊥
 never_err (Ok stories) ok err = absurd (grind (arith, err))
@@ -141,35 +145,35 @@ no_read : {A B : Type 0} → A ⊎ B → (A → ⊥) → (B → ⊥) → ⊥
 no_read (inl a) f g = f a
 no_read (inr b) f g = g b
 
--- but for a load or a read that failed
+-- but for a load, a read or a disk that failed
 ends_well : {D : Type 0} (disks : DiskWords D) {OnDoor : OfDoor D} (asked : Asked)
     (status : Status) (code : ℕ) (outside beyond : OutsideState D) (input now : SourceState)
     (output new : SinkState)
     → FollowsCommand disks OnDoor asked status outside beyond input now output new
-    → status_of code ≡ Some status → (status ≡ ReadFault → ⊥)
+    → status_of code ≡ Some status → (status ≡ ReadFault → ⊥) → (status ≡ DiskFault → ⊥)
     → (status ≡ WriteFault → Rose output.faults new.faults)
     → IsInOrder disks asked outside input output → NoneRose outside beyond input now output new
     → (code ≡ 0) ⊎ (code ≡ 7)
 ends_well disks {OnDoor} asked status code outside beyond input now output new follows is reads
-    writes order none =
+    fails writes order none =
     let t =
     tells disks asked status outside beyond input now output new follows order.files order.bytes
     order.held order.are_there order.left order.holds in
     ends status code is
     (no_refusal _ _ order.bytes status
     (never_err (stories_of (map (take 67108865) order.files)) order.are_stories)
-    (never_bad disks asked.action (outside.disk (journal_in asked.folder)) order.tells order.folder)
+    (never_bad disks asked.action (outside.disk (journal_in asked.folder))
+    (outside.disk (journal_in asked.into)) order.tells order.folder)
     order.within
     (tasked_cause disks asked.action (stories_of (map (take 67108865) order.files)) asked.budget
-    outside.disk asked.folder order.bytes t.0 status t.2))
+    outside.disk asked.folder asked.into order.bytes t.0 status t.2))
     reads
     (λ e. none.writes (writes e))
-    (λ e. none.disks
-    (disks_rose disks asked status code outside beyond input now output new follows is e))
+    fails
     (λ e. none.doors
     (doors_rose disks asked status code outside beyond input now output new follows is e))
 
--- where no fault of a load is counted
+-- where no fault of a load and none of a disk is counted
 pub completes : {D : Type 0} (disks : DiskWords D) {OnDoor : OfDoor D} (asked : Asked)
     (status : Status) (code : ℕ) (outside beyond : OutsideState D) (input now : SourceState)
     (output new : SinkState)
@@ -179,35 +183,45 @@ pub completes : {D : Type 0} (disks : DiskWords D) {OnDoor : OfDoor D} (asked : 
     → Rose outside.faults beyond.faults ⊎ Rose input.faults now.faults)
     → (status ≡ WriteFault → Rose output.faults new.faults)
     → IsInOrder disks asked outside input output → (Rose outside.faults beyond.faults → ⊥)
+    → (Rose outside.disk_faults beyond.disk_faults → ⊥)
     → NoneRose outside beyond input now output new → (code ≡ 0) ⊎ (code ≡ 7)
 completes disks asked status code outside beyond input now output new follows is reads writes order
-    loads none =
+    loads fails none =
     ends_well disks asked status code outside beyond input now output new follows is
-    (λ e. no_read (reads e) loads none.reads) writes order none
+    (λ e. no_read (reads e) loads none.reads)
+    (λ e. fails (disks_rose disks asked status code outside beyond input now output new follows is
+    e)) writes order none
 
--- where no load is to fail
+-- where no load is to fail, and no fault of a disk is counted or all disks stand
 pub completes_unlisted : {D : Type 0} (disks : DiskWords D) {OnDoor : OfDoor D} (asked : Asked)
     (status : Status) (code : ℕ) (outside beyond : OutsideState D) (input now : SourceState)
-    (output new : SinkState) (P : Type 0)
+    (output new : SinkState) (P Q : Type 0)
     → FollowsCommand disks OnDoor asked status outside beyond input now output new
     → status_of code ≡ Some status
     → (P → AreThere outside.file asked.names → status ≡ ReadFault
     → Rose input.faults now.faults)
+    → (Q → status ≡ DiskFault → ⊥)
     → (status ≡ WriteFault → Rose output.faults new.faults)
     → IsInOrder disks asked outside input output → P
+    → (Rose outside.disk_faults beyond.disk_faults → ⊥) ⊎ Q
     → NoneRose outside beyond input now output new → (code ≡ 0) ⊎ (code ≡ 7)
-completes_unlisted disks asked status code outside beyond input now output new P follows is reads
-    writes order unlisted none =
+completes_unlisted disks asked status code outside beyond input now output new P Q follows is reads
+    stood writes order unlisted stand none =
     ends_well disks asked status code outside beyond input now output new follows is
-    (λ e. none.reads (reads unlisted (order.files, order.are_there) e)) writes order none
+    (λ e. none.reads (reads unlisted (order.files, order.are_there) e))
+    (λ e. elim stand [
+      | inl fails ↦ fails
+          (disks_rose disks asked status code outside beyond input now output new follows is e)
+      | inr stands ↦ stood stands e
+    ]) writes order none
 
 -- where memory was wanted before the words were known
 pub complete_no_memory : {D : Type 0} (disks : DiskWords D) (asked : Option Asked) (code : ℕ)
     (outside beyond : OutsideState D) (input now : SourceState) (output new : SinkState)
-    (P : Type 0) → status_of code ≡ Some NoMemory
-    → IfSome asked (λ one. IsInOrder disks one outside input output → P
+    (P Q : Type 0) → status_of code ≡ Some NoMemory
+    → IfSome asked (λ one. IsInOrder disks one outside input output → P → Q
     → NoneRose outside beyond input now output new → (code ≡ 0) ⊎ (code ≡ 7))
-complete_no_memory disks asked code outside beyond input now output new P is =
-    whatever_is_asked asked (λ (one : Asked). IsInOrder disks one outside input output → P
+complete_no_memory disks asked code outside beyond input now output new P Q is =
+    whatever_is_asked asked (λ (one : Asked). IsInOrder disks one outside input output → P → Q
     → NoneRose outside beyond input now output new → (code ≡ 0) ⊎ (code ≡ 7))
-    (λ one order p none. inr (no_memory_is_7 code is))
+    (λ one order p q none. inr (no_memory_is_7 code is))

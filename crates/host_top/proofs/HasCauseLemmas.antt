@@ -4,17 +4,19 @@ use Rattle.std.proofs.Common.{Some, IsErr, IsSomeAnd, Option, IfSome, Result, Ok
 use Rattle.command_words.specs.Words.{Asked}
 use Rattle.command_words.specs.declared.words.Action.{Action}
 use Rattle.command_words.specs.declared.words.Action.TheVariants.{Run, Check, Pipe, Init, Help}
-use Rattle.command_words.specs.declared.words.Action.TheVariants.{Serve, Replay, Drill, Version}
+use Rattle.command_words.specs.declared.words.Action.TheVariants.{Serve, Replay, Pack, Drill}
+use Rattle.command_words.specs.declared.words.Action.TheVariants.{Version}
 use Rattle.disk_model.specs.declared.disk.Disk.{Ghosts as DiskWords}
 use Rattle.story_run.specs.declared.story.Story.{Story}
 use Rattle.host_top.specs.Begun.{WritesBegun}
 use Rattle.host_top.specs.Borrowed.{journal_in}
-use Rattle.host_top.specs.Causes.{CauseOf, HasBadJournal, HasCause, IsRefusedJournal}
+use Rattle.host_top.specs.Causes.{CauseOf, HasBadJournal, HasCause, HoldsSome, IsRefusedJournal}
 use Rattle.host_top.specs.DoorServed.{OfDoor}
 use Rattle.host_top.specs.Files.{OutsideState, Told}
 use Rattle.host_top.specs.Follows.{FollowsCommand, WritesFor}
 use Rattle.host_top.specs.Headline.{Speech, WritesOf}
 use Rattle.host_top.specs.LinksServed.{WritesLinks}
+use Rattle.host_top.specs.Packed.{WritesPacked}
 use Rattle.host_top.specs.Replayed.{WritesReplayed}
 use Rattle.host_top.specs.Scene.{scene}
 use Rattle.host_top.specs.Served.{WritesServed}
@@ -89,7 +91,7 @@ links_cause disks journal bytes written Refuses LineLimit w = absurd w
 
 begins_cause : {D : Type 0} (disks : DiskWords D) (journal : Told D) (bytes written : List ℕ)
     (Refuses : Type 0) (status : Status) → WritesBegun status disks journal written
-    → ToldCause Refuses (HasBadJournal disks Init journal) bytes status
+    → ToldCause Refuses (HoldsSome disks journal) bytes status
 begins_cause disks journal bytes written Refuses Done w = tt
 begins_cause disks journal bytes written Refuses BadWords w = absurd w
 begins_cause disks journal bytes written Refuses Refused w = absurd w
@@ -116,6 +118,23 @@ replays_cause disks stories journal bytes written Refuses BadFolder w = (written
 replays_cause disks stories journal bytes written Refuses DoorFault w = tt
 replays_cause disks stories journal bytes written Refuses LineLimit w = absurd w
 
+packs_cause : {D : Type 0} (disks : DiskWords D) (journal into : Told D)
+    (bytes written : List ℕ) (Refuses : Type 0) (status : Status)
+    → WritesPacked status disks journal into written
+    → ToldCause Refuses (IsRefusedJournal disks journal ⊎ HoldsSome disks into) bytes status
+packs_cause disks journal into bytes written Refuses Done w = tt
+packs_cause disks journal into bytes written Refuses BadWords w = absurd w
+packs_cause disks journal into bytes written Refuses Refused w = absurd w
+packs_cause disks journal into bytes written Refuses ReadFault w = tt
+packs_cause disks journal into bytes written Refuses WriteFault w = tt
+packs_cause disks journal into bytes written Refuses DiskFault w = tt
+packs_cause disks journal into bytes written Refuses NoMemory w = tt
+packs_cause disks journal into bytes written Refuses BadFolder (inl some) = inr some.1
+packs_cause disks journal into bytes written Refuses BadFolder (inr refused) =
+    inl (written, refused.0)
+packs_cause disks journal into bytes written Refuses DoorFault w = tt
+packs_cause disks journal into bytes written Refuses LineLimit w = absurd w
+
 refused_cause : (line bytes written : List ℕ) (Refuses Bad : Type 0) (status : Status) → Refuses
     → WritesOf status (Err line) bytes written → ToldCause Refuses Bad bytes status
 refused_cause line bytes written Refuses Bad Done r w = tt
@@ -130,37 +149,42 @@ refused_cause line bytes written Refuses Bad DoorFault r w = tt
 refused_cause line bytes written Refuses Bad LineLimit r w = absurd w
 
 does_cause : {D : Type 0} (disks : DiskWords D) (action : Action) (stories : List Story)
-    (budget : ℕ) (disk : List ℕ → Told D) (folder bytes written : List ℕ) (Refuses : Type 0)
-    (status : Status)
-    → WritesFor disks disk status (Ok (task_of action stories budget folder)) bytes written
-    → ToldCause Refuses (HasBadJournal disks action (disk (journal_in folder))) bytes status
-does_cause disks Run stories budget disk folder bytes written Refuses status w =
+    (budget : ℕ) (disk : List ℕ → Told D) (folder into bytes written : List ℕ)
+    (Refuses : Type 0) (status : Status)
+    → WritesFor disks disk status (Ok (task_of action stories budget folder into)) bytes written
+    → ToldCause Refuses
+    (HasBadJournal disks action (disk (journal_in folder)) (disk (journal_in into))) bytes status
+does_cause disks Run stories budget disk folder into bytes written Refuses status w =
     says_cause _ bytes written _ _ status w
-does_cause disks Check stories budget disk folder bytes written Refuses status w =
+does_cause disks Check stories budget disk folder into bytes written Refuses status w =
     says_cause _ bytes written _ _ status w
-does_cause disks Pipe stories budget disk folder bytes written Refuses status w =
+does_cause disks Pipe stories budget disk folder into bytes written Refuses status w =
     serves_cause disks stories budget disk folder bytes written Refuses status w
-does_cause disks (Serve serving) stories budget disk folder bytes written Refuses status w =
+does_cause disks (Serve serving) stories budget disk folder into bytes written Refuses status w =
     links_cause disks (disk (journal_in folder)) bytes written Refuses status w
-does_cause disks Init stories budget disk folder bytes written Refuses status w =
+does_cause disks Init stories budget disk folder into bytes written Refuses status w =
     begins_cause disks (disk (journal_in folder)) bytes written Refuses status w
-does_cause disks Replay stories budget disk folder bytes written Refuses status w =
+does_cause disks Replay stories budget disk folder into bytes written Refuses status w =
     replays_cause disks stories (disk (journal_in folder)) bytes written Refuses status w
-does_cause disks (Drill number) stories budget disk folder bytes written Refuses status w =
+does_cause disks Pack stories budget disk folder into bytes written Refuses status w =
+    packs_cause disks (disk (journal_in folder)) (disk (journal_in into)) bytes written Refuses
+    status w
+does_cause disks (Drill number) stories budget disk folder into bytes written Refuses status w =
     says_cause _ bytes written _ _ status w
-does_cause disks (Help topic) stories budget disk folder bytes written Refuses status w =
+does_cause disks (Help topic) stories budget disk folder into bytes written Refuses status w =
     says_cause _ bytes written _ _ status w
-does_cause disks Version stories budget disk folder bytes written Refuses status w =
+does_cause disks Version stories budget disk folder into bytes written Refuses status w =
     says_cause _ bytes written _ _ status w
 
 pub tasked_cause : {D : Type 0} (disks : DiskWords D) (action : Action)
     (found : Result (List Story) Refusal) (budget : ℕ) (disk : List ℕ → Told D)
-    (folder bytes written : List ℕ) (status : Status)
-    → WritesFor disks disk status (tasked action found budget folder) bytes written
-    → ToldCause (IsErr found) (HasBadJournal disks action (disk (journal_in folder))) bytes status
-tasked_cause disks action (Ok stories) budget disk folder bytes written status w =
-    does_cause disks action stories budget disk folder bytes written _ status w
-tasked_cause disks action (Err refusal) budget disk folder bytes written status w =
+    (folder into bytes written : List ℕ) (status : Status)
+    → WritesFor disks disk status (tasked action found budget folder into) bytes written
+    → ToldCause (IsErr found)
+    (HasBadJournal disks action (disk (journal_in folder)) (disk (journal_in into))) bytes status
+tasked_cause disks action (Ok stories) budget disk folder into bytes written status w =
+    does_cause disks action stories budget disk folder into bytes written _ status w
+tasked_cause disks action (Err refusal) budget disk folder into bytes written status w =
     refused_cause _ bytes written _ _ status refl w
 
 -- with what the counts say
@@ -168,7 +192,8 @@ cause_of : {D : Type 0} (disks : DiskWords D) (asked : Asked) (files : List (Lis
     (bytes : List ℕ) (outside beyond : OutsideState D) (input now : SourceState)
     (output new : SinkState) (status : Status)
     → ToldCause (IsErr (stories_of (map (take 67108865) files)))
-    (HasBadJournal disks asked.action (outside.disk (journal_in asked.folder))) bytes status
+    (HasBadJournal disks asked.action (outside.disk (journal_in asked.folder))
+    (outside.disk (journal_in asked.into))) bytes status
     → (status ≡ ReadFault → Rose outside.faults beyond.faults ⊎ Rose input.faults now.faults)
     → (status ≡ WriteFault → Rose output.faults new.faults)
     → (status ≡ DiskFault → Rose outside.disk_faults beyond.disk_faults)
@@ -228,7 +253,7 @@ has_cause disks asked status code outside beyond input now output new follows is
     told.are_there told.left told.holds in
     cause_of disks asked files bytes outside beyond input now output new status
     (tasked_cause disks asked.action (stories_of (map (take 67108865) files)) asked.budget
-    outside.disk asked.folder bytes t.0 status t.2)
+    outside.disk asked.folder asked.into bytes t.0 status t.2)
     reads writes
     (disks_rose disks asked status code outside beyond input now output new follows is)
     (doors_rose disks asked status code outside beyond input now output new follows is)

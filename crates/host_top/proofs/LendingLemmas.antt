@@ -191,6 +191,16 @@ module _ {D : Type 0} (disks : DiskWords D) where
         name apart.1 e,
   )
 
+  -- and its loan is as before
+  pub next_loan : (a b : OutsideState D) (ns : List (List ℕ)) (ds : List D) (name : List ℕ)
+      → AreDifferentNames ns → slice_get ns (length ds) ≡ Some name
+      → Borrowed disks a b (lent_as ns ds) → b.loan name ≡ a.loan name
+  next_loan a b ns ds name apart e is =
+      (is.others name (subst (λ (l : List (Lending D)). Each (IsOther name) l)
+      (sym (lent_first ns ds))
+      (named_each disks (λ n. bytes_eq n name ≡ false) (take (length ds) ns) ds
+      (next_apart ns ds name apart e)))).1
+
   apart_first : (ns : List (List ℕ)) (ds : List D)
       → AreDifferentNames ns
       → AreDifferentNames (take (length ds) ns)
@@ -313,7 +323,7 @@ module _ {D : Type 0} (disks : DiskWords D) where
       of [] = lent_nothing disks a a (λ other. (refl, refl))
       of (n ∷ l) = lent_nothing disks a a (λ other. (refl, refl))
 
-failed_so : {T U : Type 0} (why : Fetch) → IsErrOf {T = T} (Err why) fetch.Failed
+pub failed_so : {T U : Type 0} (why : Fetch) → IsErrOf {T = T} (Err why) fetch.Failed
     → IsErrOf {T = U} (Err why) fetch.Failed
 failed_so why is = of why is
   where

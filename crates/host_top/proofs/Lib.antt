@@ -4,12 +4,15 @@ pub mod StoriesLemmas
 pub mod ServedLemmas
 pub mod WrittenLemmas
 pub mod ReplayLemmas
+pub mod PackLemmas
+pub mod PackToldLemmas
 pub mod ToldLemmas
 pub mod CauseLemmas
 pub mod CompleteLemmas
 pub mod HasCauseLemmas
 pub mod WritesLemmas
 pub mod CallsLemmas
+pub mod StoodLemmas
 pub mod StopLemmas
 pub mod OutsideLemmas
 pub mod BorrowLemmas

@@ -27,7 +27,7 @@ told_apart a b other = of (bytes_eq a b) refl
 abbrev ending : ℕ → List ℕ
 ending s = (48 + s / 10) ∷ (48 + s % 10) ∷ []
 
-two_digits : (s : ℕ) → s < 64 → decimal (s / 10) ++ decimal (s % 10) ≡ ending s
+pub two_digits : (s : ℕ) → s < 64 → decimal (s / 10) ++ decimal (s % 10) ≡ ending s
 two_digits s low =
     ap (λ (l : List ℕ). l ++ decimal (s % 10)) (decimal_digit (s / 10) (omega arith))
     ∙ ap (λ (l : List ℕ). (48 + s / 10) ∷ l) (decimal_digit (s % 10) (omega arith))
@@ -42,7 +42,7 @@ same_number s t e =
 abbrev behind : ℕ → List ℕ
 behind s = codes "/snap" ++ (decimal (s / 10) ++ decimal (s % 10))
 
-name_of : (folder : List ℕ) (s : ℕ) → snap_in folder s ≡ folder ++ behind s
+pub name_of : (folder : List ℕ) (s : ℕ) → snap_in folder s ≡ folder ++ behind s
 name_of folder s =
     append_assoc (folder ++ codes "/snap") (decimal (s / 10)) (decimal (s % 10))
     ∙ append_assoc folder (codes "/snap") (decimal (s / 10) ++ decimal (s % 10))

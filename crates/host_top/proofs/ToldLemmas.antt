@@ -14,7 +14,8 @@ use Rattle.host_top.specs.declared.stories.Refusal.{Refusal}
 use Rattle.host_drill.specs.Drill.{drill_text}
 use Rattle.command_words.specs.declared.words.Action.{Action}
 use Rattle.command_words.specs.declared.words.Action.TheVariants.{Run, Check, Pipe, Serve, Drill}
-use Rattle.command_words.specs.declared.words.Action.TheVariants.{Init, Replay, Help, Version}
+use Rattle.command_words.specs.declared.words.Action.TheVariants.{Init, Replay, Pack, Help}
+use Rattle.command_words.specs.declared.words.Action.TheVariants.{Version}
 use Rattle.host_top.specs.Borrowed.{journal_in, snaps_below}
 use Rattle.host_top.specs.Files.{OutsideState, KeepsDisks, KeepsDoors, Told}
 use Rattle.host_top.specs.Follows.{DoesTask, FollowsCommand, TellsCaller, WritesFor}
@@ -25,8 +26,10 @@ use Rattle.host_top.specs.Headline.{Speech, WritesOf, whole_text}
 use Rattle.command_words.specs.Help.{help_text, version_text}
 use Rattle.line_talk.specs.Lines.{lines, talk, IsWithinLimits}
 use Rattle.disk_model.specs.declared.disk.Disk.{Ghosts as DiskWords}
+use Rattle.host_top.specs.Packed.{WritesPacked}
 use Rattle.host_top.specs.Replayed.{WritesReplayed}
-use Rattle.host_top.specs.Speech.{Task, Says, Serves, ServesLinks, Begins, Replays, tasked}
+use Rattle.host_top.specs.Speech.{Task, Says, Serves, ServesLinks, Begins, Replays, PacksFrom}
+use Rattle.host_top.specs.Speech.{tasked}
 use Rattle.host_top.specs.Status.{status_of}
 use Rattle.host_top.specs.Spoken.{Spoken, SpeechLeaves}
 use Rattle.host_top.specs.Stories.{stories_of}
@@ -38,6 +41,7 @@ use Rattle.line_talk.specs.Writing.{IsPartOf}
 use Rattle.line_talk.proofs.LinesLemmas.{still_reached, talk_settled, talk_first}
 use Rattle.host_top.proofs.ServedLemmas.{WroteSome, consumed, nothing_left, pipe_told}
 use Rattle.host_top.proofs.WrittenLemmas.{never_begun, init_told, links_told}
+use Rattle.host_top.proofs.PackToldLemmas.{pack_told}
 use Rattle.host_top.proofs.ReplayLemmas.{replay_told}
 use Rattle.host_top.proofs.LinksLemmas.{no_doors}
 use Rattle.host_top.proofs.LoansLemmas.{doors_none, keeps_none}
@@ -122,20 +126,22 @@ IsSteadyTask (Ok (Serves stories budget folder)) = Unit {0}
 IsSteadyTask (Ok (ServesLinks stories budget folder serving)) = Unit {0}
 IsSteadyTask (Ok (Begins folder)) = Unit {0}
 IsSteadyTask (Ok (Replays stories folder)) = Unit {0}
+IsSteadyTask (Ok (PacksFrom folder into)) = Unit {0}
 IsSteadyTask (Err line) = Unit {0}
 
-steady : (action : Action) (found : Result (List Story) Refusal) (budget : ℕ) (folder : List ℕ)
-    → IsSteadyTask (tasked action found budget folder)
-steady Run (Ok stories) budget folder = steady_run (slice_get stories 0) budget
-steady Check (Ok stories) budget folder = steady_check (slice_get stories 0)
-steady Pipe (Ok stories) budget folder = tt
-steady (Serve serving) (Ok stories) budget folder = tt
-steady Init (Ok stories) budget folder = tt
-steady Replay (Ok stories) budget folder = tt
-steady (Drill number) (Ok stories) budget folder = steady_once (drill_text number)
-steady (Help topic) (Ok stories) budget folder = steady_once (help_text topic)
-steady Version (Ok stories) budget folder = steady_once version_text
-steady action (Err refusal) budget folder = tt
+steady : (action : Action) (found : Result (List Story) Refusal) (budget : ℕ)
+    (folder into : List ℕ) → IsSteadyTask (tasked action found budget folder into)
+steady Run (Ok stories) budget folder into = steady_run (slice_get stories 0) budget
+steady Check (Ok stories) budget folder into = steady_check (slice_get stories 0)
+steady Pipe (Ok stories) budget folder into = tt
+steady (Serve serving) (Ok stories) budget folder into = tt
+steady Init (Ok stories) budget folder into = tt
+steady Replay (Ok stories) budget folder into = tt
+steady Pack (Ok stories) budget folder into = tt
+steady (Drill number) (Ok stories) budget folder into = steady_once (drill_text number)
+steady (Help topic) (Ok stories) budget folder into = steady_once (help_text topic)
+steady Version (Ok stories) budget folder into = steady_once version_text
+steady action (Err refusal) budget folder into = tt
 
 -- what a task leaves of an output that is told
 said_held : (said : Result Speech (List ℕ)) → IsSteadySaid said
@@ -205,6 +211,10 @@ held_on disks OnDoor (Ok (Replays stories folder)) s bytes held outside beyond i
     status does left_is held_is =
     held_so held _ held_is
     (replay_told disks stories folder outside beyond input now output new status does.0)
+held_on disks OnDoor (Ok (PacksFrom folder into)) s bytes held outside beyond input now output new
+    status does left_is held_is =
+    held_so held _ held_is
+    (pack_told disks folder into outside beyond input now output new status does.0)
 
 nothing_tells : {D : Type 0} (disks : DiskWords D) (disk : List ℕ → Told D) (status : Status)
     (P : Type 0) (task : Result Task (List ℕ)) (input : List ℕ)
@@ -223,6 +233,10 @@ nothing_tells disks disk status P (Ok (Begins folder)) input c =
     P refl (inl (ready, refl)) c
 nothing_tells disks disk status P (Ok (Replays stories folder)) input c =
     never_begun (λ (s : Status). WritesReplayed s disks stories (disk (journal_in folder)) [])
+    ReadFault status P refl (inl refl) c
+nothing_tells disks disk status P (Ok (PacksFrom folder into)) input c =
+    never_begun
+    (λ (s : Status). WritesPacked s disks (disk (journal_in folder)) (disk (journal_in into)) [])
     ReadFault status P refl (inl refl) c
 
 -- the disks that are told are those from before the loads
@@ -247,10 +261,11 @@ tells disks asked status outside beyond input now output new (inl none) files by
     )
 tells disks {OnDoor} asked status outside beyond input now output new (inr some) files bytes held
     files_are left_is held_is =
-    let task = tasked asked.action (stories_of some.files) asked.budget asked.folder in
+    let task =
+    tasked asked.action (stories_of some.files) asked.budget asked.folder asked.into in
     let t =
     held_on disks OnDoor task (steady asked.action (stories_of some.files) asked.budget
-    asked.folder)
+    asked.folder asked.into)
     bytes held some.between beyond input now output new status some.does left_is held_is in
     let same : stories_of some.files ≡ stories_of (map (take 67108865) files) =
     sym (settled_told outside.file asked.names some.files files some.are_files some.settled
@@ -258,7 +273,7 @@ tells disks {OnDoor} asked status outside beyond input now output new (inr some)
       t.0,
       t.1,
       subst (λ (f : Result (List Story) Refusal). WritesFor disks outside.disk status
-          (tasked asked.action f asked.budget asked.folder) bytes t.0) same
+          (tasked asked.action f asked.budget asked.folder asked.into) bytes t.0) same
           (same_told disks outside.disk some.between.disk status task bytes t.0 some.loaded.disk
           t.2),
     )
@@ -293,6 +308,10 @@ does_nothing disks OnDoor (Ok (Begins folder)) outside input output =
     (inl (not_lent disks (journal_in folder ∷ []) outside input output), doors_none outside)
 does_nothing disks OnDoor (Ok (Replays stories folder)) outside input output =
     (inl (not_lent disks (journal_in folder ∷ []) outside input output), doors_none outside)
+does_nothing disks OnDoor (Ok (PacksFrom folder into)) outside input output = (
+  inl (not_lent disks (journal_in folder ∷ journal_in into ∷ []) outside input output),
+  doors_none outside,
+)
 
 -- where memory was wanted before a file was loaded, each caller is told so
 tells_nothing : {D : Type 0} (disks : DiskWords D) (asked : Asked) (outside : OutsideState D)

@@ -4,7 +4,8 @@ use Rattle.std.proofs.Common.{Some, None, IsTrue, IfSome, Option, Result, Ok}
 use Rattle.command_words.specs.Words.{Asked}
 use Rattle.command_words.specs.declared.words.Action.{Action}
 use Rattle.command_words.specs.declared.words.Action.TheVariants.{Run, Check, Pipe, Init, Help}
-use Rattle.command_words.specs.declared.words.Action.TheVariants.{Serve, Replay, Drill, Version}
+use Rattle.command_words.specs.declared.words.Action.TheVariants.{Serve, Replay, Pack, Drill}
+use Rattle.command_words.specs.declared.words.Action.TheVariants.{Version}
 use Rattle.disk_model.specs.declared.disk.Disk.{Ghosts as DiskWords}
 use Rattle.gate_journal.proofs.RowLemmas.{one_list}
 use Rattle.gate_journal.specs.Rows.{SpellsRows}
@@ -24,6 +25,7 @@ use Rattle.host_top.specs.DoorServed.{OfDoor}
 use Rattle.host_top.specs.Borrowed.{journal_in}
 use Rattle.host_top.specs.Files.{OutsideState, Told, Untold, Missing, There}
 use Rattle.host_top.specs.Follows.{FollowsCommand, WritesFor}
+use Rattle.host_top.specs.Packed.{IsPackedLine, line_of}
 use Rattle.host_top.specs.Piped.{LeadAlone}
 use Rattle.host_top.specs.Replayed.{IsTranscript}
 use Rattle.host_top.specs.Scene.{Scene, scene}
@@ -80,10 +82,17 @@ transcript_of disks stories journal written rows is tells told =
     is.text_is
     ∙ ap (transcript stories) (one_told disks journal rows is.rows told (is.spelled tells))
 
+line_packed : {D : Type 0} (disks : DiskWords D) (journal into : Told D) (written : List ℕ)
+    (rows : List Row) → IsPackedLine disks journal into written
+    → ((d : D) → IsTrue (disks.tells d)) → AreTold disks.seen journal (λ c. SpellsRows c rows)
+    → written ≡ line_of rows
+line_packed disks journal into written rows is tells told =
+    is.line_is ∙ ap line_of (one_told disks journal rows is.rows told (is.spelled tells))
+
 does_text : {D : Type 0} (disks : DiskWords D) (action : Action) (stories : List Story)
     (asked : Asked) (bytes written : List ℕ) (old : Scene D)
     → WritesFor disks old.outside.disk Done
-    (Ok (task_of action stories asked.budget asked.folder)) bytes written
+    (Ok (task_of action stories asked.budget asked.folder asked.into)) bytes written
     → TextOf disks action stories asked bytes old written
 does_text disks Run stories asked bytes written old w = λ story one. rw one at w.0
 does_text disks Check stories asked bytes written old w = λ story one. rw one at w.0
@@ -95,6 +104,9 @@ does_text disks (Serve serving) stories asked bytes written old w = w
 does_text disks Replay stories asked bytes written old w = λ rows tells told.
     transcript_of disks stories (old.outside.disk (journal_in asked.folder)) written rows w tells
     told
+does_text disks Pack stories asked bytes written old w = λ rows tells told.
+    line_packed disks (old.outside.disk (journal_in asked.folder))
+    (old.outside.disk (journal_in asked.into)) written rows w tells told
 does_text disks (Drill number) stories asked bytes written old w = w.0
 does_text disks (Help topic) stories asked bytes written old w = w.0
 does_text disks Version stories asked bytes written old w = w.0
@@ -113,10 +125,10 @@ writes_all {D} disks asked status outside beyond input now output new follows do
       t.1,
       does_text disks asked.action stories asked bytes t.0 (scene outside input output)
           (subst (λ (f : Result (List Story) Refusal). WritesFor disks outside.disk Done
-          (tasked asked.action f asked.budget asked.folder) bytes t.0) good
+          (tasked asked.action f asked.budget asked.folder asked.into) bytes t.0) good
           (subst (λ (s : Status). WritesFor disks outside.disk s
-          (tasked asked.action (stories_of (map (take 67108865) files)) asked.budget asked.folder)
-          bytes t.0) done t.2)),
+          (tasked asked.action (stories_of (map (take 67108865) files)) asked.budget asked.folder
+          asked.into) bytes t.0) done t.2)),
     )
 
 zero_apart : {P : Type 0} (code : ℕ) → status_of code ≡ Some NoMemory → code ≡ 0 → P

@@ -3,7 +3,8 @@ use Rattle.std.specs.Prelude.{◌≡◌, ◌⊎◌, ℕ, ◌<◌, List, length, 
 use Rattle.command_words.specs.Words.{Asked}
 use Rattle.command_words.specs.declared.words.Action.{Action}
 use Rattle.command_words.specs.declared.words.Action.TheVariants.{Run, Check, Pipe, Init, Help}
-use Rattle.command_words.specs.declared.words.Action.TheVariants.{Serve, Replay, Drill, Version}
+use Rattle.command_words.specs.declared.words.Action.TheVariants.{Serve, Replay, Pack, Drill}
+use Rattle.command_words.specs.declared.words.Action.TheVariants.{Version}
 use Rattle.disk_model.specs.declared.disk.Disk.{Ghosts as DiskWords}
 use Rattle.host_top.specs.Borrowed.{journal_in}
 use Rattle.host_top.specs.Files.{Told}
@@ -22,18 +23,24 @@ use Rattle.line_talk.specs.Lines.{ReachesLimit}
 abbrev pub IsRefusedJournal : {D : Type 0} → DiskWords D → Told D → Type 0
 IsRefusedJournal disks journal = (line : List ℕ) × RefusesJournal disks journal line
 
--- a folder's journal isn't such as the action needs: that of `init` holds something, and that of
--- the others is refused
-abbrev pub HasBadJournal : {D : Type 0} → DiskWords D → Action → Told D → Type 0
-HasBadJournal disks Run journal = ⊥
-HasBadJournal disks Check journal = ⊥
-HasBadJournal disks Init journal = WhereTold disks journal (λ bytes. 0 < length bytes)
-HasBadJournal disks Pipe journal = IsRefusedJournal disks journal
-HasBadJournal disks (Serve serving) journal = IsRefusedJournal disks journal
-HasBadJournal disks Replay journal = IsRefusedJournal disks journal
-HasBadJournal disks (Drill number) journal = ⊥
-HasBadJournal disks (Help topic) journal = ⊥
-HasBadJournal disks Version journal = ⊥
+-- a journal holds something
+abbrev pub HoldsSome : {D : Type 0} → DiskWords D → Told D → Type 0
+HoldsSome disks journal = WhereTold disks journal (λ bytes. 0 < length bytes)
+
+-- A folder's journal isn't such as the action needs: that of `init`, or the one that is packed into,
+-- holds something, and that of the others is refused.
+abbrev pub HasBadJournal : {D : Type 0} → DiskWords D → Action → Told D → Told D → Type 0
+HasBadJournal disks Run journal into = ⊥
+HasBadJournal disks Check journal into = ⊥
+HasBadJournal disks Init journal into = HoldsSome disks journal
+HasBadJournal disks Pipe journal into = IsRefusedJournal disks journal
+HasBadJournal disks (Serve serving) journal into = IsRefusedJournal disks journal
+HasBadJournal disks Replay journal into = IsRefusedJournal disks journal
+HasBadJournal disks Pack journal into =
+    IsRefusedJournal disks journal ⊎ HoldsSome disks into
+HasBadJournal disks (Drill number) journal into = ⊥
+HasBadJournal disks (Help topic) journal into = ⊥
+HasBadJournal disks Version journal into = ⊥
 
 -- The cause of each status, by the files and the input. Done (0) and want of memory (7) need none
 -- here, and 2 comes where nothing was asked for.
@@ -50,6 +57,7 @@ CauseOf disks asked files bytes old new DiskFault =
 CauseOf disks asked files bytes old new NoMemory = Unit {0}
 CauseOf disks asked files bytes old new BadFolder =
     HasBadJournal disks asked.action (old.outside.disk (journal_in asked.folder))
+    (old.outside.disk (journal_in asked.into))
 CauseOf disks asked files bytes old new DoorFault =
     Rose old.outside.door_faults new.outside.door_faults
 CauseOf disks asked files bytes old new LineLimit = ReachesLimit bytes

@@ -9,11 +9,12 @@ use Rattle.host_top.specs.Files.{OutsideState, KeepsDisks, KeepsDoors, Told, The
 use Rattle.host_top.specs.Headline.{WritesOf}
 use Rattle.disk_model.specs.declared.disk.Disk.{Ghosts as DiskWords}
 use Rattle.host_top.specs.LinksServed.{DoorsBy, ServesOver, WritesLinks}
+use Rattle.host_top.specs.Packed.{PacksOn, WritesPacked}
 use Rattle.host_top.specs.Piped.{PipesOver}
 use Rattle.host_top.specs.Replayed.{ReplaysOn, WritesReplayed}
 use Rattle.host_top.specs.Served.{WritesServed}
-use Rattle.host_top.specs.Speech.{Task, Says, Serves, ServesLinks, Begins, Replays, door_call}
-use Rattle.host_top.specs.Speech.{tasked}
+use Rattle.host_top.specs.Speech.{Task, Says, Serves, ServesLinks, Begins, Replays}
+use Rattle.host_top.specs.Speech.{PacksFrom, door_call, tasked}
 use Rattle.host_top.specs.Spoken.{Spoken}
 use Rattle.host_top.specs.Stories.{stories_of, AreFiles, IsLoadSettled, LoadStopsBehind}
 use Rattle.line_talk.specs.Streams.{SourceState, SinkState, Gave, Wrote}
@@ -51,6 +52,9 @@ DoesTask disks OnDoor (Ok (Begins folder)) outside beyond input now output new s
 DoesTask disks OnDoor (Ok (Replays stories folder)) outside beyond input now output new status =
     ReplaysOn disks stories folder outside beyond input now output new status
     × KeepsDoors outside beyond
+DoesTask disks OnDoor (Ok (PacksFrom folder into)) outside beyond input now output new status =
+    PacksOn disks folder into outside beyond input now output new status
+    × KeepsDoors outside beyond
 
 -- a load failed behind stories alone, or memory was wanted; and nothing was read or written
 pub record NotLoaded {D : Type 0} (names : List (List ℕ)) (outside beyond : OutsideState D)
@@ -73,7 +77,8 @@ pub record Loaded {D : Type 0} (disks : DiskWords D) (OnDoor : OfDoor D) (asked 
   pub loaded : KeepsDisks outside between
   pub doors : KeepsDoors outside between
   pub does :
-      DoesTask disks OnDoor (tasked asked.action (stories_of files) asked.budget asked.folder)
+      DoesTask disks OnDoor
+      (tasked asked.action (stories_of files) asked.budget asked.folder asked.into)
       between beyond input now output new status
   pub cause : status ≡ ReadFault → Rose input.faults now.faults
 
@@ -98,6 +103,8 @@ WritesFor disks disk status (Ok (Begins folder)) bytes written =
     WritesBegun status disks (disk (journal_in folder)) written
 WritesFor disks disk status (Ok (Replays stories folder)) bytes written =
     WritesReplayed status disks stories (disk (journal_in folder)) written
+WritesFor disks disk status (Ok (PacksFrom folder into)) bytes written =
+    WritesPacked status disks (disk (journal_in folder)) (disk (journal_in into)) written
 
 -- what an output holds then, for a caller who is told its bytes, the files and the input
 abbrev pub TellsCaller : {D : Type 0} → DiskWords D → Asked → Status → OutsideState D → SourceState
@@ -108,5 +115,6 @@ TellsCaller disks asked status outside input output new =
     → output.held ≡ Some held
     → (written : List ℕ) × (new.held ≡ Some (held ++ written))
     × WritesFor disks outside.disk status
-    (tasked asked.action (stories_of (map (take 67108865) files)) asked.budget asked.folder)
+    (tasked asked.action (stories_of (map (take 67108865) files)) asked.budget asked.folder
+    asked.into)
     bytes written

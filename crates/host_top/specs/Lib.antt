@@ -29,3 +29,4 @@ pub mod Rejoining
 pub mod DoorServed
 pub mod LinksServed
 pub mod Replayed
+pub mod Packed

@@ -12,7 +12,8 @@ use Rattle.host_top.specs.StoryFile.{bad_line}
 use Rattle.host_top.specs.declared.stories.Refusal.{Refusal}
 use Rattle.command_words.specs.declared.words.Action.{Action}
 use Rattle.command_words.specs.declared.words.Action.TheVariants.{Run, Check, Pipe, Init, Help}
-use Rattle.command_words.specs.declared.words.Action.TheVariants.{Serve, Replay, Drill, Version}
+use Rattle.command_words.specs.declared.words.Action.TheVariants.{Serve, Replay, Pack, Drill}
+use Rattle.command_words.specs.declared.words.Action.TheVariants.{Version}
 use Rattle.command_words.specs.declared.words.Serving.{Serving}
 use Rattle.host_top.specs.declared.door_call.DoorCall.{DoorCall}
 
@@ -40,25 +41,27 @@ door_call serving = record { port = serving.port; links = serving.links }
 
 -- what a command does: it says a text, serves these stories with this budget from a folder to its
 -- input, or to the links of a door, or makes the stores of a folder and begins its journal, or says
--- what the players of a folder were shown
+-- what the players of a folder were shown, or packs the journal of a folder into that of another
 pub data Task : Type 0 where
   Says : Speech → Task
   Serves : List Story → ℕ → List ℕ → Task
   ServesLinks : List Story → ℕ → List ℕ → Serving → Task
   Begins : List ℕ → Task
   Replays : List Story → List ℕ → Task
+  PacksFrom : List ℕ → List ℕ → Task
 
--- what a command does over its stories, with a budget, on a folder
-abbrev pub task_of : Action → List Story → ℕ → List ℕ → Task
-task_of Run stories budget folder = Says (run_speech (slice_get stories 0) budget)
-task_of Check stories budget folder = Says (check_speech (slice_get stories 0))
-task_of Pipe stories budget folder = Serves stories budget folder
-task_of (Serve serving) stories budget folder = ServesLinks stories budget folder serving
-task_of Init stories budget folder = Begins folder
-task_of Replay stories budget folder = Replays stories folder
-task_of (Drill number) stories budget folder = Says (said_once (drill_text number))
-task_of (Help topic) stories budget folder = Says (said_once (help_text topic))
-task_of Version stories budget folder = Says (said_once version_text)
+-- what a command does over its stories, with a budget, on a folder, and from it into another one
+abbrev pub task_of : Action → List Story → ℕ → List ℕ → List ℕ → Task
+task_of Run stories budget folder into = Says (run_speech (slice_get stories 0) budget)
+task_of Check stories budget folder into = Says (check_speech (slice_get stories 0))
+task_of Pipe stories budget folder into = Serves stories budget folder
+task_of (Serve serving) stories budget folder into = ServesLinks stories budget folder serving
+task_of Init stories budget folder into = Begins folder
+task_of Replay stories budget folder into = Replays stories folder
+task_of Pack stories budget folder into = PacksFrom folder into
+task_of (Drill number) stories budget folder into = Says (said_once (drill_text number))
+task_of (Help topic) stories budget folder into = Says (said_once (help_text topic))
+task_of Version stories budget folder into = Says (said_once version_text)
 
 -- it writes one text, whatever the input
 abbrev pub writes_once : Action → Bool
@@ -68,11 +71,13 @@ writes_once Init = true
 writes_once Pipe = false
 writes_once (Serve serving) = false
 writes_once Replay = false
+writes_once Pack = true
 writes_once (Drill number) = true
 writes_once (Help topic) = true
 writes_once Version = true
 
 -- or the line by which a story is refused
-abbrev pub tasked : Action → Result (List Story) Refusal → ℕ → List ℕ → Result Task (List ℕ)
-tasked action (Ok stories) budget folder = Ok (task_of action stories budget folder)
-tasked action (Err refusal) budget folder = Err (bad_line refusal.story refusal.fault)
+abbrev pub tasked :
+    Action → Result (List Story) Refusal → ℕ → List ℕ → List ℕ → Result Task (List ℕ)
+tasked action (Ok stories) budget folder into = Ok (task_of action stories budget folder into)
+tasked action (Err refusal) budget folder into = Err (bad_line refusal.story refusal.fault)

@@ -4,7 +4,8 @@ use Rattle.command_words.specs.Help.{help_text, version_text}
 use Rattle.command_words.specs.Words.{Asked}
 use Rattle.command_words.specs.declared.words.Action.{Action}
 use Rattle.command_words.specs.declared.words.Action.TheVariants.{Run, Check, Pipe, Init, Help}
-use Rattle.command_words.specs.declared.words.Action.TheVariants.{Serve, Replay, Drill, Version}
+use Rattle.command_words.specs.declared.words.Action.TheVariants.{Serve, Replay, Pack, Drill}
+use Rattle.command_words.specs.declared.words.Action.TheVariants.{Version}
 use Rattle.disk_model.specs.declared.disk.Disk.{Ghosts as DiskWords}
 use Rattle.gate_journal.specs.Rows.{SpellsRows}
 use Rattle.gate_journal.specs.declared.row.Row.{Row}
@@ -20,6 +21,7 @@ use Rattle.story_run.specs.declared.story.Story.{Story}
 use Rattle.host_top.specs.Begun.{ready}
 use Rattle.host_top.specs.Borrowed.{journal_in}
 use Rattle.host_top.specs.CheckText.{good_line}
+use Rattle.host_top.specs.Packed.{line_of}
 use Rattle.host_top.specs.RunText.{run_text}
 use Rattle.host_top.specs.Scene.{IsTold, Scene}
 use Rattle.host_top.specs.Served.{AreSound, AreTold}
@@ -37,8 +39,8 @@ pub record RepliesAlone (stories : List Story) (budget : ℕ) (rows : List Row)
       ≡ texts_joined (map print_reply
       (replies_met stories budget (histories_in_rows rows) 0 lines met))
 
--- What a command writes, by its stories and the bytes of the input. Of the folder of `pipe` and of
--- `replay` the journal is told, and that of `pipe` is sound.
+-- What a command writes, by its stories and the bytes of the input. Of the folder of `pipe`, of
+-- `replay` and of `pack` the journal is told, and that of `pipe` is sound.
 abbrev pub TextOf : {D : Type 0} → DiskWords D → Action → List Story → Asked → List ℕ → Scene D
     → List ℕ → Type 0
 TextOf disks Run stories asked bytes old written =
@@ -56,6 +58,10 @@ TextOf {D} disks Replay stories asked bytes old written =
     (rows : List Row) → ((d : D) → IsTrue (disks.tells d))
     → AreTold disks.seen (old.outside.disk (journal_in asked.folder)) (λ c. SpellsRows c rows)
     → written ≡ transcript stories rows
+TextOf {D} disks Pack stories asked bytes old written =
+    (rows : List Row) → ((d : D) → IsTrue (disks.tells d))
+    → AreTold disks.seen (old.outside.disk (journal_in asked.folder)) (λ c. SpellsRows c rows)
+    → written ≡ line_of rows
 TextOf disks (Drill number) stories asked bytes old written = written ≡ drill_text number
 TextOf disks (Help topic) stories asked bytes old written = written ≡ help_text topic
 TextOf disks Version stories asked bytes old written = written ≡ version_text

@@ -1,11 +1,12 @@
 //! The command `init`, which makes the stores of a folder and begins its journal.
-ghost use Rattle.std.specs.Prelude.{◌≡◌, ◌≤◌, ◌<◌, ◌∷◌, [], List, true, false, length, IsTrue};
+ghost use Rattle.std.specs.Prelude.{◌≡◌, ◌≤◌, ◌<◌, ◌∷◌, [], ℕ, List, true, false, length, IsTrue};
 ghost use Rattle.std.specs.Prelude.{IfOk, OnOk, OnErr, IsErrOf};
-ghost use Rattle.disk_model.specs.Disk.{CountsErrors, SameDisk};
+ghost use Rattle.disk_model.specs.Disk.{CountsErrors, NoneNew, SameDisk};
 ghost use Rattle.host_top.specs.Begun.{Inits, InitsOn, InitsOver, IsLookedAt, MakesStores};
 ghost use Rattle.host_top.specs.Begun.{TriesStores};
 ghost use Rattle.host_top.specs.Borrowed.{Lending, snap_in, snaps_below};
-ghost use Rattle.host_top.specs.Files.{KeepsDoors, KeepsFiles};
+ghost use Rattle.host_top.specs.Calls.{DisksStand, NoneFailed, NoneIsListed};
+ghost use Rattle.host_top.specs.Files.{KeepsDoors, KeepsFiles, is_out};
 ghost use Rattle.line_talk.specs.Causes.{Rose};
 ghost use Rattle.line_talk.specs.Streams.{SourceState, Wrote};
 
@@ -20,10 +21,12 @@ use snap_store::make;
 use std::alloc::Global;
 
 /// Whether a disk holds nothing.
-fn is_empty<D: Disk>(disk: &mut D) -> Result<bool, Failed>
+pub fn is_empty<D: Disk>(disk: &mut D) -> Result<bool, Failed>
     ensures ok { IfOk result (λ empty. IsTrue (D.tells disk.old)
         → (empty ≡ true → D.seen disk.old ≡ []) × (empty ≡ false → 0 < length (D.seen disk.old))) }
     ensures looks { IsLookedAt D.Disk disk.old disk.new }
+    ensures images { IsTrue (D.tells disk.old)
+        → NoneNew (D.may_leave disk.old) (D.may_leave disk.new) }
     ensures seen { OnOk result (IsTrue (D.tells disk.old) → D.seen disk.new ≡ D.seen disk.old) }
     ensures cause { CountsErrors result (D.faults disk.old) (D.faults disk.new) }
     ensures kept { SameDisk D.tells D.room D.label disk.old disk.new }
@@ -63,6 +66,14 @@ fn make_store<O: Outside>(
         (O.outside outside.old) (O.outside outside.new)) }
     ensures cause { IsErrOf result Fetch.Failed
         → Rose (O.outside outside.old).disk_faults (O.outside outside.new).disk_faults }
+    // where no call for a disk is to fail, and the store's isn't out, its own disk failed
+    ensures stood { NoneIsListed (O.failing_loans outside.old)
+        → is_out ((O.outside outside.old).loan (snap_in folder.now session)) ≡ false
+        → NoneFailed (O.outside outside.new).loan → ¬ (IsErrOf result Fetch.Failed) }
+    ensures listed { NoneIsListed (O.failing_loans outside.old)
+        → NoneIsListed (O.failing_loans outside.new) }
+    ensures back { (name : List ℕ) → is_out ((O.outside outside.old).loan name) ≡ false
+        → is_out ((O.outside outside.new).loan name) ≡ false }
     ensures later { (O.outside outside.old).disk_faults ≤ (O.outside outside.new).disk_faults }
     ensures files { KeepsFiles (O.outside outside.old) (O.outside outside.new) }
     ensures doors { KeepsDoors (O.outside outside.old) (O.outside outside.new) }
@@ -80,13 +91,17 @@ fn make_store<O: Outside>(
 }
 
 /// Makes the stores of all sessions, each with its disk back before the next one's is lent.
-fn make_stores<O: Outside>(alloc: Global, folder: &str, outside: &mut O) -> Result<(), Fetch>
+pub fn make_stores<O: Outside>(alloc: Global, folder: &str, outside: &mut O) -> Result<(), Fetch>
     ensures ok { OnOk result (MakesStores O.Disk.Disk (snaps_below folder.now 64)
         (O.outside outside.old) (O.outside outside.new)) }
     ensures err { OnErr result (TriesStores O.Disk.Disk (snaps_below folder.now 64)
         (O.outside outside.old) (O.outside outside.new)) }
     ensures cause { IsErrOf result Fetch.Failed
         → Rose (O.outside outside.old).disk_faults (O.outside outside.new).disk_faults }
+    ensures stood { NoneIsListed (O.failing_loans outside.old)
+        → ((s : ℕ) → s < 64
+        → is_out ((O.outside outside.old).loan (snap_in folder.now s)) ≡ false)
+        → NoneFailed (O.outside outside.new).loan → ¬ (IsErrOf result Fetch.Failed) }
     ensures later { (O.outside outside.old).disk_faults ≤ (O.outside outside.new).disk_faults }
     ensures files { KeepsFiles (O.outside outside.old) (O.outside outside.new) }
     ensures doors { KeepsDoors (O.outside outside.old) (O.outside outside.new) }
@@ -115,6 +130,12 @@ fn init_all<O: Outside, K: Sink>(
         → Rose (K.sink output.old).faults (K.sink output.new).faults }
     ensures unsaid { result ≡ Status.NoMemory
         → Wrote (K.sink output.old) (K.sink output.new) [] }
+    // where each store's disk stands, the journal's own failed
+    ensures stood { NoneIsListed (O.failing_loans outside.old)
+        → ((s : ℕ) → s < 64
+        → is_out ((O.outside outside.old).loan (snap_in folder.now s)) ≡ false)
+        → NoneFailed (O.outside outside.new).loan → result ≡ Status.DiskFault
+        → Rose (O.Disk.faults disk.old) (O.Disk.faults disk.new) }
     ensures files { KeepsFiles (O.outside outside.old) (O.outside outside.new) }
     ensures doors { KeepsDoors (O.outside outside.old) (O.outside outside.new) }
 {
@@ -143,6 +164,8 @@ pub fn init_folder<O: Outside, K: Sink>(
         → Rose (K.sink output.old).faults (K.sink output.new).faults }
     ensures unsaid { result ≡ Status.NoMemory
         → Wrote (K.sink output.old) (K.sink output.new) [] }
+    ensures stood { DisksStand (O.failing_loans outside.old) (O.outside outside.old)
+        (O.outside outside.new) → ¬ (result ≡ Status.DiskFault) }
     ensures files { KeepsFiles (O.outside outside.old) (O.outside outside.new) }
     ensures doors { KeepsDoors (O.outside outside.old) (O.outside outside.new) }
 {

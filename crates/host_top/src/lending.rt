@@ -1,12 +1,13 @@
 //! Disks that a command is lent by their names, and that it puts back.
 ghost use Rattle.std.specs.Prelude.{◌≡◌, ◌≤◌, ◌∷◌, [], ◌++◌, ℕ, List, Some, IfOk, OnOk, OnErr};
 ghost use Rattle.std.specs.Prelude.{false};
+ghost use Rattle.host_top.specs.Calls.{NoneIsListed, NoneIsOut};
 ghost use Rattle.std.specs.Prelude.{IsErrOf, length, map, string_bytes, slice_get};
 ghost use Rattle.std.specs.Str.{bytes_eq};
 ghost use Rattle.line_talk.specs.Causes.{Rose};
 ghost use Rattle.host_top.specs.Borrowed.{AreDifferentNames, AreAsGiven, AreNamed, Borrowed};
 ghost use Rattle.host_top.specs.Borrowed.{Lending, PutsBack, lent_as};
-ghost use Rattle.host_top.specs.Files.{IsLent, KeepsDoors, KeepsFiles};
+ghost use Rattle.host_top.specs.Files.{IsLent, KeepsDoors, KeepsFiles, is_out};
 ghost use Rattle.host_top.specs.Folder.{FitsNames, MayPutBack, PutsFolderBack, folder_back};
 ghost use Rattle.turn_cell.specs.History.{Each};
 ghost use Rattle.host_top.specs.declared.folder.Back.TheVariants as Back;
@@ -32,6 +33,12 @@ fn take_one<O: Outside>(
         × Borrowed O.Disk.Disk (O.outside outside.old) (O.outside outside.new) ls)) }
     ensures cause { IsErrOf result Fetch.Failed
         → Rose (O.outside outside.old).disk_faults (O.outside outside.new).disk_faults }
+    // where no call for a disk is to fail, none does for one that isn't out
+    ensures unlisted { NoneIsListed (O.failing_loans outside.old)
+        → is_out ((O.outside outside.old).loan name.now) ≡ false
+        → ¬ (IsErrOf result Fetch.Failed) }
+    ensures listed { NoneIsListed (O.failing_loans outside.old)
+        → NoneIsListed (O.failing_loans outside.new) }
     ensures later { (O.outside outside.old).disk_faults ≤ (O.outside outside.new).disk_faults }
     ensures files { KeepsFiles (O.outside outside.old) (O.outside outside.new) }
     ensures doors { KeepsDoors (O.outside outside.old) (O.outside outside.new) }
@@ -86,6 +93,10 @@ pub fn take_all<O: Outside>(
         × Borrowed O.Disk.Disk (O.outside outside.old) (O.outside outside.new) ls) }
     ensures cause { IsErrOf result Fetch.Failed
         → Rose (O.outside outside.old).disk_faults (O.outside outside.new).disk_faults }
+    ensures unlisted { NoneIsListed (O.failing_loans outside.old)
+        → Each (λ n. is_out ((O.outside outside.old).loan n) ≡ false)
+        (map string_bytes names.now)
+        → ¬ (IsErrOf result Fetch.Failed) }
     ensures later { (O.outside outside.old).disk_faults ≤ (O.outside outside.new).disk_faults }
     ensures files { KeepsFiles (O.outside outside.old) (O.outside outside.new) }
     ensures doors { KeepsDoors (O.outside outside.old) (O.outside outside.new) }
@@ -124,6 +135,9 @@ pub fn take_folder<O: Outside>(
         × Borrowed O.Disk.Disk (O.outside outside.old) (O.outside outside.new) ls) }
     ensures cause { IsErrOf result Fetch.Failed
         → Rose (O.outside outside.old).disk_faults (O.outside outside.new).disk_faults }
+    ensures unlisted { NoneIsListed (O.failing_loans outside.old)
+        → NoneIsOut (O.outside outside.old).loan
+        → ¬ (IsErrOf result Fetch.Failed) }
     ensures files { KeepsFiles (O.outside outside.old) (O.outside outside.new) }
     ensures doors { KeepsDoors (O.outside outside.old) (O.outside outside.new) }
 {

@@ -13,6 +13,7 @@ mod memory_outside;
 mod once;
 mod opening;
 mod outside;
+mod pack;
 mod pipe;
 mod player;
 mod program;

@@ -274,6 +274,8 @@ impl Outside for MemoryOutside {
 
     fn only_look(&mut self) {}
 
+    fn may_write(&mut self) {}
+
     fn progress(&mut self, _left: usize, _all: usize) {}
 
     fn closed(&mut self, how: Worked<MemoryDoor>)

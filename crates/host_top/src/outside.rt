@@ -111,6 +111,13 @@ pub trait Outside {
             × (failing_loans self.new ≡ failing_loans self.old)
             × (failing_doors self.new ≡ failing_doors self.old) };
 
+    /// Is told that those that it lends from now on may be written, too.
+    fn may_write(&mut self)
+        ensures value { outside self.new ≡ outside self.old }
+        ensures others { (failing_loads self.new ≡ failing_loads self.old)
+            × (failing_loans self.new ≡ failing_loans self.old)
+            × (failing_doors self.new ≡ failing_doors self.old) };
+
     /// Is told how many of all games are left to be played.
     fn progress(&mut self, left: usize, all: usize)
         ensures value { outside self.new ≡ outside self.old }

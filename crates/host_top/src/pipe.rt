@@ -5,6 +5,7 @@ ghost use Rattle.host_serve.specs.Holders.{holders};
 ghost use Rattle.host_serve.specs.Hosts.{AreOf, IsSound};
 ghost use Rattle.line_talk.specs.Causes.{Rose};
 ghost use Rattle.host_top.specs.Folder.{FitsNames, IsSameBack, UsesFolder};
+ghost use Rattle.host_top.specs.Calls.{DisksStand};
 ghost use Rattle.host_top.specs.Files.{KeepsDoors, KeepsFiles};
 ghost use Rattle.host_top.specs.Piped.{PipesOver};
 ghost use Rattle.host_top.specs.Between.{ServesBetween};
@@ -102,6 +103,8 @@ pub fn pipe<'i, R: Wait, O: Outside, S: Source, K: Sink>(
         → Rose (S.source input.old).faults (S.source input.new).faults }
     ensures write_fault { result ≡ Status.WriteFault
         → Rose (K.sink output.old).faults (K.sink output.new).faults }
+    ensures stood { DisksStand (O.failing_loans outside.old) (O.outside outside.old)
+        (O.outside outside.new) → ¬ (result ≡ Status.DiskFault) }
     ensures files { KeepsFiles (O.outside outside.old) (O.outside outside.new) }
     ensures doors { KeepsDoors (O.outside outside.old) (O.outside outside.new) }
 {

@@ -9,7 +9,7 @@ ghost use Rattle.command_words.specs.Words.{command_asked, asked_by};
 ghost use Rattle.host_top.specs.Speech.{tasked, writes_once};
 ghost use Rattle.host_top.specs.Stories.{stories_of};
 ghost use Rattle.host_top.specs.Follows.{DoesTask, FollowsCommand, TellsCaller};
-ghost use Rattle.host_top.specs.Calls.{AreThere, NoneIsListed};
+ghost use Rattle.host_top.specs.Calls.{AreThere, DisksStand, NoneIsListed};
 ghost use Rattle.host_top.specs.Causes.{HasCause};
 ghost use Rattle.host_top.specs.Complete.{IsInOrder, NoneRose};
 ghost use Rattle.host_top.specs.Scene.{scene};
@@ -20,6 +20,7 @@ use crate::drill::drill;
 use crate::init::init_folder;
 use crate::once::say_once;
 use crate::outside::{Fetch, Outside};
+use crate::pack::pack_folder;
 use crate::pipe::pipe;
 use crate::refuse::refuse;
 use crate::replay::replay;
@@ -49,7 +50,7 @@ fn act<R: Threads + Wait + Sync, O: Outside, S: Source, K: Sink>(
     ensures value { DoesTask O.Disk.Disk
         (HostServes O.Door.Door O.Door.Conn.source O.Door.Conn.sink O.Door.Conn.lent O.Disk.Disk)
         (tasked command.now.action (stories_of (map (λ f. f.items) files.now))
-        command.now.budget command.now.folder.now)
+        command.now.budget command.now.folder.now command.now.into.now)
         (O.outside outside.old) (O.outside outside.new) (S.source input.old) (S.source input.new)
         (K.sink output.old) (K.sink output.new) result }
     ensures read_fault { result ≡ Status.ReadFault
@@ -58,6 +59,8 @@ fn act<R: Threads + Wait + Sync, O: Outside, S: Source, K: Sink>(
         → Rose (K.sink output.old).faults (K.sink output.new).faults }
     ensures unsaid { writes_once command.now.action ≡ true → result ≡ Status.NoMemory
         → Wrote (K.sink output.old) (K.sink output.new) [] }
+    ensures stood { DisksStand (O.failing_loans outside.old) (O.outside outside.old)
+        (O.outside outside.new) → ¬ (result ≡ Status.DiskFault) }
     ensures kept { (O.outside outside.new).file ≡ (O.outside outside.old).file }
 {
     let Ok(mut buffer) = vec![in alloc; 0u8; ROOM] else {
@@ -84,6 +87,7 @@ fn act<R: Threads + Wait + Sync, O: Outside, S: Source, K: Sink>(
             )
         }
         Action::Replay => replay(rt, alloc, &stories, command.folder, outside, output),
+        Action::Pack => pack_folder(alloc, command.folder, command.into, outside, output),
         Action::Drill(number) => drill(rt, alloc, number, output),
         Action::Help(topic) => say_once(help_text(topic).as_bytes(), output),
         Action::Version => say_once(VERSION_TEXT.as_bytes(), output),
@@ -116,6 +120,8 @@ fn follow<R: Threads + Wait + Sync, O: Outside, S: Source, K: Sink>(
         → Rose (K.sink output.old).faults (K.sink output.new).faults }
     ensures unsaid { writes_once (command_asked command.entry).action ≡ true
         → result ≡ Status.NoMemory → Wrote (K.sink output.old) (K.sink output.new) [] }
+    ensures stood { DisksStand (O.failing_loans outside.old) (O.outside outside.old)
+        (O.outside outside.new) → ¬ (result ≡ Status.DiskFault) }
     ensures kept { (O.outside outside.new).file ≡ (O.outside outside.old).file }
 {
     let files = match load_files(alloc, &command.names, outside) {
@@ -181,14 +187,18 @@ pub fn top<R: Threads + Wait + Sync, O: Outside, S: Source, K: Sink>(
         IsInOrder O.Disk.Disk asked (O.outside outside.old) (S.source input.old)
         (K.sink output.old)
         → ¬ (Rose (O.outside outside.old).faults (O.outside outside.new).faults)
+        → ¬ (Rose (O.outside outside.old).disk_faults (O.outside outside.new).disk_faults)
         → NoneRose (O.outside outside.old) (O.outside outside.new) (S.source input.old)
         (S.source input.new) (K.sink output.old) (K.sink output.new)
         → (result ≡ 0) ⊎ (result ≡ 7)) }
-    // and so it does where no load is to fail: it makes none of its own that does
+    // and so it does where no load is to fail and no call for a disk, none of these is out, and each
+    // stands: it makes no load or call of its own that fails
     ensures unprovoked { IfSome (asked_by (map string_bytes words.now)) (λ asked.
         IsInOrder O.Disk.Disk asked (O.outside outside.old) (S.source input.old)
         (K.sink output.old)
         → NoneIsListed (O.failing_loads outside.old)
+        → ¬ (Rose (O.outside outside.old).disk_faults (O.outside outside.new).disk_faults)
+        ⊎ DisksStand (O.failing_loans outside.old) (O.outside outside.old) (O.outside outside.new)
         → NoneRose (O.outside outside.old) (O.outside outside.new) (S.source input.old)
         (S.source input.new) (K.sink output.old) (K.sink output.new)
         → (result ≡ 0) ⊎ (result ≡ 7)) }

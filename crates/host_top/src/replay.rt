@@ -1,6 +1,7 @@
 //! The command `replay`, which writes what the players of a folder were shown.
 ghost use Rattle.std.specs.Prelude.{◌≡◌, ◌⊎◌, IfErr, OnOk, IsTrue, map};
 ghost use Rattle.std.specs.List.{flat_map};
+ghost use Rattle.host_top.specs.Calls.{DisksStand};
 ghost use Rattle.host_top.specs.Files.{KeepsDoors, KeepsFiles};
 ghost use Rattle.host_top.specs.Replayed.{ReplaysOn, ReplaysOver};
 ghost use Rattle.line_talk.specs.Causes.{Rose};
@@ -127,6 +128,8 @@ pub fn replay<R: Threads + Sync, O: Outside, K: Sink>(
     ensures read_fault { ¬ (result ≡ Status.ReadFault) }
     ensures write_fault { result ≡ Status.WriteFault
         → Rose (K.sink output.old).faults (K.sink output.new).faults }
+    ensures stood { DisksStand (O.failing_loans outside.old) (O.outside outside.old)
+        (O.outside outside.new) → ¬ (result ≡ Status.DiskFault) }
     ensures files { KeepsFiles (O.outside outside.old) (O.outside outside.new) }
     ensures doors { KeepsDoors (O.outside outside.old) (O.outside outside.new) }
 {

@@ -1,6 +1,7 @@
 //! One line that is written, after which the program ends.
-ghost use Rattle.std.specs.Prelude.{◌≡◌, ◌⊎◌, IfOk, string_bytes};
+ghost use Rattle.std.specs.Prelude.{◌≡◌, ◌⊎◌, [], IfOk, string_bytes};
 ghost use Rattle.line_talk.specs.Causes.{Rose};
+ghost use Rattle.line_talk.specs.Streams.{Wrote};
 ghost use Rattle.host_top.specs.Said.{bad_journal_at, SaysLine, SaysFault};
 
 use crate::status::Status;
@@ -34,6 +35,8 @@ pub fn say_fault<K: Sink>(alloc: Global, fault: JournalFault, output: &mut K) ->
     ensures write_fault { result ≡ Status.WriteFault
         → Rose (K.sink output.old).faults (K.sink output.new).faults }
     ensures no_read { ¬ (result ≡ Status.ReadFault) }
+    ensures unsaid { result ≡ Status.NoMemory
+        → Wrote (K.sink output.old) (K.sink output.new) [] }
 {
     match fault {
         JournalFault::NotJournal => say_line(b"bad journal\n", Status::BadFolder, output),

@@ -9,6 +9,7 @@ ghost use Rattle.line_talk.specs.Causes.{Rose};
 ghost use Rattle.line_talk.specs.Streams.{SourceState};
 ghost use Rattle.host_top.specs.DoorServed.{AreAllShut, AtDoor, CrewRejoins, HostServes};
 ghost use Rattle.host_top.specs.DoorServed.{WorkersServe};
+ghost use Rattle.host_top.specs.Calls.{DisksStand};
 ghost use Rattle.host_top.specs.Files.{KeepsDisks, KeepsFiles};
 ghost use Rattle.host_top.specs.Folder.{FitsNames, IsSameBack, UsesFolder};
 ghost use Rattle.host_top.specs.LinksServed.{DoorsBy, ServesOver};
@@ -229,6 +230,8 @@ pub fn serve<'i, R: Threads + Wait + Sync, O: Outside, K: Sink>(
     ensures read_fault { ¬ (result ≡ Status.ReadFault) }
     ensures write_fault { result ≡ Status.WriteFault
         → Rose (K.sink output.old).faults (K.sink output.new).faults }
+    ensures stood { DisksStand (O.failing_loans outside.old) (O.outside outside.old)
+        (O.outside outside.new) → ¬ (result ≡ Status.DiskFault) }
     ensures files { KeepsFiles (O.outside outside.old) (O.outside outside.new) }
 {
     let Ok(names) = names_in(alloc, folder) else {

@@ -44,6 +44,7 @@ pub fn load_files<O: Outside>(
         → AreThere (O.outside outside.old).file (map (λ n. n.now) names.now)
         → ¬ (IsErrOf result Fetch.Failed) }
     ensures kept { (O.outside outside.new).file ≡ (O.outside outside.old).file }
+    ensures loans { O.failing_loans outside.new ≡ O.failing_loans outside.old }
     ensures disks { KeepsDisks (O.outside outside.old) (O.outside outside.new) }
     ensures doors { KeepsDoors (O.outside outside.old) (O.outside outside.new) }
     ensures later { (O.outside outside.old).faults ≤ (O.outside outside.new).faults }

@@ -275,6 +275,10 @@ where
         self.looks = true;
     }
 
+    fn may_write(&mut self) {
+        self.looks = false;
+    }
+
     fn progress(&mut self, left: usize, all: usize) {
         if self.tells {
             let written = all.saturating_sub(left);

@@ -20,6 +20,8 @@ pub enum Misuse<'w> {
     LacksNumber(&'static str),
     TooMany(&'w str),
     TooManyStories,
+    /// A folder is to be packed into the one of that name, which it is itself.
+    SameFolder(&'w str),
     /// The argument of that name isn't in this range.
     NoNumber(&'static str, &'static str, &'w str),
     Other,
@@ -36,6 +38,7 @@ impl<'w> fmt::Display for Misuse<'w> {
             Misuse::LacksNumber(name) => write!(f, "no number is given behind {name}"),
             Misuse::TooMany(word) => write!(f, "{word:?} is a word too many"),
             Misuse::TooManyStories => write!(f, "more than {MOST_STORIES} stories are given"),
+            Misuse::SameFolder(word) => write!(f, "OLD and NEW are both {word:?}"),
             Misuse::NoNumber(name, range, word) => {
                 write!(f, "{name} is a number from {range}, and {word:?} isn't")
             }
@@ -51,6 +54,7 @@ fn arguments_of(command: &str) -> Option<&'static [&'static str]> {
         "init" => Some(&["DIR"]),
         "pipe" | "replay" => Some(&["DIR", "STORY"]),
         "serve" => Some(&["DIR", "PORT", "WORKERS", "STORY"]),
+        "pack" => Some(&["OLD", "NEW"]),
         "drill" => Some(&["N"]),
         _ => None,
     }
@@ -144,6 +148,9 @@ pub fn misuse_of<'w>(alloc: Global, words: &'w [String]) -> Misuse<'w> {
         (Some(name), _) => Misuse::LacksNumber(name),
         (None, Some(name)) => Misuse::Lacks(name),
         (None, None) if given > MOST_STORIES => Misuse::TooManyStories,
-        (None, None) => Misuse::Other,
+        (None, None) => match (command.as_str(), rest) {
+            ("pack", [old, new]) if old == new => Misuse::SameFolder(new),
+            _ => Misuse::Other,
+        },
     }
 }

@@ -1,4 +1,4 @@
-use Rattle.std.proofs.Common.{◌≡◌, ◌<◌, ◌≤◌, ◌∙◌, ap, refl, arith, List, length}
+use Rattle.std.proofs.Common.{◌≡◌, ◌<◌, ◌≤◌, ◌∙◌, ap, refl, arith, List, [], length}
 use Rattle.std.proofs.Common.{map, Option, None, Some, ℕ, codes, option_map}
 use Rattle.std.proofs.lemmas.Bool.Decides.{nat_tests}
 use Rattle.std.proofs.lemmas.List.{length-map}
@@ -26,7 +26,13 @@ too_many action folder names (Some b) many = grind (arith, nat_tests)
 
 as_asked : (action : Action) (folder : Text) (names : List Text) (b : ℕ)
     → length names ≤ 64
-    → Some (record { action = action; folder = folder; names = names; budget = b })
+    → Some (record {
+      action = action;
+      folder = folder;
+      into = [];
+      names = names;
+      budget = b;
+    })
     ≡ asked_for action (Some folder) (Some names) (Some b)
 as_asked action folder names b few = grind (arith, nat_tests)
 

@@ -4,7 +4,8 @@ use Rattle.std.proofs.lemmas.List.{length-append}
 use Rattle.host_top.specs.Borrowed.{Borrowed, lent_as}
 use Rattle.host_top.proofs.LoansLemmas.{doors_none, doors_then, files_then}
 use Rattle.host_top.proofs.LendingLemmas.{cause_failed, named_at, none_lent, puts_later, take_more}
-use Rattle.host_top.proofs.LendingLemmas.{take_not}
+use Rattle.host_top.proofs.LendingLemmas.{each_at, failed_so, next_loan, take_not}
+use Rattle.host_top.specs.Files.{is_out}
 use Rattle.host_top.proofs.lending.take_all.Given.{Over}
 use Rattle.host_top.proofs.lending.take_all.Goals.{After-deref}
 use Rattle.host_top.proofs.lending.take_all.Goals as goal
@@ -25,6 +26,7 @@ loop-name-init g c = record {
       none_lent _ (g.O.Outside.outside c.args.outside.now) (map string_bytes c.args.names.now)
       c.new-disks.result.items c.new-disks.ensures.items;
   count = refl;
+  listed = λ none. none;
   files = record { file = refl; faults = refl };
   doors = doors_none _;
 }
@@ -64,6 +66,18 @@ returns-in-Err-clause-later g c =
     c.put_all_back.ensures.back in
     omega (arith, back, c.take_one.ensures.later, c.loop-name.invariant.count)
 
+pub returns-in-Err-clause-unlisted : goal.returns-in-Err-clause-unlisted
+returns-in-Err-clause-unlisted g c = λ none each failed.
+    let turn = (goal.at.returns-in-Err-clause-unlisted g c).After-deref in
+    (rw c.in-Err.is at c.take_one.ensures.unlisted) (c.loop-name.invariant.listed none)
+    (ap is_out (next_loan g.O.Disk.Disk (g.O.Outside.outside c.args.outside.now)
+    (g.O.Outside.outside c.loop-name.outside) (map string_bytes c.args.names.now)
+    c.loop-name.disks.items c.deref.result.now c.requires.names (named g turn)
+    c.loop-name.invariant.borrowed)
+    ∙ each_at _ (map string_bytes c.args.names.now) (length c.loop-name.disks.items)
+    c.deref.result.now each (named g turn))
+    (failed_so c.in-Err.why failed)
+
 pub loop-name-preserved : goal.loop-name-preserved
 loop-name-preserved g c = let turn = (goal.at.loop-name-preserved g c).After-deref in
     let ns : List (List ℕ) = map string_bytes c.args.names.now in
@@ -82,6 +96,7 @@ loop-name-preserved g c = let turn = (goal.at.loop-name-preserved g c).After-der
           ns old c.deref.result.now e.0 c.requires.names (named g turn)
           c.loop-name.invariant.borrowed e.2);
       count = rw c.in-Ok.is at c.take_one.ensures.count ∙ c.loop-name.invariant.count;
+      listed = λ none. c.take_one.ensures.listed (c.loop-name.invariant.listed none);
       files = files_then c.loop-name.invariant.files c.take_one.ensures.files;
       doors = doors_then c.loop-name.invariant.doors c.take_one.ensures.doors;
     }

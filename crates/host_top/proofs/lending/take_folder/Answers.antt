@@ -1,7 +1,9 @@
-use Rattle.std.proofs.Common.{[], map, string_bytes}
+use Rattle.std.proofs.Common.{[], ◌∙◌, map, rules, string_bytes}
 use Rattle.host_top.proofs.LoansLemmas.{lent_nothing}
 use Rattle.host_top.proofs.FolderLemmas.{folder_taken, journal_alone, journal_lent}
-use Rattle.host_top.proofs.LendingLemmas.{on_err}
+use Rattle.host_top.proofs.CallsLemmas.{fails_by_cause, no_failure, none_still}
+use Rattle.host_top.proofs.LendingLemmas.{failed_so, on_err}
+use Rattle.host_top.proofs.StoodLemmas.{stores_in}
 use Rattle.host_top.proofs.lending.take_folder.Goals as goal
 
 pub returns-in_err-journal-clause-err : goal.returns-in_err-journal-clause-err
@@ -49,3 +51,15 @@ returns-in-Err-clause-err g c =
     (g.O.Outside.outside c.take_all.new.outside) (g.O.Outside.outside c.put_back.new.self)
     refused.0 c.deref-in-Err.ensures c.requires.journal
     lends given refused.1 refused.2 refused.3 c.put_back.ensures.back
+
+pub returns-in_err-journal-clause-unlisted : goal.returns-in_err-journal-clause-unlisted
+returns-in_err-journal-clause-unlisted g c = λ none out.
+    no_failure g.row.O-Disk.Denot _ _
+    (fails_by_cause _ _ _ _ none c.in_err-journal.ensures.listed ∙ out _) (λ e. search (rules))
+
+pub returns-in-Err-clause-unlisted : goal.returns-in-Err-clause-unlisted
+returns-in-Err-clause-unlisted g c = λ none out failed.
+    let refused = rw c.deref-2.ensures.value at c.in-Err.ensures.unlisted in
+    let lends = rw c.deref.ensures at c.in_ok-journal.ensures.ok in
+    refused (none_still _ _ _ _ none c.in_ok-journal.ensures.listed)
+    (stores_in _ _ _ _ _ _ _ lends c.requires.journal out) (failed_so c.in-Err.why failed)

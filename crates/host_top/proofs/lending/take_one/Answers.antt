@@ -1,5 +1,6 @@
-use Rattle.std.proofs.Common.{[], ◌∷◌, refl, Some}
+use Rattle.std.proofs.Common.{[], ◌∷◌, ◌∙◌, refl, rules, Some}
 use Rattle.host_top.proofs.BorrowLemmas.{lent_one}
+use Rattle.host_top.proofs.CallsLemmas.{fails_by_cause, no_failure, none_still}
 use Rattle.host_top.proofs.LoansLemmas.{lent_nothing}
 use Rattle.host_top.proofs.LendingLemmas.{on_err, returned_one}
 use Rattle.host_top.proofs.lending.take_one.Goals as goal
@@ -33,3 +34,19 @@ returns-in-Err-clause-err g c = (
         (rw c.in-Err.ensures.value_returned at c.put_back.ensures.back),
   ),
 )
+
+pub returns-in_err-disk-clause-unlisted : goal.returns-in_err-disk-clause-unlisted
+returns-in_err-disk-clause-unlisted g c = λ none out.
+    no_failure g.row.O-Disk.Denot _ _
+    (fails_by_cause _ _ _ _ none c.in_err-disk.ensures.listed ∙ out) (λ e. search (rules))
+
+pub returns-in_err-disk-clause-listed : goal.returns-in_err-disk-clause-listed
+returns-in_err-disk-clause-listed g c =
+    λ none. none_still _ _ _ _ none c.in_err-disk.ensures.listed
+
+pub returns-in-Ok-clause-listed : goal.returns-in-Ok-clause-listed
+returns-in-Ok-clause-listed g c = λ none. none_still _ _ _ _ none c.in_ok-disk.ensures.listed
+
+pub returns-in-Err-clause-listed : goal.returns-in-Err-clause-listed
+returns-in-Err-clause-listed g c =
+    λ none. rw c.put_back.ensures.others.1 (none_still _ _ _ _ none c.in_ok-disk.ensures.listed)

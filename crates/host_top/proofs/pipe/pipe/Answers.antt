@@ -5,6 +5,7 @@ use Rattle.host_top.proofs.LoansLemmas.{keeps_none}
 use Rattle.host_top.proofs.UsedLemmas.{fits_so, folder_may, folder_names, folder_used, not_lent}
 use Rattle.host_top.proofs.UsedLemmas.{not_taken_as, sixty_four, short_names}
 use Rattle.host_top.proofs.BegunLemmas.{fetch_cause}
+use Rattle.host_top.proofs.StoodLemmas.{fetch_stood, pipe_stood}
 use Rattle.host_top.proofs.pipe.pipe.Goals as goal
 
 pub returns-in_default-clause-value : goal.returns-in_default-clause-value
@@ -70,3 +71,23 @@ returns-clause-value g c =
     c.in-Ok-take_folder.ensures.count
     (keeps_none (g.O.Outside.outside c.take_folder.new.outside)) c.pipe_over-status.ensures.kept
     c.put_folder_back.ensures.back c.pipe_over-status.ensures.value)
+
+pub returns-in-Err-clause-stood : goal.returns-in-Err-clause-stood
+returns-in-Err-clause-stood g c = λ stand.
+    fetch_stood c.in-Err.why _ c.of_fetch.ensures
+    (c.in-Err.ensures.unlisted stand.unlisted stand.none_out)
+
+pub returns-clause-stood : goal.returns-clause-stood
+returns-clause-stood g c = λ stand.
+    pipe_stood g.O.Disk.Disk c.args.folder.now _ _ _ _ _
+    (folder_used c.args.folder.now _ _ c.in-Ok.ensures.journal c.in-Ok.ensures.snaps
+    g.O.Disk.Disk _ c.in-Ok-take_folder.disks.journal c.in-Ok-take_folder.disks.snaps.items
+    c.pipe_over-status.result.1
+    (g.O.Outside.outside c.args.outside.now) (g.O.Outside.outside c.take_folder.new.outside)
+    (g.O.Outside.outside c.take_folder.new.outside)
+    (g.O.Outside.outside c.put_folder_back.new.outside)
+    (c.in-Ok-take_folder.ensures.ok.0 ∙ short_names _, c.in-Ok-take_folder.ensures.ok.1)
+    c.in-Ok-take_folder.ensures.count
+    (keeps_none (g.O.Outside.outside c.take_folder.new.outside)) c.pipe_over-status.ensures.kept
+    c.put_folder_back.ensures.back c.pipe_over-status.ensures.value)
+    stand.none_failed

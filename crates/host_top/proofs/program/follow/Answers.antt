@@ -1,4 +1,5 @@
 use Rattle.std.proofs.Common.{Err, ap, inr, map}
+use Rattle.host_top.proofs.StoodLemmas.{stand_behind}
 use Rattle.host_top.proofs.program.follow.Goals as goal
 
 pub returns-clause-done : goal.returns-clause-done
@@ -17,3 +18,7 @@ pub returns-in-Err-Failed-clause-unprovoked : goal.returns-in-Err-Failed-clause-
 returns-in-Err-Failed-clause-unprovoked g c = λ none there e.
     absurd ((rw c.deref.ensures.value at c.in-Err-Failed.ensures.unlisted) none there
     (ap (λ w. Err w) c.in-Err-Failed.field-0-is))
+
+pub returns-clause-stood : goal.returns-clause-stood
+returns-clause-stood g c = λ stand. c.act.ensures.stood
+    (stand_behind _ _ _ _ _ c.load_files.ensures.loans c.load_files.ensures.disks stand)

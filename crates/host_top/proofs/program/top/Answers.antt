@@ -108,7 +108,7 @@ returns-in-Err-clause-complete g c =
     complete_no_memory _ (asked_by (map string_bytes c.args.words.now)) c.code-in-Err.result
     (g.O.Outside.outside c.args.outside.now) (g.O.Outside.outside c.args.outside.now)
     (g.S.Source.source c.args.input.now) (g.S.Source.source c.args.input.now)
-    (g.K.Sink.sink c.args.output.now) (g.K.Sink.sink c.args.output.now) _
+    (g.K.Sink.sink c.args.output.now) (g.K.Sink.sink c.args.output.now) _ _
     c.code-in-Err.ensures
 
 pub returns-in-Err-clause-unprovoked : goal.returns-in-Err-clause-unprovoked
@@ -116,7 +116,7 @@ returns-in-Err-clause-unprovoked g c =
     complete_no_memory _ (asked_by (map string_bytes c.args.words.now)) c.code-in-Err.result
     (g.O.Outside.outside c.args.outside.now) (g.O.Outside.outside c.args.outside.now)
     (g.S.Source.source c.args.input.now) (g.S.Source.source c.args.input.now)
-    (g.K.Sink.sink c.args.output.now) (g.K.Sink.sink c.args.output.now) _
+    (g.K.Sink.sink c.args.output.now) (g.K.Sink.sink c.args.output.now) _ _
     c.code-in-Err.ensures
 
 pub returns-clause-complete : goal.returns-clause-complete
@@ -130,5 +130,6 @@ pub returns-clause-unprovoked : goal.returns-clause-unprovoked
 returns-clause-unprovoked g c =
     let is = sym c.in-Ok-Some.ensures ∙ ap (option_map command_asked) c.in-Ok-Some.field-0-is in
     rw is
-    (completes_unlisted _ _ _ _ _ _ _ _ _ _ _ c.follow-status.ensures.done c.code-2.ensures
-    c.follow-status.ensures.unprovoked c.follow-status.ensures.write_fault)
+    (completes_unlisted _ _ _ _ _ _ _ _ _ _ _ _ c.follow-status.ensures.done c.code-2.ensures
+    c.follow-status.ensures.unprovoked c.follow-status.ensures.stood
+    c.follow-status.ensures.write_fault)

@@ -35,6 +35,7 @@ loop-name-preserved g c = record {
   unlisted =
       λ none. none_still _ _ _ _ (c.loop-name.invariant.unlisted none)
       c.in_ok-bytes.ensures.listed;
+  loans = c.in_ok-bytes.ensures.others.0 ∙ c.loop-name.invariant.loans;
   disks = keeps_then c.loop-name.invariant.disks c.in_ok-bytes.ensures.disks;
   doors = doors_then c.loop-name.invariant.doors c.in_ok-bytes.ensures.doors;
 }

@@ -13,6 +13,7 @@ invariant-loop-name g l = record {
   kept : (g.O.Outside.outside l.outside).file ≡ (g.O.Outside.outside l.initial.outside).file;
   unlisted : NoneIsListed (g.O.Outside.failing_loads l.initial.outside)
       → NoneIsListed (g.O.Outside.failing_loads l.outside);
+  loans : g.O.Outside.failing_loans l.outside ≡ g.O.Outside.failing_loans l.initial.outside;
   disks : KeepsDisks (g.O.Outside.outside l.initial.outside) (g.O.Outside.outside l.outside);
   doors : KeepsDoors (g.O.Outside.outside l.initial.outside) (g.O.Outside.outside l.outside);
   later : (g.O.Outside.outside l.initial.outside).faults ≤ (g.O.Outside.outside l.outside).faults;

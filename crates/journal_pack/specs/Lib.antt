@@ -1,0 +1,5 @@
+pub mod Live
+pub mod Later
+pub mod Images
+pub mod Faults
+pub mod Laws
