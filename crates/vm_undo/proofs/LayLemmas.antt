@@ -10,7 +10,8 @@ use Rattle.vm_memory.specs.MemoryMap.{MemoryMap, KeepsMap, Origin, original, ori
 use Rattle.vm_memory.specs.MemoryMap.{KeepsRom, ram_of, replaced, resized, memory_of, number_at}
 use Rattle.vm_memory.proofs.ChangeLemmas.{original_at}
 use Rattle.vm_memory.proofs.PutLemmas.{length_replaced, byte_after}
-use Rattle.vm_undo.specs.Contents.{first_ram, is_size, memory_of_contents, memory_over}
+use Rattle.vm_undo.specs.Contents.{IsMemoryOf, first_ram, is_size, memory_of_contents}
+use Rattle.vm_undo.specs.Contents.{memory_over}
 use Rattle.vm_undo.specs.Contents.{memory_with}
 use Rattle.vm_undo.specs.SavedState.{IsSize}
 use Rattle.std.proofs.lemmas.Bool.Decides.{nat_tests}
@@ -200,3 +201,20 @@ pub laid_memory : (o : Origin) (size : ℕ) (m n : MemoryMap)
 laid_memory o size m n e kept rom =
     ap (λ (x : Origin). memory_with x (ram_of n)) (sym (ap origin_of e) ∙ kept.origin)
     ∙ memory_whole n rom
+
+-- it is memory of the image, of a size that it may have
+pub laid_is : (o : Origin) (size : ℕ) (m n : MemoryMap) → length o.rom ≤ o.endmem
+    → m ≡ record { bytes = original o.rom size; ramstart = o.ramstart; rom = o.rom; endmem = o.endmem }
+    → KeepsMap m n → KeepsRom n.ramstart n.rom n.bytes → IsSize o.endmem size → IsMemoryOf o n
+laid_is o size m n extent e kept rom s =
+    let image : origin_of n ≡ o = sym kept.origin ∙ ap origin_of e in
+    let least = s.least in
+    let long : size ≡ length n.bytes =
+    sym (length_original o.rom size (omega (arith, extent, least)))
+    ∙ sym (ap (λ (x : MemoryMap). length x.bytes) e) ∙ kept.size in
+    record {
+      image = image;
+      rom = subst (λ (x : Origin). KeepsRom x.ramstart x.rom n.bytes) image rom;
+      extent = extent;
+      size = subst (IsSize o.endmem) long s;
+    }

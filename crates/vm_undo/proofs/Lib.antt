@@ -5,4 +5,5 @@ pub mod WriteLemmas
 pub mod LayLemmas
 pub mod LimitLemmas
 pub mod UndoLemmas
+pub mod ListLemmas
 pub mod StandardFacts

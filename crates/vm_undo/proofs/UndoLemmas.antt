@@ -166,7 +166,7 @@ pub keep_limits : (o : Origin) (ks : List KeptState) → KeepsStates o ks
 keep_limits o ks keeps =
     limits_of (map (state_of o) ks) (within_again o ks keeps.all ∙ keeps.within)
 
-all_at : {X : Type 0} (P : X → Type 0) (xs : List X) (i : ℕ) (x : X) → All P xs
+pub all_at : {X : Type 0} (P : X → Type 0) (xs : List X) (i : ℕ) (x : X) → All P xs
     → slice_get xs i ≡ Some x → P x
 all_at P [] i x all e = cc
 all_at P (y ∷ ys) zero x all e =
@@ -339,16 +339,19 @@ unfolding state_of
 saved_held o k n is held =
     let m = is.contents.memory in
     let end = its_endmem o k is in
-    subst (λ (x : MemoryMap). IsSavedWithin o n (over k x)) (sym (of_memory o k is)) (record {
-      image = is.contents.is.image;
-      saved = record {
-        size = subst (λ (e : ℕ). IsSize e (length m.bytes)) (sym end) is.contents.is.size;
-        stack = held.stack;
-        heap = subst (λ (e : ℕ). IsHeapOver e (length m.bytes) k.heap_start k.heap) (sym end)
-            (subst (λ (size : ℕ). IsHeapOver o.endmem size k.heap_start k.heap)
-            (told_size o k is) held.heap);
-      };
-    }, held.within)
+    subst (λ (x : MemoryMap). IsSavedWithin o n (over k x)) (sym (of_memory o k is)) (
+      record {
+        image = is.contents.is.image;
+        saved = record {
+          size = subst (λ (e : ℕ). IsSize e (length m.bytes)) (sym end) is.contents.is.size;
+          stack = held.stack;
+          heap = subst (λ (e : ℕ). IsHeapOver e (length m.bytes) k.heap_start k.heap) (sym end)
+              (subst (λ (size : ℕ). IsHeapOver o.endmem size k.heap_start k.heap)
+              (told_size o k is) held.heap);
+        };
+      },
+      held.within,
+    )
 
 pub held_saved : (o : Origin) (k : KeptState) (n : ℕ) → IsKept o k
     → IsSavedWithin o n (state_of o k) → IsHeld o.endmem n k

@@ -8,7 +8,7 @@ use Rattle.vm_memory.specs.declared.memory.TheConstants.{MAX_SIZE}
 use Rattle.vm_heap.specs.HeapMap.{is_heap}
 use Rattle.vm_stack.specs.Saved.{SavedStack}
 use Rattle.vm_undo.specs.Contents.{IsContents, contents, memory_of_contents}
-use Rattle.vm_undo.specs.SavedState.{IsHeapOver}
+use Rattle.vm_undo.specs.SavedState.{IsHeapOver, IsSavedWithin}
 use Rattle.vm_undo.specs.declared.kept.KeptState.{KeptState}
 use Rattle.vm_undo.specs.declared.saved.Saved.{Saved}
 use Rattle.vm_undo.specs.declared.undo.Kept.{Kept}
@@ -108,6 +108,12 @@ pub record IsHeld (endmem size : ℕ) (k : KeptState) : Type 0 where
   pub stack : SavedStack k.stack
   pub within : length k.stack ≤ size
   pub heap : IsHeapOver endmem (number_at 4 k.contents 0) k.heap_start k.heap
+
+-- a list over this image, whose states are saved states of the story with it, each with a stack of
+-- at most so many bytes
+pub record KeepsOf (origin : Origin) (size : ℕ) (u : UndoList) : Type 0 where
+  pub image : u.origin ≡ origin
+  pub states : All (IsSavedWithin origin size) u.states
 
 -- what holds of a list of kept states at all times
 pub record KeepsStates (o : Origin) (states : List KeptState) : Type 0 where

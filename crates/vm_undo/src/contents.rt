@@ -3,7 +3,7 @@
 ghost use Rattle.std.specs.Prelude.{◌≡◌, ◌≤◌, ◌<◌, ◌++◌, false, length, IfOk, None, Ok, OnErr, OnOk};
 ghost use Rattle.std.specs.Prelude.{List, ℕ, Some, true};
 ghost use Rattle.vm_memory.specs.MemoryMap.{Origin, KeepsMap, origin_of, ram_of};
-ghost use Rattle.vm_undo.specs.Contents.{GivesMemory, IsContents, contents, first_ram};
+ghost use Rattle.vm_undo.specs.Contents.{GivesMemory, IsContents, IsMemoryOf, contents, first_ram};
 ghost use Rattle.vm_undo.specs.Contents.{is_contents, is_size, memory_of_contents};
 ghost use Rattle.vm_undo.specs.Runs.{runs_decoded};
 ghost use Rattle.vm_undo.specs.declared.runs.RunsFault.TheVariants.{BadRuns};
@@ -51,6 +51,8 @@ pub fn cmem_read<'i>(
     requires limit { endmem ≤ MAX_SIZE }
     ensures exact { GivesMemory (memory_of_contents
         (record { ramstart = ramstart; rom = rom.now; endmem = endmem }) bytes.now) result }
+    ensures memory { IfOk result (λ m. IsMemoryOf
+        (record { ramstart = ramstart; rom = rom.now; endmem = endmem }) m) }
 {
     if bytes.len() < 4 {
         return Err(RunsFault::BadRuns);

@@ -1,15 +1,15 @@
 //! The states that undo keeps.
 
 ghost use Rattle.std.specs.Prelude.{◌≡◌, ◌≤◌, ◌<◌, ◌%◌, [], IsTrue, IfOk, IfSome, OnErr, OnOk};
-ghost use Rattle.std.specs.Prelude.{All, length, slice_get, MatchOption, None, Some, true};
+ghost use Rattle.std.specs.Prelude.{length, slice_get, MatchOption, None, Some, true};
 ghost use Rattle.std.specs.Option.{option_map};
 ghost use Rattle.vm_heap.specs.HeapMap.{is_heap};
 ghost use Rattle.vm_memory.specs.MemoryMap.{Origin, origin_of};
 ghost use Rattle.vm_undo.specs.Contents.{IsContents, memory_of_contents};
-ghost use Rattle.vm_undo.specs.SavedState.{IsSavedWithin};
 ghost use Rattle.vm_undo.specs.UndoList as list;
 
 use crate::contents::{cmem_read, cmem_write};
+use crate::fits::is_memory_of;
 use crate::kept::{Contents, KeptState, add, are_held, newest, state_at, take_newest, weight_of};
 use crate::runs::RunsFault;
 use crate::saved::Saved;
@@ -196,15 +196,17 @@ impl<'i> Undo<'i> {
         }
     }
 
-    /// Whether each state is a saved state of the image, with a stack of at most so many bytes.
-    pub fn are_of(&self, stack_size: u32) -> bool
+    /// Whether each state is a saved state of the story whose memory this is, with a stack of at
+    /// most so many bytes.
+    pub fn are_of(&self, memory: &Memory<'_>, stack_size: u32) -> bool
         requires { stack_size ≤ MAX_STACK }
         ensures only { result ≡ true
-            → All (IsSavedWithin self.now.origin stack_size) self.now.states }
-        ensures found { All (IsSavedWithin self.now.origin stack_size) self.now.states
+            → list.KeepsOf (origin_of memory.now) stack_size self.now }
+        ensures found { list.KeepsOf (origin_of memory.now) stack_size self.now
             → result ≡ true }
     {
-        are_held(&self.kept, self.endmem, stack_size)
+        is_memory_of(memory, self.rom, self.ramstart, self.endmem)
+            && are_held(&self.kept, self.endmem, stack_size)
     }
 
     /// Drops the newest state, if one is kept.

@@ -2,7 +2,7 @@ use Rattle.std.proofs.Common.{◌∙◌, Ok, Some, ap, arith}
 use Rattle.vm_memory.specs.MemoryMap.{Origin}
 use Rattle.vm_undo.specs.Contents.{memory_over}
 use Rattle.vm_undo.proofs.LayLemmas.{first_memory, first_of, first_decoded, laid_memory}
-use Rattle.vm_undo.proofs.LayLemmas.{runs_of_contents}
+use Rattle.vm_undo.proofs.LayLemmas.{laid_is, runs_of_contents}
 use Rattle.vm_undo.proofs.contents.cmem_read.Goals as goal
 
 pub lay-requires : goal.lay-requires
@@ -34,6 +34,7 @@ returns-then-not-branch c =
           (first_decoded o size c.resize.new.self c.split_at.result.1.now c.args.bytes.now
           (omega (arith, least)) first c.split_at.ensures.back
           ∙ c.in_ok-lay.ensures.bad (ap Ok c.if-not-branch.true));
+      memory = tt;
     }
 
 pub returns : goal.returns
@@ -54,4 +55,6 @@ returns c =
           ∙ c.in_ok-lay.ensures.ok (ap Ok c.if-not-branch.false))
           ∙ ap Some (laid_memory o size c.resize.new.self c.lay.new.memory first
           c.in_ok-lay.ensures.kept c.rom-rom.ensures.kept);
+      memory = laid_is o size c.resize.new.self c.lay.new.memory c.requires.extent first
+          c.in_ok-lay.ensures.kept c.rom-rom.ensures.kept s;
     }
