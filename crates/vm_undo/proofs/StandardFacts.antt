@@ -1,8 +1,8 @@
 -- Values that the formats give, so that a wrong rule in the specs doesn't check.
-use Rattle.std.specs.Prelude.{◌≡◌, ◌++◌, refl, [], ◌∷◌, true, false, replicate}
+use Rattle.std.specs.Prelude.{◌≡◌, ◌++◌, refl, [], ◌∷◌, true, false, replicate, Some, None}
 use Rattle.vm_memory.specs.MemoryMap.{MemoryMap}
 use Rattle.vm_undo.specs.Contents.{contents}
-use Rattle.vm_undo.specs.Runs.{zeros}
+use Rattle.vm_undo.specs.Runs.{runs_coded, runs_decoded, zeros}
 use Rattle.vm_undo.specs.RunsTest.{are_runs}
 use Rattle.vm_undo.specs.UndoList.{weight}
 use Rattle.vm_undo.specs.declared.undo.TheConstants.{MAX_STATES, MAX_WEIGHT}
@@ -49,3 +49,18 @@ a_run_at_the_end = refl
 
 a_change_past_the_end : are_runs 1 (7 ∷ 7 ∷ []) ≡ false
 a_change_past_the_end = refl
+
+a_change_behind_zeros : runs_coded 0 (0 ∷ 0 ∷ 7 ∷ 0 ∷ []) ≡ 0 ∷ 1 ∷ 7 ∷ []
+unfolding zeros
+a_change_behind_zeros = refl
+
+a_run_of_257 : zeros 257 ≡ 0 ∷ 255 ∷ 0 ∷ 0 ∷ []
+unfolding zeros
+a_run_of_257 = refl
+
+a_run_and_a_change : runs_decoded false (1 ∷ 2 ∷ 3 ∷ []) (0 ∷ 1 ∷ 4 ∷ [])
+    ≡ Some (1 ∷ 2 ∷ 7 ∷ [])
+a_run_and_a_change = refl
+
+a_run_past_the_end : runs_decoded false (1 ∷ 2 ∷ []) (0 ∷ 2 ∷ []) ≡ None
+a_run_past_the_end = refl

@@ -263,30 +263,16 @@ kept_again o k is =
     }) (ap (λ (m : Option MemoryMap). contents (memory_or_first o m)) (given o k.contents c)
     ∙ c.spelled)
 
-pub state_none : (o : Origin) (ks : List KeptState) (i : ℕ) (u : UndoList) → listed o ks ≡ u
-    → slice_get ks i ≡ None → slice_get u.states i ≡ None
-state_none o ks i u view e =
-    ap (λ (v : UndoList). slice_get v.states i) (sym view) ∙ slice_get-map (state_of o) ks i
-    ∙ ap (option_map (state_of o)) e
-
-pub state_some : (o : Origin) (ks : List KeptState) (i : ℕ) (k : KeptState) (u : UndoList)
-    → listed o ks ≡ u → All (IsKept o) ks → slice_get ks i ≡ Some k
-    → option_map kept_of (slice_get u.states i) ≡ Some k
-state_some o ks i k u view all e =
-    ap (λ (v : UndoList). option_map kept_of (slice_get v.states i)) (sym view)
-    ∙ ap (option_map kept_of) (slice_get-map (state_of o) ks i ∙ ap (option_map (state_of o)) e)
-    ∙ ap (λ (x : KeptState). Some x) (kept_again o k (all_at (IsKept o) ks i k all e))
-
 -- ---- a state whose contents are at hand
 
-kept_memory : (o : Origin) (k : KeptState) → IsKept o k → IsMemoryOf o (state_of o k).memory
+pub kept_memory : (o : Origin) (k : KeptState) → IsKept o k → IsMemoryOf o (state_of o k).memory
 unfolding state_of
 kept_memory o k is =
     let c = is.contents in
     subst (λ (m : Option MemoryMap). IsMemoryOf o (memory_or_first o m)) (sym (given o k.contents c))
     c.is
 
-kept_heap : (o : Origin) (k : KeptState) → IsKept o k
+pub kept_heap : (o : Origin) (k : KeptState) → IsKept o k
     → IsTrue (is_heap (state_of o k).heap_start (state_of o k).heap)
 unfolding state_of
 kept_heap o k is = is.heap

@@ -1,13 +1,14 @@
 -- The states that undo keeps (Glulx 3.1.3, "Game State"; how many, and how heavy, is own).
 use Rattle.std.specs.Prelude.{◌≡◌, ◌≤◌, ℕ, ◌+◌, ◌-◌, ◌*◌, Bool, true, ◌&&◌, nat_le, nat_lt, IsTrue}
-use Rattle.std.specs.Prelude.{if◌then◌else◌, List, [], ◌∷◌, ◌++◌, length, take, All}
+use Rattle.std.specs.Prelude.{if◌then◌else◌, List, [], ◌∷◌, ◌++◌, length, map, take, All}
 use Rattle.std.specs.Prelude.{Option, Some, None, slice_get}
-use Rattle.std.specs.List.{sum_by}
+use Rattle.std.specs.List.{list_all, sum_by}
 use Rattle.vm_memory.specs.MemoryMap.{MemoryMap, Origin, memory_of, number_at}
 use Rattle.vm_memory.specs.declared.memory.TheConstants.{MAX_SIZE}
 use Rattle.vm_heap.specs.HeapMap.{is_heap}
 use Rattle.vm_stack.specs.Saved.{SavedStack}
-use Rattle.vm_undo.specs.Contents.{IsContents, contents, memory_of_contents}
+use Rattle.vm_undo.specs.Contents.{IsContents, IsMemoryOf, contents, is_contents}
+use Rattle.vm_undo.specs.Contents.{memory_of_contents}
 use Rattle.vm_undo.specs.SavedState.{IsHeapOver, IsSavedWithin}
 use Rattle.vm_undo.specs.declared.kept.KeptState.{KeptState}
 use Rattle.vm_undo.specs.declared.saved.Saved.{Saved}
@@ -92,6 +93,11 @@ state_of o k = record {
   heap_start = k.heap_start;
 }
 
+-- a state that undo may keep: memory of this image, and a heap by the heap's own rules
+pub record IsOfImage (o : Origin) (s : Saved) : Type 0 where
+  pub memory : IsMemoryOf o s.memory
+  pub heap : IsTrue (is_heap s.heap_start s.heap)
+
 -- what a state weighs as it is kept
 abbrev pub kept_weight : KeptState → ℕ
 kept_weight k = length k.contents + length k.stack + 8 * length k.heap
@@ -100,6 +106,17 @@ kept_weight k = length k.contents + length k.stack + 8 * length k.heap
 pub record IsKept (o : Origin) (k : KeptState) : Type 0 where
   pub contents : IsContents o k.contents
   pub heap : IsTrue (is_heap k.heap_start k.heap)
+
+-- the same as a test, which needs no byte of the image
+abbrev pub is_kept : ℕ → ℕ → KeptState → Bool
+is_kept ramstart endmem k = is_contents ramstart endmem k.contents && is_heap k.heap_start k.heap
+
+-- the list whose states are kept as these, the oldest first; none where one of them isn't kept so of
+-- this image, or where they pass a limit
+unfoldable pub undo_of : Origin → List KeptState → Option UndoList
+undo_of o ks =
+    if list_all (is_kept o.ramstart o.endmem) ks && are_within kept_weight ks
+    then Some (record { origin = o; states = map (state_of o) ks }) else None
 
 -- a kept state whose stack is a saved one of at most so many bytes, and whose heap is one over its
 -- memory, with whose size the contents begin
@@ -134,3 +151,8 @@ HoldsLimits = (states : List Saved) → KeepLimits (within_limits weight states)
 abbrev pub KeepsTheNewest : Type 0
 KeepsTheNewest = (states : List Saved) (s : Saved) → weight s ≤ MAX_WEIGHT
     → newest (within_limits weight (states ++ s ∷ [])) ≡ Some s
+
+-- a list of states of its image within the limits is the one of what is kept of them
+abbrev pub GivesListBack : Type 0
+GivesListBack = (u : UndoList) → All (IsOfImage u.origin) u.states → KeepLimits u.states
+    → undo_of u.origin (map kept_of u.states) ≡ Some u

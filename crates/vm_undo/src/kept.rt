@@ -1,11 +1,14 @@
 //! States as undo keeps them, and the limits of their list.
 
 ghost use Rattle.std.specs.Prelude.{◌≡◌, ◌≤◌, ◌<◌, ◌++◌, ◌∷◌, ◌*◌, ◌+◌, ◌^◌, [], List, ℕ, length};
-ghost use Rattle.std.specs.Prelude.{All, None, OnErr, OnOk, MatchOption, Some, slice_get, true};
-ghost use Rattle.vm_undo.specs.UndoList.{IsHeld, are_within, before_newest, kept_weight, newest};
+ghost use Rattle.std.specs.Prelude.{All, None, OnErr, OnOk, MatchOption, Some, true};
+ghost use Rattle.vm_undo.specs.UndoList.{IsHeld, IsKept, are_within, before_newest, is_kept};
+ghost use Rattle.vm_undo.specs.UndoList.{kept_weight, newest};
+ghost use Rattle.std.specs.List.{list_all};
 ghost use Rattle.vm_undo.specs.UndoList.{within_limits};
 ghost use Rattle.vm_undo.specs.KeptList.{kept_in};
 
+use crate::contents::is_contents;
 use crate::fits::is_heap_over;
 use crate::lists::{Blocks, StackBytes};
 use crate::saved::is_stack;
@@ -13,7 +16,7 @@ use crate::undo::{MAX_STATES, MAX_WEIGHT};
 use byteorder::{BigEndian, ByteOrder};
 use std::alloc::{AllocError, Global};
 use std::marker::Model;
-use vm_heap::Block;
+use vm_heap::{Block, is_heap};
 use vm_stack::MAX_STACK;
 
 /// The contents of a CMem chunk, seen by contracts as the list of their bytes.
@@ -64,9 +67,9 @@ pub(crate) fn weight_of(contents: &[u8], stack: &[u8], heap: &[Block]) -> u128
     contents.len() as u128 + stack.len() as u128 + 8 * heap.len() as u128
 }
 
-// Whether both limits hold.
+/// Whether both limits hold.
 #[tactic(auto, using(crate::proofs::LimitLemmas::light_all))]
-fn are_within(states: &[KeptState]) -> bool
+pub(crate) fn are_within(states: &[KeptState]) -> bool
     ensures { result ≡ are_within kept_weight states.now }
 {
     if states.len() > MAX_STATES as usize {
@@ -116,26 +119,22 @@ pub(crate) fn add(
     room
 }
 
+/// The states, lent.
+pub(crate) fn states_in(slot: &Option<Vec<KeptState>>) -> &[KeptState]
+    ensures { result.now ≡ kept_in slot.now }
+{
+    match slot {
+        Some(states) => states.as_slice(),
+        None => &[],
+    }
+}
+
 /// The newest state, lent.
 pub(crate) fn newest(slot: &Option<Vec<KeptState>>) -> Option<&KeptState>
     ensures { MatchOption result (newest (kept_in slot.now) ≡ None)
         (λ k. newest (kept_in slot.now) ≡ Some k.now) }
 {
-    match slot {
-        Some(states) => states.as_slice().last(),
-        None => None,
-    }
-}
-
-/// The state of this index, lent.
-pub(crate) fn state_at(slot: &Option<Vec<KeptState>>, index: usize) -> Option<&KeptState>
-    ensures { MatchOption result (slice_get (kept_in slot.now) index ≡ None)
-        (λ k. slice_get (kept_in slot.now) index ≡ Some k.now) }
-{
-    match slot {
-        Some(states) => states.as_slice().get(index),
-        None => None,
-    }
+    states_in(slot).last()
 }
 
 /// Takes the newest state.
@@ -165,24 +164,37 @@ fn is_held(state: &KeptState, endmem: u32, stack_size: u32) -> bool
 }
 
 /// The same of each state.
-pub(crate) fn are_held(slot: &Option<Vec<KeptState>>, endmem: u32, stack_size: u32) -> bool
-    requires { stack_size ≤ MAX_STACK }
-    ensures only { result ≡ true → All (IsHeld endmem stack_size) (kept_in slot.now) }
-    ensures found { All (IsHeld endmem stack_size) (kept_in slot.now) → result ≡ true }
-{
-    match slot {
-        Some(states) => all_held(states.as_slice(), endmem, stack_size),
-        None => true,
-    }
-}
-
-fn all_held(states: &[KeptState], endmem: u32, stack_size: u32) -> bool
+pub(crate) fn are_held(states: &[KeptState], endmem: u32, stack_size: u32) -> bool
     requires { stack_size ≤ MAX_STACK }
     ensures only { result ≡ true → All (IsHeld endmem stack_size) states.now }
     ensures found { All (IsHeld endmem stack_size) states.now → result ≡ true }
 {
     for state in states {
         if !is_held(state, endmem, stack_size) {
+            return false;
+        }
+    }
+    true
+}
+
+// Whether a state is kept so of an image with this RAMSTART and ENDMEM.
+fn is_kept(state: &KeptState, ramstart: u32, endmem: u32) -> bool
+    ensures value { result ≡ is_kept ramstart endmem state.now }
+    ensures only { result ≡ true → (rom : List ℕ) → ramstart ≤ length rom → length rom ≤ endmem
+        → IsKept (record { ramstart = ramstart; rom = rom; endmem = endmem }) state.now }
+{
+    is_contents(ramstart, endmem, state.contents.as_slice())
+        && is_heap(state.heap_start, state.heap.as_slice())
+}
+
+/// The same of each state.
+pub(crate) fn are_kept(states: &[KeptState], ramstart: u32, endmem: u32) -> bool
+    ensures value { result ≡ list_all (is_kept ramstart endmem) states.now }
+    ensures only { result ≡ true → (rom : List ℕ) → ramstart ≤ length rom → length rom ≤ endmem
+        → All (IsKept (record { ramstart = ramstart; rom = rom; endmem = endmem })) states.now }
+{
+    for state in states {
+        if !is_kept(state, ramstart, endmem) {
             return false;
         }
     }

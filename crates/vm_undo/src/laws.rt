@@ -1,7 +1,7 @@
 //! Laws of the contents of memory, and of the limits of undo.
 
 ghost use Rattle.vm_undo.specs.Contents.{GivesContentsBack, GivesMemoryBack, TellsContents};
-ghost use Rattle.vm_undo.specs.UndoList.{HoldsLimits, KeepsTheNewest};
+ghost use Rattle.vm_undo.specs.UndoList.{GivesListBack, HoldsLimits, KeepsTheNewest};
 
 /// Memory is what its contents give.
 pub fn gives_memory_back()
@@ -26,4 +26,9 @@ pub fn holds_limits()
 /// A state that isn't too large is the newest after its save.
 pub fn keeps_the_newest()
     ensures { KeepsTheNewest }
+{}
+
+/// The states of a list are those of what is kept of them.
+pub fn gives_list_back()
+    ensures { GivesListBack }
 {}

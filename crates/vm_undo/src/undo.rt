@@ -1,8 +1,7 @@
 //! The states that undo keeps.
 
 ghost use Rattle.std.specs.Prelude.{◌≡◌, ◌≤◌, ◌<◌, ◌%◌, [], IsTrue, IfOk, IfSome, OnErr, OnOk};
-ghost use Rattle.std.specs.Prelude.{length, slice_get, MatchOption, None, Some, true};
-ghost use Rattle.std.specs.Option.{option_map};
+ghost use Rattle.std.specs.Prelude.{All, length, map, None, Some, true};
 ghost use Rattle.vm_heap.specs.HeapMap.{is_heap};
 ghost use Rattle.vm_memory.specs.MemoryMap.{Origin, origin_of};
 ghost use Rattle.vm_undo.specs.Contents.{IsContents, memory_of_contents};
@@ -10,7 +9,10 @@ ghost use Rattle.vm_undo.specs.UndoList as list;
 
 use crate::contents::{cmem_read, cmem_write};
 use crate::fits::is_memory_of;
-use crate::kept::{Contents, KeptState, add, are_held, newest, state_at, take_newest, weight_of};
+use crate::kept::{
+    Contents, KeptState, add, are_held, are_kept, are_within, newest, states_in, take_newest,
+    weight_of,
+};
 use crate::runs::RunsFault;
 use crate::saved::Saved;
 use std::alloc::{AllocError, Global};
@@ -106,6 +108,35 @@ impl<'i> Undo<'i> {
         }
     }
 
+    /// What undo keeps where these are its states, the oldest first. None exactly where one of them
+    /// isn't kept so of this image, or where they pass a limit.
+    pub fn of_states(
+        rom: &'i [u8],
+        ramstart: u32,
+        endmem: u32,
+        states: Vec<KeptState>,
+    ) -> Option<Undo<'i>>
+        requires ram { ramstart ≤ length rom.now }
+        requires extent { length rom.now ≤ endmem }
+        requires some { 0 < endmem }
+        requires limit { endmem ≤ MAX_SIZE }
+        ensures value { result ≡ list.undo_of
+            (record { ramstart = ramstart; rom = rom.now; endmem = endmem }) states.items }
+    {
+        if !are_kept(states.as_slice(), ramstart, endmem) {
+            return None;
+        }
+        if !are_within(states.as_slice()) {
+            return None;
+        }
+        Some(Undo {
+            rom,
+            ramstart,
+            endmem,
+            kept: Some(states),
+        })
+    }
+
     /// Keeps the state, unless it weighs too much, and drops the oldest until both limits hold.
     pub fn save(&mut self, alloc: Global, state: &Saved<'i>) -> Result<Kept, AllocError>
         requires image { origin_of state.now.memory ≡ self.old.origin }
@@ -127,8 +158,8 @@ impl<'i> Undo<'i> {
         self.keep(alloc, kept)
     }
 
-    /// Keeps a state whose contents are at hand, as `save` does.
-    pub fn keep(&mut self, alloc: Global, state: KeptState) -> Result<Kept, AllocError>
+    // Keeps a state whose contents are at hand.
+    fn keep(&mut self, alloc: Global, state: KeptState) -> Result<Kept, AllocError>
         requires { list.IsKept self.old.origin state }
         ensures value { IfOk result (λ kept. kept ≡ list.answer
             (list.state_of self.old.origin state)) }
@@ -185,15 +216,12 @@ impl<'i> Undo<'i> {
         newest(&self.kept).is_some()
     }
 
-    /// The state of this index as it is kept, 0 the oldest; None exactly where none is kept there.
-    pub fn state(&self, index: u32) -> Option<&KeptState>
-        ensures value { MatchOption result (slice_get self.now.states index ≡ None)
-            (λ k. option_map list.kept_of (slice_get self.now.states index) ≡ Some k.now) }
+    /// The states as they are kept, the oldest first.
+    pub fn states(&self) -> &[KeptState]
+        ensures value { map list.kept_of self.now.states ≡ result.now }
+        ensures are { All (list.IsOfImage self.now.origin) self.now.states }
     {
-        match state_at(&self.kept, index as usize) {
-            Some(state) => Some(state),
-            None => None,
-        }
+        states_in(&self.kept)
     }
 
     /// Whether each state is a saved state of the story whose memory this is, with a stack of at
@@ -206,7 +234,7 @@ impl<'i> Undo<'i> {
             → result ≡ true }
     {
         is_memory_of(memory, self.rom, self.ramstart, self.endmem)
-            && are_held(&self.kept, self.endmem, stack_size)
+            && are_held(states_in(&self.kept), self.endmem, stack_size)
     }
 
     /// Drops the newest state, if one is kept.
