@@ -1,85 +1,63 @@
-//! The states that undo keeps, as saves.
+//! The states that undo keeps, as fields.
 
-ghost use Rattle.std.specs.Prelude.{◌≡◌, ◌≤◌, length, All, IfOk, IfSome, IsTrue, map, reverse};
-ghost use Rattle.quetzal.specs.Save.{IsStateOf, canon};
-ghost use Rattle.quetzal.specs.State.{state_in};
+ghost use Rattle.std.specs.Prelude.{◌≡◌, IfOk, map};
 ghost use Rattle.snap_machine.specs.Fields as spec;
-ghost use Rattle.snap_machine.specs.Laws.{StateHasRom};
-ghost use Rattle.vm_heap.specs.HeapMap.{is_heap};
+ghost use Rattle.snap_machine.specs.Parts.{kept_fields};
 
 use glulx_image::Image;
-use quetzal::SaveFault;
-use snap_fields::Items;
+use snap_fields::{Items, UndoState};
 use std::alloc::{AllocError, Global};
-use vm_undo::{Saved, Undo};
+use vm_undo::{Blocks, Contents, KeptState, StackBytes, Undo};
 
-/// How many states undo keeps at most.
-const MOST: u32 = 4;
-
-/// The saves of the states, the oldest first.
-pub fn saves_of(
-    alloc: Global,
-    undo: &Undo<'_>,
-    image: &Image<'_>,
-) -> Result<Items<Items<u8>>, AllocError>
-    requires { All (IsStateOf image.now) undo.now }
-    ensures value { IfOk result (λ saves. saves ≡ reverse (map (canon image.now) undo.now)) }
-    ensures kept { IfOk result (λ _. All StateHasRom undo.now) }
+/// The fields of states that are kept, in their order.
+pub fn undo_fields_of(alloc: Global, states: &[KeptState]) -> Result<Items<UndoState>, AllocError>
+    ensures { IfOk result (λ fields. fields ≡ map kept_fields states.now) }
 {
-    let _any = undo.has();
-    let mut saves = Vec::new(alloc);
-    for index in 0..MOST {
-        if let Some(state) = undo.state(index) {
-            saves.push(save_of(alloc, state, image)?)?;
-        }
+    let mut fields = Vec::new(alloc);
+    for state in states {
+        fields.push(state_fields(alloc, state)?)?;
     }
-    saves.reverse();
-    Ok(Items::of(saves))
+    Ok(Items::of(fields))
 }
 
-fn save_of(alloc: Global, state: &Saved<'_>, image: &Image<'_>) -> Result<Items<u8>, AllocError>
-    requires { IsStateOf image.now state.now }
-    ensures value { IfOk result (λ save. save ≡ canon image.now state.now) }
-    ensures kept { StateHasRom state.now }
+fn state_fields(alloc: Global, state: &KeptState) -> Result<UndoState, AllocError>
+    ensures { IfOk result (λ fields. fields ≡ kept_fields state.now) }
 {
-    let _rom = state.memory.rom();
-    Ok(Items::of(quetzal::write(alloc, state, image)?))
+    Ok(UndoState {
+        contents: Items::of(Vec::from_slice(alloc, state.contents.as_slice())?),
+        stack: Items::of(Vec::from_slice(alloc, state.stack.as_slice())?),
+        heap_start: state.heap_start,
+        heap: Items::of(Vec::from_slice(alloc, state.heap.as_slice())?),
+    })
 }
 
-/// What undo keeps by the saves of its states, the oldest first. None where one of them is no save
-/// of the story, or where there are more than four.
+/// What undo keeps by the fields of its states, the oldest first. None where one of them isn't one
+/// that may be kept of the story, or where they pass a limit.
 pub fn undo_of<'i>(
     alloc: Global,
-    saves: &[Items<u8>],
+    fields: &[UndoState],
     image: &Image<'i>,
 ) -> Result<Option<Undo<'i>>, AllocError>
-    ensures { IfOk result (λ undo. undo ≡ spec.undo_of image.now saves.now) }
+    ensures { IfOk result (λ undo. undo ≡ spec.undo_of image.now fields.now) }
 {
-    if saves.len() > MOST as usize {
-        return Ok(None);
+    let mut states = Vec::new(alloc);
+    for state in fields {
+        states.push(kept_state(alloc, state)?)?;
     }
-    let mut undo = Undo::new();
-    for save in saves {
-        match state_of(alloc, save.as_slice(), image)? {
-            Some(state) => undo.keep(state),
-            None => return Ok(None),
-        }
-    }
-    Ok(Some(undo))
+    let rom = &image.bytes()[..image.extstart() as usize];
+    Ok(Undo::of_states(rom, image.ramstart(), image.endmem(), states))
 }
 
-// The state that a save spells.
-fn state_of<'i>(
-    alloc: Global,
-    save: &[u8],
-    image: &Image<'i>,
-) -> Result<Option<Saved<'i>>, AllocError>
-    ensures value { IfOk result (λ state. state ≡ state_in image.now save.now) }
-    ensures heap { IfOk result (λ state. IfSome state (λ s. IsTrue (is_heap s.heap_start s.heap))) }
+fn kept_state(alloc: Global, state: &UndoState) -> Result<KeptState, AllocError>
+    ensures { IfOk result (λ kept. kept ≡ spec.kept_state state.now) }
 {
-    match quetzal::read(alloc, save, image) {
-        Ok(state) => Ok(Some(state)),
-        Err(SaveFault::NoMemory) => Err(AllocError),
-        Err(_) => Ok(None),
-    }
+    let contents = Vec::from_slice(alloc, state.contents.as_slice())?;
+    let stack = Vec::from_slice(alloc, state.stack.as_slice())?;
+    let heap = Vec::from_slice(alloc, state.heap.as_slice())?;
+    Ok(KeptState {
+        contents: Contents::of(contents),
+        stack: StackBytes::of(stack),
+        heap: Blocks::of(heap),
+        heap_start: state.heap_start,
+    })
 }

@@ -1,3 +1,4 @@
+pub mod BeforeLemmas
 pub mod FileLemmas
 pub mod Newest
 pub mod AreaWritten

@@ -11,7 +11,7 @@ ghost use Rattle.snap_store.specs.Slots.{slot_in};
 ghost use Rattle.snap_store.specs.declared.side.Side.TheVariants.{A, B};
 ghost use Rattle.snap_store.specs.declared.slot.Slot.TheVariants.{Closed};
 
-use crate::side::Side;
+use crate::side::{GATE_A, GATE_B, Side};
 use crate::slot::Slot;
 use byteorder::{BigEndian, ByteOrder};
 use disk_model::{Disk, Failed};
@@ -65,7 +65,7 @@ fn read_head<D: Disk>(disk: &mut D, side: Side) -> Result<Head, Failed>
 
 // The file begins with the header's bytes; these are its first ones.
 fn is_header(size: u64, bytes: &[u8]) -> bool
-    requires { length bytes.now ≡ 10 }
+    requires { length bytes.now ≡ 12 }
     ensures { (file : List ℕ) → length file ≡ size → ReadsFile file 0 bytes.now
         → result ≡ has_header file }
 {
@@ -83,15 +83,15 @@ pub fn outline_in<D: Disk>(disk: &mut D) -> Result<Outline, Failed>
         disk.old disk.new }
 {
     let size = disk.size()?;
-    let mut bytes = [0; 10];
+    let mut bytes = [0; 12];
     disk.read_at(0, &mut bytes)?;
     let a = read_head(disk, Side::A)?;
     let b = read_head(disk, Side::B)?;
     Ok(Outline {
         made: is_header(size, &bytes),
         size,
-        gate_a: bytes[8],
-        gate_b: bytes[9],
+        gate_a: bytes[GATE_A as usize],
+        gate_b: bytes[GATE_B as usize],
         a,
         b,
     })

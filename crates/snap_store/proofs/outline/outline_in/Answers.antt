@@ -19,8 +19,8 @@ returns-clause-ok g c told =
     let reads : ReadsFile file 0 c.read_at.new.into =
     rw sized at (c.in_ok-read_at.ensures.ok told_sized) in
     let made : c.is_header.result ≡ has_header file = c.is_header.ensures file (sym size) reads in
-    let gate_a : slice_index c.read_at.new.into 8 ≡ slice_index file 8 = reads 8 (omega arith) in
-    let gate_b : slice_index c.read_at.new.into 9 ≡ slice_index file 9 = reads 9 (omega arith) in
+    let gate_a : slice_index c.read_at.new.into 10 ≡ slice_index file 10 = reads 10 (omega arith) in
+    let gate_b : slice_index c.read_at.new.into 11 ≡ slice_index file 11 = reads 11 (omega arith) in
     let a : c.in_ok-a.a ≡ area_head A file =
     c.in_ok-a.ensures.ok told_read ∙ ap (λ (l : List ℕ). area_head A l) seen_read in
     let b : c.in_ok-b.b ≡ area_head B file =
