@@ -269,6 +269,21 @@ kept-fit m s u is kept fit ready =
     with_states m u fit (ap (λ (v : UndoList). v.origin) kept ∙ saved_origin m.undo s ∙ fit.map.image)
     (subst (λ (v : UndoList). All Is v.states) (sym kept) (saved_all Is m.undo s fit.map.undo one))
 
+-- what is saved, by its parts
+pub saved_is : (m : Machine) (memory : MemoryMap) (stack : List ℕ) (heap : List Block) (start : ℕ)
+    → memory ≡ m.memory → stack ≡ m.stack.bytes → heap ≡ m.heap.blocks → start ≡ m.heap.start
+    → record { memory = memory; stack = stack; heap = heap; heap_start = start } ≡ saved_state m
+saved_is m memory stack heap start a b c d = rw (a, b, c, d) refl
+
+-- a state more is kept, for which memory was lent
+pub lent-fit : (m : Machine) (memory : MemoryMap) (s : Saved) (u : UndoList)
+    → memory ≡ m.memory → s ≡ saved_state m → u ≡ saved m.undo s
+    → IsFit m → IsReady m.stack
+    → IsFit (record m { memory = memory; undo = u })
+lent-fit m memory s u same is kept fit ready =
+    subst (λ (x : MemoryMap). IsFit (record m { memory = x; undo = u })) (sym same)
+    (kept-fit m s u is kept fit ready)
+
 -- the newest state is taken
 pub taken-fit : (m : Machine) (u : UndoList)
     → u ≡ without_newest m.undo → IsFit m

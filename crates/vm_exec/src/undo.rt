@@ -15,7 +15,7 @@ use crate::Machine;
 use crate::function::stub_dest;
 use crate::machine::begin;
 use crate::step::{Done, Out};
-use crate::trap::{no_memory, of_stack};
+use crate::trap::of_stack;
 use std::alloc::{AllocError, Global};
 use std::mem;
 use vm_heap::Heap;
@@ -127,8 +127,12 @@ impl<'i> Machine<'i> {
         ensures fit { OnOk result (IsFit self.new) }
         ensures own { OnOk result (EndsInOwnStub self.new.stack) }
     {
-        let stack = self.stack.copy_bytes(alloc).map_err(no_memory)?;
-        let blocks = Vec::from_slice(alloc, self.heap.blocks()).map_err(no_memory)?;
+        let Ok(stack) = self.stack.copy_bytes(alloc) else {
+            return Err(Trap::NoMemory);
+        };
+        let Ok(blocks) = Vec::from_slice(alloc, self.heap.blocks()) else {
+            return Err(Trap::NoMemory);
+        };
         let fresh = self.memory.fresh();
         let state = Saved {
             memory: mem::replace(&mut self.memory, fresh),
@@ -139,7 +143,10 @@ impl<'i> Machine<'i> {
         let kept = self.undo.save(alloc, &state);
         let Saved { memory, .. } = state;
         self.memory = memory;
-        kept.map_err(no_memory)
+        match kept {
+            Ok(kept) => Ok(kept),
+            Err(_) => Err(Trap::NoMemory),
+        }
     }
 
     pub(crate) fn save_undo(&mut self, alloc: Global, to: Dest) -> Result<(), Trap>
@@ -156,9 +163,10 @@ impl<'i> Machine<'i> {
         ensures does { Changes (rows.undo_restored self.old to) self.new result }
         ensures fit { IsFit self.old → OnOk result (IsFit self.new) }
     {
-        match self.undo.restore(alloc).map_err(no_memory)? {
-            Some(state) => self.resume(alloc, state),
-            None => self.store(to, 1),
+        match self.undo.restore(alloc) {
+            Ok(Some(state)) => self.resume(alloc, state),
+            Ok(None) => self.store(to, 1),
+            Err(_) => Err(Trap::NoMemory),
         }
     }
 
