@@ -27,7 +27,7 @@ fn story(code: &[u8]) -> [u8; 256] {
 
 // The machine with which the image's story begins, in a box: its holder lets go of one thing then.
 fn started<'i>(alloc: Global, image: &Image<'i>) -> Option<Box<Machine<'i>>>
-    ensures { IfSome result (λ machine. IsSoundMachine machine) }
+    ensures { IfSome result (λ machine. IsSoundMachine machine.value) }
 {
     let machine = Machine::start(alloc, image, 1).ok()?;
     Box::new(alloc, machine).ok()

@@ -15,7 +15,8 @@ pub fn undo_fields_of(alloc: Global, states: &[KeptState]) -> Result<Items<UndoS
 {
     let mut fields = Vec::new(alloc);
     for state in states {
-        fields.push(state_fields(alloc, state)?)?;
+        let field = state_fields(alloc, state)?;
+        fields.push(field)?;
     }
     Ok(Items::of(fields))
 }
@@ -42,7 +43,8 @@ pub fn undo_of<'i>(
 {
     let mut states = Vec::new(alloc);
     for state in fields {
-        states.push(kept_state(alloc, state)?)?;
+        let kept = kept_state(alloc, state)?;
+        states.push(kept)?;
     }
     let rom = &image.bytes()[..image.extstart() as usize];
     Ok(Undo::of_states(rom, image.ramstart(), image.endmem(), states))
