@@ -66,7 +66,7 @@ fn a_state_is_kept_and_comes_back_once(rt: HostRuntime) -> Result<(), Fail> {
 fn contents_are_written_and_give_memory_back(rt: HostRuntime) -> Result<(), Fail> {
     let memory = marked(rt.alloc(), 7)?;
     let contents = cmem_write(rt.alloc(), &memory)?;
-    assert!(rt; contents.as_slice() == &[0, 0, 2, 0, 0, 255, 7]);
+    assert!(rt; contents.as_slice() == b"\x00\x00\x02\x00\x00\xFF\x07".as_slice());
     let back = cmem_read(rt.alloc(), &[], 0, 512, contents.as_slice());
     assert!(rt; back.is_ok_and(|memory| holds(&memory, &[(255, 0), (256, 7), (257, 0)])));
     Ok(())
