@@ -8,3 +8,4 @@ pub mod SlotLemmas
 pub mod StoreLemmas
 pub mod PutLemmas
 mod StandardFacts
+pub mod CallLemmas
