@@ -1,5 +1,5 @@
 -- Laws of device calls that are counted: one, and one piece of work after another.
-use Rattle.std.proofs.Common.{◌≡◌, ◌⊎◌, inl, inr, ℕ, ◌+◌, ◌-◌, ◌<◌, ◌≤◌, Bool, arith, refl, ◌∙◌}
+use Rattle.std.proofs.Common.{◌≡◌, ◌⊎◌, inl, inr, ℕ, ◌+◌, ◌-◌, ◌<◌, ◌≤◌, Bool, true, false, arith, refl, ◌∙◌}
 use Rattle.std.specs.Prelude.{IsTrue, Result, Ok, Err}
 use Rattle.std.proofs.lemmas.Bool.{cases_lt}
 use Rattle.disk_model.specs.Work.{GoodCalls, FailedCall, MakesCalls}
@@ -68,6 +68,13 @@ module _ {D : Type 0} {fails_at : D → ℕ → Bool} {moment : D → ℕ} where
       → fails_at new ≡ fails_at old → GoodCalls fails_at moment 1 old new
   answered never err (inl clock) list = good_one (λ told. never (err told)) clock list
   answered never err (inr found) list = absurd (never found.0)
+
+  -- as it answered Ok, which is no error
+  pub answered_ok :
+      {F : Type 0} {old new : D} → (IsTrue (fails_at old (moment old)) → false ≡ true)
+      → (moment new ≡ moment old + 1) ⊎ ((false ≡ true) × F)
+      → fails_at new ≡ fails_at old → GoodCalls fails_at moment 1 old new
+  answered_ok err clock list = answered (λ is_err. absurd (cc)) err clock list
 
 module _ {D : Type 0} {fails_at : D → ℕ → Bool} {moment room : D → ℕ} where
   -- one that failed behind good ones

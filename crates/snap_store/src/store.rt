@@ -1,11 +1,11 @@
 //! One session's snapshot file (own).
 
-ghost use Rattle.std.specs.Prelude.{◌≡◌, ◌⊎◌, ◌+◌, ◌≤◌, ℕ, Bool, IsTrue};
+ghost use Rattle.std.specs.Prelude.{◌≡◌, ◌⊎◌, ◌+◌, ◌<◌, ◌≤◌, ℕ, Bool, IsTrue};
 ghost use Rattle.std.specs.Prelude.{IsOk, IfOk, IfErr, OnOk};
 ghost use Rattle.std.specs.Prelude.{OnErr, MatchResult, Ok, Some, None, IfSome, length, max, true};
 ghost use Rattle.std.specs.Prelude.{false};
 ghost use Rattle.disk_model.specs.Disk.{Only, LeavesOnly, EachImage, SameDisk, OnlyLooks};
-ghost use Rattle.disk_model.specs.Work.{MakesCalls};
+ghost use Rattle.disk_model.specs.Work.{FailedCall, GoodCalls, MakesCalls};
 ghost use Rattle.snap_store.specs.Frames.{IsFaultOfDisk, HasNewestCause};
 ghost use Rattle.snap_store.specs.declared.outline.TheConstants.{MAX_SNAPSHOT};
 
@@ -75,6 +75,10 @@ impl<D: Disk> Store<D> {
             disk s.disk)
             (λ e. OnlyLooks D.tells D.may_leave D.moment D.left_since D.reach D.room D.label
             disk e.1) }
+        // by five device calls, or the first of them up to one that failed
+        ensures calls { IsTrue (D.tells disk) → MatchResult result
+            (λ s. GoodCalls D.fails_at D.moment 5 disk s.disk)
+            (λ e. (k : ℕ) × (k < 5) × FailedCall D.fails_at D.moment D.room 0 k disk e.1) }
     {
         let from = disk.faults();
         let Ok(outline) = synced_outline(&mut disk) else {
