@@ -21,7 +21,7 @@ import time
 TOP = pathlib.Path(__file__).resolve().parent.parent
 PROGRAM = pathlib.Path(os.environ.get("STORYHOST", TOP / "crates" / "storyhost" / "out" / "storyhost"))
 ROUNDS = 5
-AREA = 4096
+GATE, AREA = 10, 4096
 
 
 def echo_story():
@@ -53,12 +53,12 @@ def served(folder, inputs):
 
 def put(file, area):
     """The writes and syncs of a snapshot: its gate is closed, its area written, its gate opened."""
-    os.pwrite(file, b"\0", 8)
+    os.pwrite(file, b"\0", GATE)
     os.fdatasync(file)
     os.pwrite(file, area[:16], AREA)
     os.pwrite(file, area[16:], AREA + 16)
     os.fdatasync(file)
-    os.pwrite(file, b"\1", 8)
+    os.pwrite(file, b"\1", GATE)
     os.fdatasync(file)
 
 

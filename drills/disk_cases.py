@@ -310,7 +310,7 @@ def pack_case(work, fails, choice):
 # Snapshot files.
 
 FILE_HEADER = bytes.fromhex("5354485300000001")
-GATES = (8, 9)
+GATES = (10, 11)
 STARTS = (4096, 8_392_720)
 PLACE = 16
 CLOSED, UNSURE = "closed", "unsure"

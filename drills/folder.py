@@ -17,6 +17,7 @@ JOURNAL_HEADER = JOURNAL_FRONT + b"\x01" + bytes(7)      # of version 2; byte 8 
 SNAPSHOT_HEADER = bytes.fromhex("5354485300000001")
 MADE = 4096
 STARTS = (4096, 8_392_720)
+GATES = (10, 11)
 MOST_BYTES = 8_388_608
 INTERVAL = 16
 
@@ -167,10 +168,10 @@ def areas_of(folder, session):
     path = snapshot_file(folder, session)
     size = path.stat().st_size
     with open(path, "rb") as file:
-        front = file.read(10)
+        front = file.read(12)
         made = size >= MADE and front.startswith(SNAPSHOT_HEADER)
         for side, start in enumerate(STARTS):
-            gate = front[8 + side] if len(front) == 10 else 0
+            gate = front[GATES[side]] if len(front) == 12 else 0
             file.seek(start)
             place, count, length = struct.unpack(">QII", file.read(16).ljust(16, b"\0"))
             whole = length <= MOST_BYTES and start + 16 + length <= size
@@ -199,7 +200,7 @@ def write_at(path, place, piece):
 
 
 def close_area(draw, path, area):
-    write_at(path, 8 + area.side, b"\0")
+    write_at(path, GATES[area.side], b"\0")
 
 
 def tear_area(draw, path, area):
@@ -220,7 +221,7 @@ def take_back(folder, session):
     path = snapshot_file(folder, session)
     for area in areas_of(folder, session) if path.exists() else ():
         if area.is_open and area.count >= inputs:
-            write_at(path, 8 + area.side, b"\0")
+            write_at(path, GATES[area.side], b"\0")
     write_at(folder / "journal", rows[-1].place, b"\0")
     return True
 

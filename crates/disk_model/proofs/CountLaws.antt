@@ -1,8 +1,8 @@
 -- Laws of device calls that are counted: one, and one piece of work after another.
-use Rattle.std.proofs.Common.{◌≡◌, ◌⊎◌, inl, inr, ℕ, ◌+◌, ◌-◌, ◌<◌, ◌≤◌, Bool, arith, refl, ◌∙◌}
-use Rattle.std.specs.Prelude.{IsTrue}
+use Rattle.std.proofs.Common.{◌≡◌, ◌⊎◌, inl, inr, ℕ, ◌+◌, ◌-◌, ◌<◌, ◌≤◌, Bool, true, false, arith, refl, ◌∙◌}
+use Rattle.std.specs.Prelude.{IsTrue, Result, Ok, Err}
 use Rattle.std.proofs.lemmas.Bool.{cases_lt}
-use Rattle.disk_model.specs.Work.{GoodCalls, FailedCall}
+use Rattle.disk_model.specs.Work.{GoodCalls, FailedCall, MakesCalls}
 
 module _ {D : Type 0} {fails_at : D → ℕ → Bool} {moment : D → ℕ} where
   -- no call
@@ -68,6 +68,13 @@ module _ {D : Type 0} {fails_at : D → ℕ → Bool} {moment : D → ℕ} where
       → fails_at new ≡ fails_at old → GoodCalls fails_at moment 1 old new
   answered never err (inl clock) list = good_one (λ told. never (err told)) clock list
   answered never err (inr found) list = absurd (never found.0)
+
+  -- as it answered Ok, which is no error
+  pub answered_ok :
+      {F : Type 0} {old new : D} → (IsTrue (fails_at old (moment old)) → false ≡ true)
+      → (moment new ≡ moment old + 1) ⊎ ((false ≡ true) × F)
+      → fails_at new ≡ fails_at old → GoodCalls fails_at moment 1 old new
+  answered_ok err clock list = answered (λ is_err. absurd (cc)) err clock list
 
 module _ {D : Type 0} {fails_at : D → ℕ → Bool} {moment room : D → ℕ} where
   -- one that failed behind good ones
@@ -202,3 +209,37 @@ module _ {D : Type 0} {fails_at : D → ℕ → Bool} {moment room : D → ℕ} 
   refused end none (inl found) clock list = failed_one end (inl (none found)) list
   refused end none (inr why) (inl counted) list = failed_one end (inr (counted, why)) list
   refused end none (inr why) (inr found) list = failed_one end (inl (none found.1)) list
+
+-- one of the first n calls since then failed
+abbrev pub FailsAmong :
+    {D : Type 0} → (D → ℕ → Bool) → (D → ℕ) → (D → ℕ) → ℕ → ℕ → D → D → Type 0
+FailsAmong fails_at moment room end n old new =
+    (k : ℕ) × (k < n) × FailedCall fails_at moment room end k old new
+
+module _ {D : Type 0} {fails_at : D → ℕ → Bool} {moment room : D → ℕ} where
+  -- it is one of more calls, with an end that is farther
+  pub among_more :
+      {old new : D} (n m end far : ℕ) → n ≤ m → end ≤ far
+      → FailsAmong fails_at moment room end n old new
+      → FailsAmong fails_at moment room far m old new
+  among_more n m end far few le fails =
+      (fails.0, omega (arith, fails.1, few), failed_farther le fails.2)
+
+  -- and one of the calls behind good ones
+  pub among_then :
+      {old mid new : D} (n m end far : ℕ) → GoodCalls fails_at moment n old mid
+      → room mid ≡ room old → end ≤ far → FailsAmong fails_at moment room end m mid new
+      → FailsAmong fails_at moment room far (n + m) old new
+  among_then n m end far good same le fails =
+      (n + fails.0, omega (arith, fails.1), failed_then n fails.0 end far good same le fails.2)
+
+-- a piece of work behind calls that were good
+pub calls_then :
+    {D T E : Type 0} {fails_at : D → ℕ → Bool} {moment : D → ℕ} (room : D → ℕ) {old mid : D}
+    (new : D) (result : Result T E) (n m end far : ℕ) → GoodCalls fails_at moment n old mid
+    → room mid ≡ room old → end ≤ far
+    → MakesCalls fails_at moment room end m result mid new
+    → MakesCalls fails_at moment room far (n + m) result old new
+calls_then room new (Ok x) n m end far good same le calls = good_then n m good calls
+calls_then room new (Err e) n m end far good same le calls =
+    among_then n m end far good same le calls

@@ -1,8 +1,9 @@
 //! A new journal (own).
 
 ghost use Rattle.std.specs.Prelude.{◌≡◌, ◌≤◌, ◌<◌, ◌⊎◌, ◌++◌, [], ◌∷◌};
-ghost use Rattle.std.specs.Prelude.{IsTrue, OnOk, IfErr, MatchResult, length, max};
+ghost use Rattle.std.specs.Prelude.{IsTrue, OnOk, IfErr, MatchResult, length, max, ℕ};
 ghost use Rattle.disk_model.specs.Disk.{Only, SameDisk, LeavesOnly, AfterWrite, OnlyLooks};
+ghost use Rattle.disk_model.specs.Work.{FailedCall, GoodCalls};
 ghost use Rattle.gate_journal.specs.Rows.{journal_header};
 ghost use Rattle.gate_journal.specs.Faults.{HasInitCause};
 ghost use Rattle.gate_journal.specs.declared.fault.InitFault.TheVariants as InitFault;
@@ -42,6 +43,11 @@ pub fn init<D: Disk>(disk: &mut D) -> Result<(), InitFault>
     ensures crash { IsTrue (D.tells disk.old)
         → LeavesOnly D.moment D.left_since disk.old disk.new
         (λ c. AfterWrite 0 17 (D.may_leave disk.old) c) }
+    // After Ok three device calls were made, all good; after a fault of the disk which of them failed.
+    ensures calls { IsTrue (D.tells disk.old) → MatchResult result
+        (λ _. GoodCalls D.fails_at D.moment 3 disk.old disk.new)
+        (λ e. ¬ (e ≡ InitFault.NotEmpty) → (k : ℕ) × (k < 3)
+        × FailedCall D.fails_at D.moment D.room 17 k disk.old disk.new) }
 {
     let from = disk.faults();
     let Ok(size) = disk.size() else {

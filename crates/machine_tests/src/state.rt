@@ -1,5 +1,8 @@
 //! A state that no save has.
 
+ghost use Rattle.std.specs.Prelude.{IfSome};
+ghost use Rattle.vm_exec.specs.Machine.{IsSoundMachine};
+
 use glulx_image::Image;
 use std::alloc::Global;
 use std::test::Fail;
@@ -23,25 +26,28 @@ fn story(code: &[u8]) -> [u8; 256] {
 }
 
 // The machine with which the image's story begins, in a box: its holder lets go of one thing then.
-fn started<'i>(alloc: Global, image: &Image<'i>) -> Option<Box<Machine<'i>>> {
+fn started<'i>(alloc: Global, image: &Image<'i>) -> Option<Box<Machine<'i>>>
+    ensures { IfSome result (λ machine. IsSoundMachine machine.value) }
+{
     let machine = Machine::start(alloc, image, 1).ok()?;
     Box::new(alloc, machine).ok()
 }
 
-// Whether so many steps tell nothing but their costs.
-fn runs(alloc: Global, machine: &mut Machine<'_>, steps: u32) -> bool {
-    for _ in 0..steps {
-        match machine.step(alloc, 100_000) {
-            Ok(Step::Ran(_)) => {}
-            _ => return false,
-        }
+// Whether two steps tell nothing but their costs.
+fn runs_twice(alloc: Global, machine: &mut Machine<'_>) -> bool
+    requires { IsSoundMachine machine.old }
+{
+    match machine.step(alloc, 100_000) {
+        Ok(Step::Ran(_)) => matches!(machine.step(alloc, 100_000), Ok(Step::Ran(_))),
+        _ => false,
     }
-    true
 }
 
 // Whether the state of a machine after two steps is refused by another one of its story.
-fn is_refused_by_another<'i>(alloc: Global, image: &Image<'i>, machine: &mut Machine<'i>) -> bool {
-    if !runs(alloc, machine, 2) {
+fn is_refused_by_another<'i>(alloc: Global, image: &Image<'i>, machine: &mut Machine<'i>) -> bool
+    requires { IsSoundMachine machine.old }
+{
+    if !runs_twice(alloc, machine) {
         return false;
     }
     match (machine.saved(alloc), started(alloc, image)) {

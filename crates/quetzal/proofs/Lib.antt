@@ -1,4 +1,3 @@
-pub mod RunLemmas
 pub mod ChunkLemmas
 pub mod MemoryLemmas
 pub mod PrintLemmas

@@ -1,39 +1,52 @@
--- What is written of memory is read again.
-use Rattle.std.proofs.Common.{◌≡◌, ℕ, ◌+◌, ◌^◌, ◌<◌, ◌≤◌, true, false, nat_lt}
-use Rattle.std.proofs.Common.{List, ◌++◌, length, Ok, refl, arith}
+-- The memory of a chunk.
+use Rattle.std.proofs.Common.{◌≡◌, ℕ, ◌+◌, ◌-◌, ◌^◌, ◌<◌, ◌≤◌}
+use Rattle.std.proofs.Common.{List, ◌++◌, length, take, replicate, refl, ap, ◌∙◌, arith, subst}
 use Rattle.std.specs.Int.{w32, to_be_bytes}
-use Rattle.std.proofs.lemmas.Bool.Decides.{nat_tests}
-use Rattle.std.proofs.lemmas.List.{length-append, length-drop, length-replicate}
+use Rattle.std.proofs.lemmas.List.{length-append, length-take, take-append-le, take-take, take_at}
 use Rattle.glulx_image.specs.Header.{word}
-use Rattle.quetzal.specs.Runs.{runs_coded, differences}
-use Rattle.quetzal.specs.Memory.{is_size, first_ram, ram_in_chunk, print_memory}
-use Rattle.quetzal.proofs.RunLemmas.{restored_again}
+use Rattle.vm_memory.specs.MemoryMap.{Origin, original, memory_of, resized, with_ram}
+use Rattle.vm_undo.specs.Contents.{IsMemoryOf, memory_with}
+use Rattle.vm_undo.specs.SavedState.{IsSize}
 
 pub word_again : (n : ℕ) (rest : List ℕ) → n < 2 ^ 32 → word (to_be_bytes w32 n ++ rest) 0 ≡ n
 word_again n rest lt = omega (arith, lt)
 
-pub memory_again : (image ram : List ℕ) (ramstart endmem : ℕ)
-    → ramstart ≤ length image → length image ≤ endmem
-    → is_size endmem (ramstart + length ram) ≡ true
-    → ram_in_chunk image ramstart endmem (print_memory image ramstart ram) true ≡ Ok ram
-unfolding ram_in_chunk
-memory_again image ram ramstart endmem lo hi ok =
-    let size = ramstart + length ram in
-    let limits : (endmem ≤ size) × (size ≤ 16777216) =
-    (grind (arith, nat_tests, ok), grind (arith, nat_tests, ok)) in
-    let was = first_ram image ramstart size in
-    let same : length was ≡ length ram =
-    omega (
-      arith,
-      length-append {A = ℕ},
-      length-drop {A = ℕ},
-      length-replicate {A = ℕ},
-      lo,
-      hi,
-      limits.0,
-    ) in
-    let number : word (print_memory image ramstart ram) 0 ≡ size =
-    word_again size (runs_coded 0 (differences was ram)) (omega (arith, limits.1)) in
-    let long : nat_lt (length (print_memory image ramstart ram)) 4 ≡ false =
-    grind (arith, nat_tests) in
-    rw (long, number, ok, restored_again was ram same) refl
+-- the first bytes of memory of another size are the file's
+front_of : (n size : ℕ) (file tail rest : List ℕ) → n ≤ length file → n ≤ size
+    → take n (take size (file ++ tail) ++ rest) ≡ take n file
+front_of n size file tail rest low le =
+    take-append-le n (take size (file ++ tail)) rest
+    (omega (arith, length-take size (file ++ tail), length-append file tail, low, le))
+    ∙ take-take n size (file ++ tail) le
+    ∙ take-append-le n file tail low
+
+-- the memory of an image of another size with these bytes in RAM
+pub loaded : (o : Origin) (size : ℕ) (ram : List ℕ) → o.ramstart ≤ length o.rom → o.ramstart ≤ size
+    → with_ram (resized (memory_of o.rom o.ramstart o.endmem) size) ram ≡ memory_with o ram
+loaded o size ram low le =
+    let zeros = replicate {A = ℕ} (o.endmem - length o.rom) 0 in
+    let rest = replicate {A = ℕ} (size - length (original o.rom o.endmem)) 0 in
+    ap (λ (front : List ℕ). record {
+      bytes = front ++ ram;
+      ramstart = o.ramstart;
+      rom = o.rom;
+      endmem = o.endmem;
+    }) (front_of o.ramstart size o.rom zeros rest low le)
+
+pub memory_is : (o : Origin) (size : ℕ) (ram : List ℕ) → o.ramstart ≤ length o.rom
+    → length o.rom ≤ o.endmem → IsSize o.endmem size → o.ramstart + length ram ≡ size
+    → IsMemoryOf o (memory_with o ram)
+memory_is o size ram low extent s whole =
+    let front : length (take o.ramstart o.rom) ≡ o.ramstart = omega
+    (arith, length-take o.ramstart o.rom, low) in
+    let long : size ≡ length (take o.ramstart o.rom ++ ram) = omega
+    (arith, length-append (take o.ramstart o.rom) ram, front, whole) in
+    record {
+      image = refl;
+      rom = record {
+        within = low;
+        same = take_at (take o.ramstart o.rom) ram o.ramstart front;
+      };
+      extent = extent;
+      size = subst (IsSize o.endmem) long s;
+    }

@@ -11,15 +11,16 @@ use Rattle.std.proofs.lemmas.List.Sorted.{IsPermutation-cons, IsPermutation-midd
 use Rattle.std.proofs.lemmas.Slice.Eq.{bytes_eq-Decides}
 use Rattle.std.specs.List.Sorted.{IsNonDecreasingBy, IsPermutation}
 use Rattle.std.specs.Str.{bytes_eq}
-use Rattle.glulx_image.specs.Header.{IsLaidOut, ramstart, endmem, stack_size}
+use Rattle.glulx_image.specs.Header.{IsLaidOut, endmem, stack_size}
 use Rattle.vm_heap.specs.Allocation.{with_block}
 use Rattle.vm_heap.specs.declared.block.Block.{Block}
+use Rattle.vm_memory.specs.MemoryMap.{MemoryMap}
 use Rattle.vm_stack.specs.SavedTest.{is_saved_stack}
 use Rattle.vm_stack.proofs.SavedTests.{saved_decided}
 use Rattle.vm_undo.specs.declared.saved.Saved.{Saved}
 use Rattle.quetzal.specs.Chunks.{Pieces, parts_of}
 use Rattle.quetzal.specs.Heap.{IsHeapIn, heap_fits, heap_listed}
-use Rattle.quetzal.specs.Save.{identity, ram_in, IsStackOf, RefusesSave}
+use Rattle.quetzal.specs.Save.{identity, memory_in, IsStackOf, RefusesSave}
 use Rattle.quetzal.specs.Save.{IsStateIn, IsStateOf, HasNoHeap, ReadsSave, ReadsHeapOf}
 use Rattle.quetzal.specs.Save.{ReadsStack, ReadsMemory, ReadsStory, ReadsParts, canon}
 use Rattle.quetzal.specs.Save.{GivesState, SaveIsReadAs}
@@ -132,27 +133,27 @@ refused cause (Err BadHeap) h = refl
 
 -- ---- from the heap up to the form
 
-same_state : (s : Saved) (image : List ℕ) (p : Pieces) (ram : List ℕ) → IsStateIn image p ram s
-    → state_with image p ram (Some (s.heap_start, s.heap)) ≡ Some s
-same_state s image p ram h = rw (sym h.memory, sym h.stack) refl
+same_state : (s : Saved) (image : List ℕ) (p : Pieces) (m : MemoryMap) → IsStateIn image p m s
+    → state_with p m (Some (s.heap_start, s.heap)) ≡ Some s
+same_state s image p m h = rw (sym h.memory, sym h.stack) refl
 
-heap_finds : (image : List ℕ) (p : Pieces) (ram : List ℕ) (result : Result Saved SaveFault)
-    → ReadsHeapOf image p ram result
-    → FindsState (state_with image p ram
-    (heap_in_chunk (endmem image) (ramstart image + length ram) (heap_listed p.heap))) result
-heap_finds image p ram (Ok s) h =
-    ap (state_with image p ram)
-    (heap_found (endmem image) (ramstart image + length ram) p.heap s.heap_start s.heap h.heap)
-    ∙ same_state s image p ram h
-heap_finds image p ram (Err NoMemory) h = tt
-heap_finds image p ram (Err BadHeap) h =
-    ap (state_with image p ram) (heap_missing (endmem image) (ramstart image + length ram) p.heap
+heap_finds : (image : List ℕ) (p : Pieces) (m : MemoryMap) (result : Result Saved SaveFault)
+    → ReadsHeapOf image p m result
+    → FindsState (state_with p m
+    (heap_in_chunk (endmem image) (length m.bytes) (heap_listed p.heap))) result
+heap_finds image p m (Ok s) h =
+    ap (state_with p m)
+    (heap_found (endmem image) (length m.bytes) p.heap s.heap_start s.heap h.heap)
+    ∙ same_state s image p m h
+heap_finds image p m (Err NoMemory) h = tt
+heap_finds image p m (Err BadHeap) h =
+    ap (state_with p m) (heap_missing (endmem image) (length m.bytes) p.heap
     (heap_listed p.heap) refl (h.1 refl))
-heap_finds image p ram (Err NotSave) h = absurd (let e = h.0 in cc)
-heap_finds image p ram (Err Cut) h = absurd (let e = h.0 in cc)
-heap_finds image p ram (Err OtherStory) h = absurd (let e = h.0 in cc)
-heap_finds image p ram (Err BadRuns) h = absurd (let e = h.0 in cc)
-heap_finds image p ram (Err BadStack) h = absurd (let e = h.0 in cc)
+heap_finds image p m (Err NotSave) h = absurd (let e = h.0 in cc)
+heap_finds image p m (Err Cut) h = absurd (let e = h.0 in cc)
+heap_finds image p m (Err OtherStory) h = absurd (let e = h.0 in cc)
+heap_finds image p m (Err BadRuns) h = absurd (let e = h.0 in cc)
+heap_finds image p m (Err BadStack) h = absurd (let e = h.0 in cc)
 
 stack_yes : (image bytes : List ℕ)
     → IsLaidOut image → is_stack_of image bytes ≡ true
@@ -177,21 +178,21 @@ stack_no image bytes laid e s =
     let wrong : true ≡ false = sym both ∙ e in
     grind (arith, wrong)
 
-stack_finds : (image : List ℕ) (p : Pieces) (ram : List ℕ) (result : Result Saved SaveFault)
-    → IsLaidOut image → ReadsStack image p ram result
-    → FindsState (state_over image p (Ok ram)) result
-stack_finds image p ram result laid h = by (is_stack_of image p.stack) refl where
+stack_finds : (image : List ℕ) (p : Pieces) (m : MemoryMap) (result : Result Saved SaveFault)
+    → IsLaidOut image → ReadsStack image p m result
+    → FindsState (state_over image p (Ok m)) result
+stack_finds image p m result laid h = by (is_stack_of image p.stack) refl where
   by : (t : Bool) → is_stack_of image p.stack ≡ t
-      → FindsState (cond t (state_with image p ram (heap_in_chunk (endmem image)
-      (ramstart image + length ram) (heap_listed p.heap))) None) result
-  by true e = heap_finds image p ram result (h.good (stack_yes image p.stack laid e))
+      → FindsState (cond t (state_with p m (heap_in_chunk (endmem image)
+      (length m.bytes) (heap_listed p.heap))) None) result
+  by true e = heap_finds image p m result (h.good (stack_yes image p.stack laid e))
   by false e = refused BadStack result (h.bad (stack_no image p.stack laid e))
 
-memory_finds : (image : List ℕ) (p : Pieces) (r : Result (List ℕ) SaveFault)
+memory_finds : (image : List ℕ) (p : Pieces) (r : Result MemoryMap SaveFault)
     (result : Result Saved SaveFault)
     → IsLaidOut image
     → ReadsMemory image p r result → FindsState (state_over image p r) result
-memory_finds image p (Ok ram) result laid h = stack_finds image p ram result laid h
+memory_finds image p (Ok m) result laid h = stack_finds image p m result laid h
 memory_finds image p (Err e) result laid h = refused e result h
 
 story_finds : (image : List ℕ) (p : Pieces) (result : Result Saved SaveFault)
@@ -200,9 +201,9 @@ story_finds : (image : List ℕ) (p : Pieces) (result : Result Saved SaveFault)
 story_finds image p result laid h = by (bytes_eq p.header (identity image)) refl where
   by : (t : Bool)
       → bytes_eq p.header (identity image) ≡ t
-      → FindsState (cond t (state_over image p (ram_in image p)) None) result
+      → FindsState (cond t (state_over image p (memory_in image p)) None) result
   by true e =
-      memory_finds image p (ram_in image p) result laid
+      memory_finds image p (memory_in image p) result laid
       (h.own ((bytes_eq-Decides p.header (identity image)).0 e))
   by false e =
       refused OtherStory result (h.other (λ same.

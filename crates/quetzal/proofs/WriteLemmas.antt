@@ -1,36 +1,38 @@
 -- What is written of a state fits a form, and is read as that state alone.
-use Rattle.std.proofs.Common.{◌≡◌, ℕ, zero, suc, ◌+◌, ◌-◌, ◌*◌, ◌/◌, ◌%◌, ◌^◌, ◌<◌, ◌≤◌, Bool}
+use Rattle.std.proofs.Common.{◌≡◌, ℕ, zero, suc, ◌+◌, ◌*◌, ◌/◌, ◌%◌, ◌^◌, ◌<◌, ◌≤◌, Bool}
 use Rattle.std.proofs.Common.{true, false, ◌&&◌, ◌==◌, nat_le, cond, List, [], ◌∷◌, ◌++◌, length}
-use Rattle.std.proofs.Common.{take, replicate, Some, Ok, refl}
-use Rattle.std.proofs.Common.{ap, sym, subst, ◌∙◌, take-append-drop, arith, IsTrue}
+use Rattle.std.proofs.Common.{Some, Ok, refl}
+use Rattle.std.proofs.Common.{ap, sym, subst, ◌∙◌, arith, IsTrue}
 use Rattle.std.proofs.lemmas.Bool.Decides.{nat_tests}
 use Rattle.std.proofs.lemmas.List.{length-append, length-take, length-drop}
-use Rattle.std.proofs.lemmas.List.{take-append-le, take-take}
 use Rattle.std.proofs.lemmas.List.Sorted.{IsPermutation-refl}
 use Rattle.std.specs.Int.{w32, to_be_bytes}
 use Rattle.vm_heap.specs.HeapMap.{in_order, is_heap, heap_end, block_end}
 use Rattle.vm_heap.specs.declared.block.Block.{Block}
 use Rattle.vm_heap.proofs.HeapLemmas.{Next, next_of, in_order-limit}
 use Rattle.vm_heap.proofs.HeapLemmas.{is_heap-order, positive}
-use Rattle.quetzal.specs.Runs.{differences, pairs, last_run, zeros, runs_coded}
 use Rattle.glulx_image.specs.Header.{word}
-use Rattle.glulx_image.specs.Header.{IsLaidOut, ramstart, extstart, endmem}
-use Rattle.vm_memory.specs.Chaining.{◌>>=◌}
-use Rattle.vm_memory.specs.MemoryMap.{MemoryMap, origin_of}
-use Rattle.vm_memory.specs.MemoryMap.{original, ram_of}
+use Rattle.glulx_image.specs.Header.{IsLaidOut, extstart, endmem}
+use Rattle.vm_memory.specs.MemoryMap.{MemoryMap, Origin, origin_of, ram_of}
+use Rattle.vm_undo.specs.Contents.{IsMemoryOf, changes, contents, first_ram}
+use Rattle.vm_undo.specs.Runs.{differences, pairs, last_run, zeros, runs_coded}
 use Rattle.vm_undo.specs.SavedState.{IsHeapOver, IsSize}
 use Rattle.vm_undo.specs.declared.saved.Saved.{Saved}
+use Rattle.vm_undo.proofs.ContentsLemmas.{given_back}
+use Rattle.vm_undo.proofs.UndoLemmas.{memory_of_image}
 use Rattle.quetzal.specs.Chunks.{Pieces, parts_of}
+use Rattle.quetzal.specs.Fault.{or_else}
 use Rattle.quetzal.specs.Heap.{IsHeapIn, block_bytes, blocks_in}
 use Rattle.quetzal.specs.Heap.{heap_fits, is_without, heap_listed, print_heap}
-use Rattle.quetzal.specs.Memory.{is_size, first_ram as original_ram, print_memory}
+use Rattle.quetzal.specs.Memory.{memory_in_chunk}
 use Rattle.quetzal.specs.Printing.{chunk, heap_chunk, chunks_of}
-use Rattle.quetzal.specs.Save.{rom, memory_loaded, identity, ram_in, origin}
+use Rattle.quetzal.specs.Save.{rom, identity, memory_in, origin}
 use Rattle.quetzal.specs.Save.{canon, IsStateIn, IsStateOf}
 use Rattle.quetzal.specs.Save.{ReadsSave, ReadsStack, ReadsMemory}
 use Rattle.quetzal.specs.Save.{ReadsParts}
-use Rattle.quetzal.specs.Returns.{HasRom, GivesMemoryBack}
-use Rattle.quetzal.proofs.MemoryLemmas.{word_again, memory_again}
+use Rattle.quetzal.specs.Returns.{HasRom}
+use Rattle.quetzal.specs.declared.fault.SaveFault.TheVariants.{BadRuns}
+use Rattle.quetzal.proofs.MemoryLemmas.{word_again}
 use Rattle.quetzal.proofs.PrintLemmas.{reads_printed}
 
 -- ---- lengths
@@ -130,50 +132,11 @@ listed_again start (b ∷ bs) fits h =
 abbrev written_parts : List ℕ → Saved → Pieces
 written_parts image s = record {
   header = identity image;
-  memory = print_memory (rom image) (ramstart image) (ram_of s.memory);
+  memory = contents s.memory;
   compressed = true;
   stack = s.stack;
   heap = print_heap s.heap_start s.heap;
 }
-
--- RAM of memory of the story
-record Sizes (image : List ℕ) (m : MemoryMap) : Type 0 where
-  ramstart-is : m.ramstart ≡ ramstart image
-  rom-is : m.rom ≡ rom image
-  endmem-is : m.endmem ≡ endmem image
-  ram : ramstart image + length (ram_of m) ≡ length m.bytes
-  low : ramstart image ≤ length (rom image)
-  high : length (rom image) ≤ endmem image
-  size : is_size (endmem image) (ramstart image + length (ram_of m)) ≡ true
-
-sizes_of : (image : List ℕ) (m : MemoryMap)
-    → IsLaidOut image → origin_of m ≡ origin image
-    → IsSize m.endmem (length m.bytes) → Sizes image m
-sizes_of image m laid is size =
-    let rs : m.ramstart ≡ ramstart image = ap (λ o. o.ramstart) is in
-    let ro : m.rom ≡ rom image = ap (λ o. o.rom) is in
-    let en : m.endmem ≡ endmem image = ap (λ o. o.endmem) is in
-    let rom-length : length (rom image) ≡ extstart image =
-    omega (arith, length-take (extstart image) image, laid.ext_inside) in
-    let least : endmem image ≤ length m.bytes = rw en at size.least in
-    let ram : ramstart image + length (ram_of m) ≡ length m.bytes =
-    omega (arith, length-drop m.ramstart m.bytes, rs, least, laid.ram_below, laid.ext_below) in
-    let pages : (length m.bytes % 256 == 0) ≡ true = grind (arith, nat_tests, size.pages) in
-    let from : nat_le (endmem image) (length m.bytes) ≡ true = grind (arith, nat_tests, least) in
-    let to : nat_le (length m.bytes) 16777216 ≡ true = grind (arith, nat_tests, size.limit) in
-    record {
-      ramstart-is = rs;
-      rom-is = ro;
-      endmem-is = en;
-      ram = ram;
-      low = omega (arith, rom-length, laid.ram_below);
-      high = omega (arith, rom-length, laid.ext_below);
-      size = rw (ram, pages, from, to) refl;
-    }
-
-state_sizes : (image : List ℕ) (s : Saved)
-    → IsLaidOut image → IsStateOf image s → Sizes image s.memory
-state_sizes image s laid is = sizes_of image s.memory laid is.saved.image is.saved.saved.size
 
 length-padding : (n : ℕ) (t : Bool) → length {A = ℕ} (cond t (0 ∷ []) []) ≤ 1
 length-padding n true = omega arith
@@ -199,17 +162,15 @@ heap-most start (b ∷ bs) h =
     )
 
 pub save_fits : (image : List ℕ) (s : Saved) → IsLaidOut image → IsStateOf image s
-    → 4 + length (chunks_of (identity image)
-    (print_memory (rom image) (ramstart image) (ram_of s.memory)) s.stack
+    → 4 + length (chunks_of (identity image) (contents s.memory) s.stack
     (print_heap s.heap_start s.heap))
     < 2 ^ 32
 save_fits image s laid is =
-    let z = state_sizes image s laid is in
-    let was =
-    original_ram (rom image) (ramstart image) (ramstart image + length (ram_of s.memory)) in
-    let coding = length-coded 0 (differences was (ram_of s.memory)) in
-    let changes = length-differences was (ram_of s.memory) in
-    let limit : length s.memory.bytes ≤ 16777216 = is.saved.saved.size.limit in
+    let m = s.memory in
+    let coding = length-coded 0 (changes m) in
+    let differ = length-differences (first_ram (origin_of m) (length m.bytes)) (ram_of m) in
+    let ram = length-drop m.ramstart m.bytes in
+    let limit : length m.bytes ≤ 16777216 = is.saved.saved.size.limit in
     omega (
       arith,
       length-append {A = ℕ},
@@ -217,56 +178,30 @@ save_fits image s laid is =
       heap-most s.heap_start s.heap is.saved.saved.heap.heap,
       length-take 128 image,
       coding,
-      changes,
-      z.ram,
+      differ,
+      ram,
       limit,
       is.size,
       laid.stack_limit,
     )
 
-front_of : (n size : ℕ) (file bytes tail : List ℕ) → n ≤ length file → n ≤ size
-    → take n (take size (file ++ tail) ++ bytes) ≡ take n file
-front_of n size file bytes tail low le =
-    take-append-le n (take size (file ++ tail)) bytes
-    (omega (arith, length-take size (file ++ tail), length-append file tail, low, le))
-    ∙ take-take n size (file ++ tail) le
-    ∙ take-append-le n file tail low
-
-same_map : (m : MemoryMap) (bytes rom : List ℕ) (ramstart endmem : ℕ)
-    → bytes ≡ m.bytes → ramstart ≡ m.ramstart
-    → rom ≡ m.rom → endmem ≡ m.endmem
-    → record { bytes = bytes; ramstart = ramstart; rom = rom; endmem = endmem } ≡ m
-same_map m bytes rom ramstart endmem a b c d = rw (a, b, c, d) refl
-
--- memory of the story is the story's with what RAM holds
-same_memory : (image : List ℕ) (m : MemoryMap)
-    → Sizes image m → HasRom m
-    → memory_loaded image (ram_of m) ≡ m
-same_memory image m z kept =
-    let whole : m.bytes ≡ take m.ramstart m.bytes ++ ram_of m =
-    sym (take-append-drop m.ramstart m.bytes) in
-    let zeros = replicate (endmem image - length (rom image)) 0 in
-    let size = ramstart image + length (ram_of m) in
-    let rest = replicate (size - length (original (rom image) (endmem image))) 0 in
-    let front : take (ramstart image) (take size (rom image ++ zeros) ++ rest)
-    ≡ take m.ramstart m.bytes =
-    front_of (ramstart image) size (rom image) rest zeros z.low (omega arith)
-    ∙ rw (sym z.ramstart-is, sym z.rom-is) (sym kept.same) in
-    same_map m _ _ _ _ (ap (λ t. t ++ ram_of m) front ∙ sym whole) (sym z.ramstart-is)
-    (sym z.rom-is) (sym z.endmem-is)
-
-pub memory_given_back : GivesMemoryBack
-memory_given_back image m laid is size kept =
-    let z = sizes_of image m laid is size in
-    ap (λ r. r >>= (λ ram. Ok (memory_loaded image ram)))
-    (memory_again (rom image) (ram_of m) (ramstart image) (endmem image) z.low z.high z.size)
-    ∙ ap Ok (same_memory image m z kept)
+-- memory of the story
+pub memory_of_story : (image : List ℕ) (m : MemoryMap) → IsLaidOut image → origin_of m ≡ origin image
+    → IsSize m.endmem (length m.bytes) → HasRom m → IsMemoryOf (origin image) m
+memory_of_story image m laid same size kept =
+    let rom-length : length (rom image) ≡ extstart image =
+    omega (arith, length-take (extstart image) image, laid.ext_inside) in
+    let below : length (rom image) ≤ endmem image = omega (arith, rom-length, laid.ext_below) in
+    memory_of_image (origin image) m same kept
+    (subst (λ (o : Origin). length o.rom ≤ o.endmem) (sym same) below) size
 
 memory_back : (image : List ℕ) (s : Saved)
-    → Sizes image s.memory
-    → ram_in image (written_parts image s) ≡ Ok (ram_of s.memory)
-memory_back image s z =
-    memory_again (rom image) (ram_of s.memory) (ramstart image) (endmem image) z.low z.high z.size
+    → IsLaidOut image → IsStateOf image s → HasRom s.memory
+    → memory_in image (written_parts image s) ≡ Ok s.memory
+unfolding memory_in_chunk
+memory_back image s laid is kept =
+    ap (or_else BadRuns) (given_back (origin image) s.memory
+    (memory_of_story image s.memory laid is.saved.image is.saved.saved.size kept))
 
 fits_from : (end size start : ℕ) (bs : List Block)
     → IsHeapOver end size start bs
@@ -282,19 +217,21 @@ fits_from end size start (b ∷ bs) h =
     rw (heap, page, least, ends) refl
 
 heap_stands : (image : List ℕ) (s : Saved)
-    → Sizes image s.memory → IsStateOf image s
-    → s.heap_start < 2 ^ 32
-    → IsHeapIn (endmem image) (ramstart image + length (ram_of s.memory))
+    → IsStateOf image s → s.heap_start < 2 ^ 32
+    → IsHeapIn (endmem image) (length s.memory.bytes)
     (print_heap s.heap_start s.heap) s.heap_start s.heap
-heap_stands image s z is small = record {
-  pairs = s.heap;
-  listed = listed_again s.heap_start s.heap small is.saved.saved.heap.heap;
-  order = record {
-    order = IsPermutation-refl s.heap;
-    fits = fits_from (endmem image) (ramstart image + length (ram_of s.memory)) s.heap_start s.heap
-        (rw (z.ram, sym z.endmem-is) is.saved.saved.heap);
-  };
-}
+heap_stands image s is small =
+    let end : s.memory.endmem ≡ endmem image = ap (λ (o : Origin). o.endmem) is.saved.image in
+    record {
+      pairs = s.heap;
+      listed = listed_again s.heap_start s.heap small is.saved.saved.heap.heap;
+      order = record {
+        order = IsPermutation-refl s.heap;
+        fits = fits_from (endmem image) (length s.memory.bytes) s.heap_start s.heap
+            (subst (λ (e : ℕ). IsHeapOver e (length s.memory.bytes) s.heap_start s.heap) end
+            is.saved.saved.heap);
+      };
+    }
 
 -- ---- the state of the bytes that are written
 
@@ -305,30 +242,28 @@ small_start start (b ∷ bs) h =
     omega (arith, limit)
 
 written_state : (image : List ℕ) (s : Saved)
-    → Sizes image s.memory → IsStateOf image s → HasRom s.memory
-    → IsStateIn image (written_parts image s) (ram_of s.memory) s
-written_state image s z is kept = record {
-  memory = sym (same_memory image s.memory z kept);
+    → IsStateOf image s → IsStateIn image (written_parts image s) s.memory s
+written_state image s is = record {
+  memory = refl;
   stack = refl;
-  heap = heap_stands image s z is (small_start s.heap_start s.heap is.saved.saved.heap.heap);
+  heap = heap_stands image s is (small_start s.heap_start s.heap is.saved.saved.heap.heap);
 }
 
 pub written_reads : (image : List ℕ) (s : Saved)
     → IsLaidOut image → IsStateOf image s → HasRom s.memory
     → ReadsSave image (canon image s) (Ok s)
 written_reads image s laid is kept =
-    let z = state_sizes image s laid is in
     let parts : parts_of (canon image s) ≡ Ok (written_parts image s) =
-    reads_printed (identity image) (print_memory (rom image) (ramstart image) (ram_of s.memory))
+    reads_printed (identity image) (contents s.memory)
     s.stack (print_heap s.heap_start s.heap) (save_fits image s laid is) in
-    let stack : ReadsStack image (written_parts image s) (ram_of s.memory) (Ok s) = record {
-      good = λ frames. written_state image s z is kept;
+    let stack : ReadsStack image (written_parts image s) s.memory (Ok s) = record {
+      good = λ frames. written_state image s is;
       bad = λ no. no (record { frames = is.saved.saved.stack; size = is.size });
     } in
     let memory : ReadsMemory image (written_parts image s)
-    (ram_in image (written_parts image s)) (Ok s) =
+    (memory_in image (written_parts image s)) (Ok s) =
     subst (λ m. ReadsMemory image (written_parts image s) m (Ok s))
-    (sym (memory_back image s z)) stack in
+    (sym (memory_back image s laid is kept)) stack in
     let story : ReadsParts image (Ok (written_parts image s)) (Ok s) =
     record { own = λ e. memory; other = λ ne. absurd (ne refl) } in
     subst (λ p. ReadsParts image p (Ok s)) (sym parts) story

@@ -5,7 +5,7 @@ use Rattle.std.specs.Prelude.{◌∷◌, ◌++◌, length, if◌then◌else◌, 
 use Rattle.std.specs.Int.RustNames.{bit_xor}
 use Rattle.quetzal.specs.Chunks.{are_chunks, first_named}
 use Rattle.quetzal.specs.Printing.{chunk}
-use Rattle.quetzal.specs.Runs.{runs_decoded}
+use Rattle.vm_undo.specs.Runs.{runs_decoded}
 
 -- a chunk's name and contents, each told in four bytes
 pub record IsChunk (c : ℕ × List ℕ) : Type 0 where

@@ -1,6 +1,5 @@
 pub mod Fault
 pub mod Chunks
-pub mod Runs
 pub mod Memory
 pub mod Printing
 pub mod Heap

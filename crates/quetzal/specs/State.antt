@@ -1,16 +1,17 @@
 -- The state that a save spells, as a function of its bytes (Quetzal 1.4, "Overall Structure").
-use Rattle.std.specs.Prelude.{◌≡◌, ℕ, ◌+◌, ◌&&◌, nat_le, if◌then◌else◌, Bool}
+use Rattle.std.specs.Prelude.{◌≡◌, ℕ, ◌&&◌, nat_le, if◌then◌else◌, Bool}
 use Rattle.std.specs.Prelude.{List, [], ◌∷◌, length}
 use Rattle.std.specs.Prelude.{Option, Some, None, Result, Ok, Err}
 use Rattle.std.specs.Str.{bytes_eq}
-use Rattle.glulx_image.specs.Header.{ramstart, endmem, stack_size}
+use Rattle.glulx_image.specs.Header.{endmem, stack_size}
 use Rattle.vm_heap.specs.Allocation.{with_block}
+use Rattle.vm_memory.specs.MemoryMap.{MemoryMap}
 use Rattle.vm_heap.specs.declared.block.Block.{Block}
 use Rattle.vm_stack.specs.SavedTest.{is_saved_stack}
 use Rattle.vm_undo.specs.declared.saved.Saved.{Saved}
 use Rattle.quetzal.specs.Chunks.{Pieces, parts_of}
 use Rattle.quetzal.specs.Heap.{heap_fits, heap_listed}
-use Rattle.quetzal.specs.Save.{identity, memory_loaded, ram_in}
+use Rattle.quetzal.specs.Save.{identity, memory_in}
 use Rattle.quetzal.specs.declared.fault.SaveFault.{SaveFault}
 use Rattle.quetzal.specs.declared.fault.SaveFault.TheVariants as fault
 
@@ -30,28 +31,26 @@ abbrev pub is_stack_of : List ℕ → List ℕ → Bool
 is_stack_of image bytes = nat_le (length bytes) (stack_size image) && is_saved_stack bytes
 
 -- the state of these parts, where there is a heap
-abbrev pub state_with : List ℕ → Pieces → List ℕ → Option (ℕ × List Block)
-    → Option Saved
-state_with image p ram None = None
-state_with image p ram (Some h) = Some (record {
-  memory = memory_loaded image ram;
+abbrev pub state_with : Pieces → MemoryMap → Option (ℕ × List Block) → Option Saved
+state_with p m None = None
+state_with p m (Some h) = Some (record {
+  memory = m;
   stack = p.stack;
   heap = h.1;
   heap_start = h.0;
 })
 
-abbrev pub state_over : List ℕ → Pieces → Result (List ℕ) SaveFault → Option Saved
+abbrev pub state_over : List ℕ → Pieces → Result MemoryMap SaveFault → Option Saved
 state_over image p (Err e) = None
-state_over image p (Ok ram) =
+state_over image p (Ok m) =
     if is_stack_of image p.stack
-    then state_with image p ram
-    (heap_in_chunk (endmem image) (ramstart image + length ram) (heap_listed p.heap))
+    then state_with p m (heap_in_chunk (endmem image) (length m.bytes) (heap_listed p.heap))
     else None
 
 abbrev pub state_of : List ℕ → Result Pieces SaveFault → Option Saved
 state_of image (Err e) = None
 state_of image (Ok p) =
-    if bytes_eq p.header (identity image) then state_over image p (ram_in image p) else None
+    if bytes_eq p.header (identity image) then state_over image p (memory_in image p) else None
 
 -- the state of the story that the bytes spell; none where they are refused
 unfoldable pub state_in : List ℕ → List ℕ → Option Saved

@@ -1,19 +1,13 @@
 //! Laws of the format.
 
 ghost use Rattle.quetzal.specs.Laws.{ReadsFirstOfEachName, RestoresPieces};
-ghost use Rattle.quetzal.specs.Memory.{RestoresMemory};
 ghost use Rattle.quetzal.specs.Printing.{ReadsWhatIsPrinted};
-ghost use Rattle.quetzal.specs.Returns.{GivesMemoryBack, GivesStateBack};
-ghost use Rattle.quetzal.specs.Runs.{RestoresWhatIsWritten};
+ghost use Rattle.quetzal.specs.Returns.{GivesStateBack};
+ghost use Rattle.vm_undo.specs.Runs.{RestoresWhatIsWritten};
 
 /// The differences that are coded are those that are restored.
 pub fn restores_what_is_written()
     ensures { RestoresWhatIsWritten }
-{}
-
-/// The contents of the CMem chunk that is written are read as the memory that they code.
-pub fn restores_memory()
-    ensures { RestoresMemory }
 {}
 
 /// A form that is printed is read as the chunks that it was made of.
@@ -29,11 +23,6 @@ pub fn reads_first_of_each_name()
 /// Bytes that stay and bytes that change, piece by piece, are what their coding restores.
 pub fn restores_pieces()
     ensures { RestoresPieces }
-{}
-
-/// A story's memory is what the contents of its CMem chunk give.
-pub fn gives_memory_back()
-    ensures { GivesMemoryBack }
 {}
 
 /// A story's state is the one that its save spells.

@@ -7,14 +7,13 @@ mod heap;
 mod laws;
 mod memory;
 mod reader;
-mod runs;
 mod writer;
 
 pub use fault::SaveFault;
 pub use laws::{
-    gives_memory_back, gives_state_back, reads_first_of_each_name, reads_what_is_printed,
-    restores_memory, restores_pieces, restores_what_is_written,
+    gives_state_back, reads_first_of_each_name, reads_what_is_printed, restores_pieces,
+    restores_what_is_written,
 };
-pub use memory::{first_memory, memory_contents, memory_in};
+pub use memory::first_memory;
 pub use reader::read;
 pub use writer::write;

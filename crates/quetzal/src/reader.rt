@@ -1,21 +1,22 @@
 //! Reading a save (Quetzal 1.4, "Overall Structure").
 
-ghost use Rattle.std.specs.Prelude.{◌≡◌, ◌+◌, ◌≤◌, ◌%◌, ◌≢◌, length};
+ghost use Rattle.std.specs.Prelude.{◌≡◌, ◌≤◌, ◌≢◌, length};
 ghost use Rattle.std.specs.Prelude.{IfOk, Ok, true, false};
-ghost use Rattle.quetzal.specs.Memory.{is_size};
 ghost use Rattle.glulx_image.specs.Header.{endmem, ramstart};
 ghost use Rattle.quetzal.specs.Chunks.{pieces_seen};
 ghost use Rattle.quetzal.specs.Save as save;
 ghost use Rattle.quetzal.specs.Save.{IsStackOf, IsStateOf, ReadsSave, ReadsHeapOf, ReadsMemory};
-ghost use Rattle.quetzal.specs.Save.{ReadsStory, identity, ram_in};
+ghost use Rattle.quetzal.specs.Save.{ReadsStory, identity, memory_in, origin};
+ghost use Rattle.vm_undo.specs.Contents.{IsMemoryOf};
 ghost use Rattle.quetzal.specs.State.{FindsState, state_in};
 
 use crate::fault::SaveFault;
 use crate::form::{Parts, read_parts};
 use crate::heap::read_heap;
-use crate::memory::{memory_with, read_memory};
+use crate::memory::read_memory;
 use glulx_image::Image;
 use std::alloc::Global;
+use vm_memory::Memory;
 use vm_stack::is_chain;
 use vm_undo::{Saved, StackBytes};
 
@@ -53,10 +54,8 @@ fn read_story<'i>(
     if !is_same(parts.header, story_identity(image)) {
         return Err(SaveFault::OtherStory);
     }
-    let rom = story_rom(image);
-    let (ramstart, endmem) = (image.ramstart(), image.endmem());
-    match read_memory(alloc, rom, ramstart, endmem, parts.memory, parts.compressed) {
-        Ok(ram) => read_stack(alloc, parts, image, ram.as_slice()),
+    match read_memory(alloc, image, parts.memory, parts.compressed) {
+        Ok(memory) => read_stack(alloc, parts, image, memory),
         Err(fault) => Err(fault),
     }
 }
@@ -66,33 +65,31 @@ fn read_stack<'i>(
     alloc: Global,
     parts: &Parts<'_>,
     image: &Image<'i>,
-    ram: &[u8],
+    memory: Memory<'i>,
 ) -> Result<Saved<'i>, SaveFault>
-    requires size { is_size (endmem image.now) (ramstart image.now + length ram.now) ≡ true }
-    ensures exact { save.ReadsStack image.now (pieces_seen parts.now) ram.now result }
+    requires memory { IsMemoryOf (origin image.now) memory }
+    ensures exact { save.ReadsStack image.now (pieces_seen parts.now) memory.entry result }
     ensures kept { IfOk result (λ s. IsStateOf image.now s) }
 {
     if parts.stack.len() > image.stack_size() as usize || !is_chain(parts.stack) {
         return Err(SaveFault::BadStack);
     }
-    read_state(alloc, parts, image, ram)
+    read_state(alloc, parts, image, memory)
 }
 
 fn read_state<'i>(
     alloc: Global,
     parts: &Parts<'_>,
     image: &Image<'i>,
-    ram: &[u8],
+    memory: Memory<'i>,
 ) -> Result<Saved<'i>, SaveFault>
-    requires size { is_size (endmem image.now) (ramstart image.now + length ram.now) ≡ true }
+    requires memory { IsMemoryOf (origin image.now) memory }
     requires stack { IsStackOf image.now (pieces_seen parts.now).stack }
-    ensures exact { ReadsHeapOf image.now (pieces_seen parts.now) ram.now result }
+    ensures exact { ReadsHeapOf image.now (pieces_seen parts.now) memory.entry result }
     ensures kept { IfOk result (λ s. IsStateOf image.now s) }
 {
-    let size = image.ramstart() + ram.len() as u32;
-    match read_heap(alloc, image.endmem(), size, parts.heap) {
+    match read_heap(alloc, image.endmem(), memory.size(), parts.heap) {
         Ok(heap) => {
-            let memory = memory_with(alloc, image, ram)?;
             let stack = Vec::from_slice(alloc, parts.stack)?;
             Ok(Saved {
                 memory,

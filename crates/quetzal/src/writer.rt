@@ -11,11 +11,10 @@ ghost use Rattle.vm_memory.specs.MemoryMap.{KeepsRom};
 
 use crate::form::{CMEM, FORM, IFHD, IFZS, MALL, STKS};
 use crate::heap::write_heap;
-use crate::memory::write_memory;
 use crate::reader::story_identity;
 use glulx_image::Image;
 use std::alloc::{AllocError, Global};
-use vm_undo::Saved;
+use vm_undo::{Saved, cmem_write};
 
 #[tactic(auto, unfolding(crate::specs::Printing::chunk))]
 fn push_chunk(out: &mut Vec<u8>, name: u32, contents: &[u8]) -> Result<(), AllocError>
@@ -58,11 +57,10 @@ fn spelled(alloc: Global, state: &Saved<'_>, image: &Image<'_>) -> Result<Vec<u8
     ensures laid { IsLaidOut image.now }
     ensures start { state.now.heap_start < 2 ^ 32 }
 {
-    let rom = state.memory.rom();
-    let ramstart = image.ramstart();
+    let _rom = state.memory.rom();
+    let _ramstart = image.ramstart();
     let heap = write_heap(alloc, state.heap_start, state.heap.as_slice())?;
-    let ram = state.memory.copy_ram(alloc)?;
-    let memory = write_memory(alloc, rom, ramstart, ram.as_slice())?;
+    let memory = cmem_write(alloc, &state.memory)?;
     write_save(
         alloc,
         story_identity(image),

@@ -54,7 +54,11 @@ has_counts f h = record {
     stack = h.machine.stack.0;
     heap = h.machine.heap.0;
   };
-  undo = list _ _ (λ x p. p.0) f.undo h.undo;
+  undo = list _ _ (λ s p. record {
+    contents = p.contents.0;
+    stack = p.stack.0;
+    heap = p.heap.0;
+  }) f.undo h.undo;
   windows = list _ _ window f.windows h.windows;
   streams = list _ _ (λ s p. goes_to s.target p.target) f.streams h.streams;
   filerefs = list _ _ (λ r p. p.name.0) f.filerefs h.filerefs;

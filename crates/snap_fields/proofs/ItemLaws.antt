@@ -11,16 +11,19 @@ use Rattle.snap_fields.specs.declared.fields.Random.{Random}
 use Rattle.snap_fields.specs.declared.fields.Settings.{Settings}
 use Rattle.snap_fields.specs.declared.fields.Setup.{Setup}
 use Rattle.snap_fields.specs.declared.fields.Store.{Store}
+use Rattle.snap_fields.specs.declared.fields.UndoState.{UndoState}
 use Rattle.snap_fields.specs.declared.fields.Waiting.{Waiting}
 use Rattle.snap_fields.specs.declared.fields.Waiting.TheVariants.{Quit, Fault, Select, Prompt}
 use Rattle.snap_fields.specs.Printing.{print_setup, print_block, print_machine, print_settings}
 use Rattle.snap_fields.specs.Printing.{print_random, print_store, print_waiting, print_numbers}
+use Rattle.snap_fields.specs.Printing.{print_undo_state}
 use Rattle.snap_fields.specs.Printable.{IsSetup, IsBlock, IsMachine, IsSettings, IsRandom}
-use Rattle.snap_fields.specs.Printable.{IsStoreFields, IsWaitingFields, IsNumbers}
+use Rattle.snap_fields.specs.Printable.{IsStoreFields, IsUndoState, IsWaitingFields, IsNumbers}
 use Rattle.snap_fields.specs.Items.{setup_item, setup_at, block_of, block_at, machine_item}
 use Rattle.snap_fields.specs.Items.{machine_at, settings_item, settings_at, random_of}
 use Rattle.snap_fields.specs.Items.{random_at, store_item, store_at, select_of, prompt_of}
-use Rattle.snap_fields.specs.Items.{waiting_with, waiting_at, numbers_of, numbers_at}
+use Rattle.snap_fields.specs.Items.{undo_state_at, undo_state_item, waiting_with, waiting_at}
+use Rattle.snap_fields.specs.Items.{numbers_of, numbers_at}
 use Rattle.snap_fields.proofs.Readers.{IsReader, ◌before◌, made_reads, led_reads}
 use Rattle.snap_fields.proofs.Readers.{none_reads, pure_reads, if_reads}
 use Rattle.snap_fields.proofs.Readers.{n1_reads, n4_reads, n8_reads}
@@ -98,6 +101,22 @@ random_reads =
       (h.start, (h.stream, (h.taken, h.fresh))),
     ))
     (λ x h. record { start = h.0; stream = h.1.0; taken = h.1.1.0; fresh = h.1.1.1 })
+    (λ x h. refl)
+
+-- ---- 4. the states that undo keeps
+
+pub undo_state_reads : IsReader UndoState print_undo_state IsUndoState undo_state_at
+unfolding undo_state_at
+undo_state_reads =
+    made_reads print_undo_state IsUndoState undo_state_item
+    (bytes_reads before bytes_reads before n4_reads
+    before list_reads print_block IsBlock block_at block_reads)
+    (λ s h. (
+      (s.contents, (s.stack, (s.heap_start, s.heap))),
+      refl,
+      (h.contents, (h.stack, (h.heap_start, h.heap))),
+    ))
+    (λ x h. record { contents = h.0; stack = h.1.0; heap_start = h.1.1.0; heap = h.1.1.1 })
     (λ x h. refl)
 
 -- ---- 5. what the story waits for, or how it ended

@@ -2,7 +2,7 @@
 use Rattle.std.specs.Prelude.{◌≡◌, ◌++◌, refl, [], ◌∷◌, true, false, replicate}
 use Rattle.snap_fields.specs.Numbers.{n1, n4, n8, list_of, bytes_with_count, text_codes}
 use Rattle.snap_fields.specs.Printing.{print_waiting, print_window, print_stream}
-use Rattle.snap_fields.specs.Printing.{print_fields}
+use Rattle.snap_fields.specs.Printing.{print_fields, print_undo_state}
 use Rattle.snap_fields.specs.declared.fields.Waiting.TheVariants.{Quit, Fault, Prompt}
 use Rattle.snap_fields.specs.declared.glk.Content.TheVariants.{Grid}
 use Rattle.snap_fields.specs.declared.glk.Request.TheVariants.{Char}
@@ -14,8 +14,15 @@ numbers = refl
 pub no_bytes : bytes_with_count [] ≡ 0 ∷ 0 ∷ 0 ∷ 0 ∷ []
 no_bytes = refl
 
-pub one_undo_state : list_of bytes_with_count ((70 ∷ []) ∷ [])
-    ≡ 0 ∷ 0 ∷ 0 ∷ 1 ∷ 0 ∷ 0 ∷ 0 ∷ 1 ∷ 70 ∷ []
+-- contents of one byte, a stack of one, and a heap of one block of 5 bytes from 512 on
+pub one_undo_state : list_of print_undo_state (record {
+  contents = 70 ∷ [];
+  stack = 71 ∷ [];
+  heap_start = 512;
+  heap = record { at = 512; length = 5 } ∷ [];
+} ∷ [])
+    ≡ 0 ∷ 0 ∷ 0 ∷ 1 ∷ 0 ∷ 0 ∷ 0 ∷ 1 ∷ 70 ∷ 0 ∷ 0 ∷ 0 ∷ 1 ∷ 71 ∷ 0 ∷ 0 ∷ 2 ∷ 0
+    ∷ 0 ∷ 0 ∷ 0 ∷ 1 ∷ 0 ∷ 0 ∷ 2 ∷ 0 ∷ 0 ∷ 0 ∷ 0 ∷ 5 ∷ []
 one_undo_state = refl
 
 pub a_text : text_codes (0xE9 ∷ []) ≡ 0 ∷ 0 ∷ 0 ∷ 1 ∷ 0 ∷ 0 ∷ 0 ∷ 0xE9 ∷ []
@@ -83,7 +90,7 @@ pub a_world_that_has_quit : print_fields (record {
   filerefs = [];
   files = [];
   show = 69 ∷ 32 ∷ 113 ∷ 117 ∷ 105 ∷ 116 ∷ 10 ∷ [];
-}) ≡ 0x53 ∷ 0x54 ∷ 0x57 ∷ 0x31 ∷ 0 ∷ 0 ∷ 0 ∷ 0 ∷ 0 ∷ 0 ∷ 0 ∷ 1 ∷ 80 ∷ 24
+}) ≡ 0x53 ∷ 0x54 ∷ 0x57 ∷ 0x32 ∷ 0 ∷ 0 ∷ 0 ∷ 0 ∷ 0 ∷ 0 ∷ 0 ∷ 1 ∷ 80 ∷ 24
     ∷ 0 ∷ 0 ∷ 0 ∷ 0 ∷ 0x02 ∷ 0xFA ∷ 0xF0 ∷ 0x80
     ∷ (replicate 8 0 ++ (0 ∷ 0 ∷ 0 ∷ 4 ∷ 0 ∷ 0 ∷ 1 ∷ 0 ∷ replicate 69 0))
     ++ (0 ∷ 0 ∷ 0 ∷ 1 ∷ 0 ∷ 0 ∷ 0 ∷ 1 ∷ 0 ∷ 0 ∷ 0 ∷ 1 ∷ replicate 24 0)

@@ -4,15 +4,18 @@ use Rattle.std.proofs.Common.{Option, Some, None, Result, Ok, Err, refl, sym, ap
 use Rattle.std.specs.Prelude.{IfOk, IfErr}
 use Rattle.std.proofs.lemmas.Bool.Decides.{nat_tests}
 use Rattle.std.proofs.lemmas.List.{append-nil, nil_from_length}
-use Rattle.snap_fields.specs.Numbers.{n4, IsWord, list_of, bytes_with_count, IsListOf, IsByte}
-use Rattle.snap_fields.specs.Reading.{reader_made, n4_at, bytes_at}
+use Rattle.snap_fields.specs.Numbers.{n4, IsWord, list_of, bytes_with_count}
+use Rattle.snap_fields.specs.Reading.{reader_made, n4_at}
 use Rattle.snap_fields.specs.declared.fault.SnapFault.{SnapFault}
 use Rattle.snap_fields.specs.declared.fault.SnapFault.TheVariants.{BadSnap, NoMemory}
 use Rattle.snap_fields.specs.declared.fields.Fields.{Fields}
 use Rattle.snap_fields.specs.Printing.{print_setup, print_machine, print_settings}
 use Rattle.snap_fields.specs.Printing.{print_random, print_waiting, print_numbers, print_window}
 use Rattle.snap_fields.specs.Printing.{print_stream, print_fileref, print_file, print_fields}
+use Rattle.snap_fields.specs.Printing.{print_undo_state}
 use Rattle.snap_fields.specs.Printable.{IsWindow, IsStream, IsFileRef, IsFile, IsPrintable}
+use Rattle.snap_fields.specs.Printable.{IsUndoState}
+use Rattle.snap_fields.specs.Items.{undo_state_at}
 use Rattle.snap_fields.specs.GlkItems.{window_item_at, stream_item_at, fileref_at, file_at}
 use Rattle.snap_fields.specs.Whole.{objects_at, after_machine_at, parts_at, fields_of_parts}
 use Rattle.snap_fields.specs.Whole.{signed_fields}
@@ -23,7 +26,7 @@ use Rattle.snap_fields.proofs.Readers.{IsBytes, IsReader, ◌before◌, made_rea
 use Rattle.snap_fields.proofs.Readers.{none_reads, if_reads, n4_reads, some_is}
 use Rattle.snap_fields.proofs.Lists.{list_reads, bytes_reads}
 use Rattle.snap_fields.proofs.ItemLaws.{equal, setup_reads, machine_reads, settings_reads}
-use Rattle.snap_fields.proofs.ItemLaws.{random_reads, waiting_reads, numbers_reads}
+use Rattle.snap_fields.proofs.ItemLaws.{random_reads, undo_state_reads, waiting_reads, numbers_reads}
 use Rattle.snap_fields.proofs.GlkLaws.{window_reads}
 use Rattle.snap_fields.proofs.StreamLaws.{stream_reads, fileref_reads, file_reads}
 
@@ -31,23 +34,23 @@ use Rattle.snap_fields.proofs.StreamLaws.{stream_reads, fileref_reads, file_read
 abbrev behind : Fields → List ℕ
 behind f =
     print_setup f.setup ++ (print_machine f.machine
-    ++ (print_settings f.settings ++ (print_random f.random ++ (list_of bytes_with_count f.undo
+    ++ (print_settings f.settings ++ (print_random f.random ++ (list_of print_undo_state f.undo
     ++ (print_waiting f.waiting ++ (print_numbers f.numbers
     ++ (list_of print_window f.windows ++ (list_of print_stream f.streams
     ++ (list_of print_fileref f.filerefs ++ (list_of print_file f.files
     ++ bytes_with_count f.show))))))))))
 
 abbrev Signed : ℕ → Fields → Type 0
-Signed n f = (0x53545731 ≡ n) × IsPrintable f
+Signed n f = (0x53545732 ≡ n) × IsPrintable f
 
 made_of : (n : ℕ)
-    → 0x53545731 ≡ n
+    → 0x53545732 ≡ n
     → IsReader Fields behind (Signed n) (reader_made fields_of_parts parts_at)
 unfolding after_machine_at objects_at
 made_of n is =
     made_reads behind (Signed n) fields_of_parts
     (setup_reads before machine_reads before settings_reads before random_reads
-    before list_reads bytes_with_count (IsListOf IsByte) bytes_at bytes_reads
+    before list_reads print_undo_state IsUndoState undo_state_at undo_state_reads
     before waiting_reads before numbers_reads
     before list_reads print_window IsWindow window_item_at window_reads
     before list_reads print_stream IsStream stream_item_at stream_reads
@@ -121,14 +124,14 @@ made_of n is =
 
 signed_reads : (n : ℕ) → IsReader Fields behind (Signed n) (signed_fields n)
 signed_reads n =
-    if_reads behind (Signed n) (n == 0x53545731) _ _
-    (λ e. made_of n (sym (equal n 0x53545731 e)))
+    if_reads behind (Signed n) (n == 0x53545732) _ _
+    (λ e. made_of n (sym (equal n 0x53545732 e)))
     (λ e. none_reads behind (Signed n) (λ f h. grind (arith, nat_tests, e, h.0)))
 
 fields_reads : IsReader Fields print_fields IsPrintable fields_at
 unfolding fields_at print_fields
 fields_reads =
-    led_reads n4 IsWord print_fields behind IsPrintable (λ f. 0x53545731) n4_at signed_fields
+    led_reads n4 IsWord print_fields behind IsPrintable (λ f. 0x53545732) n4_at signed_fields
     (λ f h. omega arith) (λ f. refl) n4_reads (λ n h. signed_reads n)
 
 -- ---- all of the bytes

@@ -4,6 +4,7 @@ use Rattle.std.specs.List.{AllByRecursion}
 use Rattle.snap_fields.specs.Numbers.{IsCounted}
 use Rattle.snap_fields.specs.declared.fields.Fields.{Fields}
 use Rattle.snap_fields.specs.declared.fields.Machine.{Machine}
+use Rattle.snap_fields.specs.declared.fields.UndoState.{UndoState}
 use Rattle.snap_fields.specs.declared.glk.Area.{Area}
 use Rattle.snap_fields.specs.declared.glk.Content.{Content}
 use Rattle.snap_fields.specs.declared.glk.Content.TheVariants.{Pair, Blank, Buffer, Grid}
@@ -29,6 +30,11 @@ pub record CountsMachine (m : Machine) : Type 0 where
   pub memory : IsCounted m.memory
   pub stack : IsCounted m.stack
   pub heap : IsCounted m.heap
+
+pub record CountsUndoState (s : UndoState) : Type 0 where
+  pub contents : IsCounted s.contents
+  pub stack : IsCounted s.stack
+  pub heap : IsCounted s.heap
 
 -- a grid has a cell for each place of its rectangle
 abbrev pub HasCells : Area → Content → Type 0
@@ -65,7 +71,7 @@ pub record CountsFile (f : File) : Type 0 where
 -- each list of the fields is such a one, and each grid has its cells
 pub record HasCounts (f : Fields) : Type 0 where
   pub machine : CountsMachine f.machine
-  pub undo : CountsList IsCounted f.undo
+  pub undo : CountsList CountsUndoState f.undo
   pub windows : CountsList CountsWindow f.windows
   pub streams : CountsList CountsStream f.streams
   pub filerefs : CountsList CountsFileRef f.filerefs

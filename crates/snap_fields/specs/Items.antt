@@ -10,6 +10,7 @@ use Rattle.snap_fields.specs.declared.fields.Random.{Random}
 use Rattle.snap_fields.specs.declared.fields.Settings.{Settings}
 use Rattle.snap_fields.specs.declared.fields.Setup.{Setup}
 use Rattle.snap_fields.specs.declared.fields.Store.{Store}
+use Rattle.snap_fields.specs.declared.fields.UndoState.{UndoState}
 use Rattle.snap_fields.specs.declared.fields.Waiting.{Waiting}
 use Rattle.snap_fields.specs.declared.fields.Waiting.TheVariants.{Quit, Fault, Select, Prompt}
 
@@ -66,6 +67,16 @@ random_of (start, (stream, (taken, fresh))) =
 
 unfoldable pub random_at : Reader Random
 random_at = reader_made random_of (n8_at then n8_at then n8_at then n8_at)
+
+-- ---- 4. the states that undo keeps
+
+abbrev pub undo_state_item : List ℕ × (List ℕ × (ℕ × List Block)) → UndoState
+undo_state_item (contents, (stack, (heap_start, heap))) =
+    record { contents = contents; stack = stack; heap_start = heap_start; heap = heap }
+
+unfoldable pub undo_state_at : Reader UndoState
+undo_state_at =
+    reader_made undo_state_item (bytes_at then bytes_at then n4_at then list_at block_at)
 
 -- ---- 5. what the story waits for, or how it ended
 

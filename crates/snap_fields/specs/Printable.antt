@@ -10,6 +10,7 @@ use Rattle.snap_fields.specs.declared.fields.Random.{Random}
 use Rattle.snap_fields.specs.declared.fields.Settings.{Settings}
 use Rattle.snap_fields.specs.declared.fields.Setup.{Setup}
 use Rattle.snap_fields.specs.declared.fields.Store.{Store}
+use Rattle.snap_fields.specs.declared.fields.UndoState.{UndoState}
 use Rattle.snap_fields.specs.declared.fields.Waiting.{Waiting}
 use Rattle.snap_fields.specs.declared.fields.Waiting.TheVariants.{Quit, Fault, Select, Prompt}
 use Rattle.snap_fields.specs.declared.glk.Area.{Area}
@@ -54,6 +55,12 @@ pub record IsRandom (r : Random) : Type 0 where
   pub stream : IsLong r.stream
   pub taken : IsLong r.taken
   pub fresh : IsLong r.fresh
+
+pub record IsUndoState (s : UndoState) : Type 0 where
+  pub contents : IsListOf IsByte s.contents
+  pub stack : IsListOf IsByte s.stack
+  pub heap_start : IsWord s.heap_start
+  pub heap : IsListOf IsBlock s.heap
 
 abbrev pub IsStoreFields : Store → Type 0
 IsStoreFields s = IsWord s.kind × IsWord s.address
@@ -136,7 +143,7 @@ pub record IsPrintable (f : Fields) : Type 0 where
   pub machine : IsMachine f.machine
   pub settings : IsSettings f.settings
   pub random : IsRandom f.random
-  pub undo : IsListOf (IsListOf IsByte) f.undo
+  pub undo : IsListOf IsUndoState f.undo
   pub waiting : IsWaitingFields f.waiting
   pub numbers : IsNumbers f.numbers
   pub windows : IsListOf IsWindow f.windows

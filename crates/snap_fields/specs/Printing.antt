@@ -10,6 +10,7 @@ use Rattle.snap_fields.specs.declared.fields.Random.{Random}
 use Rattle.snap_fields.specs.declared.fields.Settings.{Settings}
 use Rattle.snap_fields.specs.declared.fields.Setup.{Setup}
 use Rattle.snap_fields.specs.declared.fields.Store.{Store}
+use Rattle.snap_fields.specs.declared.fields.UndoState.{UndoState}
 use Rattle.snap_fields.specs.declared.fields.Waiting.{Waiting}
 use Rattle.snap_fields.specs.declared.fields.Waiting.TheVariants.{Quit, Fault, Select, Prompt}
 use Rattle.snap_fields.specs.declared.glk.Area.{Area}
@@ -27,7 +28,7 @@ use Rattle.snap_fields.specs.declared.glk.Window.{Window}
 -- ---- 1. the beginning
 
 abbrev pub signature : List ℕ
-signature = 0x53 ∷ 0x54 ∷ 0x57 ∷ 0x31 ∷ []
+signature = 0x53 ∷ 0x54 ∷ 0x57 ∷ 0x32 ∷ []
 
 abbrev pub print_setup : Setup → List ℕ
 print_setup s = n8 s.seed ++ (n1 s.cols ++ (n1 s.rows ++ n8 s.budget))
@@ -51,6 +52,13 @@ print_settings s =
 
 abbrev pub print_random : Random → List ℕ
 print_random r = n8 r.start ++ (n8 r.stream ++ (n8 r.taken ++ n8 r.fresh))
+
+-- ---- 4. the states that undo keeps
+
+abbrev pub print_undo_state : UndoState → List ℕ
+print_undo_state s =
+    bytes_with_count s.contents ++ (bytes_with_count s.stack
+    ++ (n4 s.heap_start ++ list_of print_block s.heap))
 
 -- ---- 5. what the story waits for, or how it ended
 
@@ -132,7 +140,7 @@ print_file f = n4 f.usage ++ (text_codes f.name ++ bytes_with_count f.bytes)
 unfoldable pub print_fields : Fields → List ℕ
 print_fields f =
     signature ++ (print_setup f.setup ++ (print_machine f.machine
-    ++ (print_settings f.settings ++ (print_random f.random ++ (list_of bytes_with_count f.undo
+    ++ (print_settings f.settings ++ (print_random f.random ++ (list_of print_undo_state f.undo
     ++ (print_waiting f.waiting ++ (print_numbers f.numbers
     ++ (list_of print_window f.windows ++ (list_of print_stream f.streams
     ++ (list_of print_fileref f.filerefs ++ (list_of print_file f.files

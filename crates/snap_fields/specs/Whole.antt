@@ -4,7 +4,7 @@ use Rattle.std.specs.Prelude.{Option, Some, None, Result, Ok, Err}
 use Rattle.snap_fields.specs.Reading.{Reader, ◌then◌, led_by, reader_made, none_at}
 use Rattle.snap_fields.specs.Reading.{n4_at, bytes_at, list_at, FailsOnFields}
 use Rattle.snap_fields.specs.Items.{setup_at, machine_at, settings_at, random_at, waiting_at}
-use Rattle.snap_fields.specs.Items.{numbers_at}
+use Rattle.snap_fields.specs.Items.{numbers_at, undo_state_at}
 use Rattle.snap_fields.specs.GlkItems.{window_item_at, stream_item_at, fileref_at, file_at}
 use Rattle.snap_fields.specs.declared.fault.SnapFault.{SnapFault}
 use Rattle.snap_fields.specs.declared.fields.Fields.{Fields}
@@ -13,6 +13,7 @@ use Rattle.snap_fields.specs.declared.fields.Numbers.{Numbers}
 use Rattle.snap_fields.specs.declared.fields.Random.{Random}
 use Rattle.snap_fields.specs.declared.fields.Settings.{Settings}
 use Rattle.snap_fields.specs.declared.fields.Setup.{Setup}
+use Rattle.snap_fields.specs.declared.fields.UndoState.{UndoState}
 use Rattle.snap_fields.specs.declared.fields.Waiting.{Waiting}
 use Rattle.snap_fields.specs.declared.glk.File.{File}
 use Rattle.snap_fields.specs.declared.glk.FileRef.{FileRef}
@@ -36,11 +37,11 @@ object_parts o = (o.windows, (o.streams, (o.filerefs, (o.files, o.show))))
 -- the items behind the machine
 abbrev pub AfterMachineParts : Type 0
 AfterMachineParts =
-    Settings × (Random × (List (List ℕ) × (Waiting × (Numbers × ObjectParts))))
+    Settings × (Random × (List UndoState × (Waiting × (Numbers × ObjectParts))))
 
 unfoldable pub after_machine_at : Reader AfterMachineParts
 after_machine_at =
-    settings_at then random_at then list_at bytes_at then waiting_at then numbers_at
+    settings_at then random_at then list_at undo_state_at then waiting_at then numbers_at
     then objects_at
 
 abbrev pub after_machine_parts : AfterMachine → AfterMachineParts
@@ -97,9 +98,9 @@ fields_of_parts (
   show = show;
 }
 
--- `STW1`
+-- `STW2`
 abbrev pub signed_fields : ℕ → Reader Fields
-signed_fields n = if n == 0x53545731 then reader_made fields_of_parts parts_at else none_at
+signed_fields n = if n == 0x53545732 then reader_made fields_of_parts parts_at else none_at
 
 unfoldable pub fields_at : Reader Fields
 fields_at = led_by n4_at signed_fields

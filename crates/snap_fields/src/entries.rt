@@ -1,24 +1,24 @@
 //! What stands in lists: codes, blocks, undo states, and the objects of Glk (own).
 
 ghost use Rattle.snap_fields.specs.Counts.{CountsFile, CountsFileRef, CountsStream, CountsWindow};
-ghost use Rattle.snap_fields.specs.Counts.{HasNoList};
-ghost use Rattle.snap_fields.specs.Items.{block_at};
-ghost use Rattle.snap_fields.specs.Numbers.{IsByte, IsCounted, IsListOf, IsWord, bytes_with_count};
-ghost use Rattle.snap_fields.specs.Numbers.{n4};
-ghost use Rattle.snap_fields.specs.Printable.{IsBlock, IsFile, IsFileRef, IsStream, IsWindow};
+ghost use Rattle.snap_fields.specs.Counts.{CountsUndoState, HasNoList};
+ghost use Rattle.snap_fields.specs.Items.{block_at, undo_state_at};
+ghost use Rattle.snap_fields.specs.Numbers.{IsWord, n4};
+ghost use Rattle.snap_fields.specs.Printable.{IsBlock, IsFile, IsFileRef, IsStream, IsUndoState};
+ghost use Rattle.snap_fields.specs.Printable.{IsWindow};
 ghost use Rattle.snap_fields.specs.Printing.{print_block, print_file, print_fileref, print_stream};
-ghost use Rattle.snap_fields.specs.Printing.{print_window};
-ghost use Rattle.snap_fields.specs.Reading.{bytes_at, n4_at};
+ghost use Rattle.snap_fields.specs.Printing.{print_undo_state, print_window};
+ghost use Rattle.snap_fields.specs.Reading.{n4_at};
 ghost use Rattle.snap_fields.specs.GlkItems.{file_at, fileref_at, stream_item_at, window_item_at};
 
 use crate::counts::{has_cells, is_counted, request_has_counts, target_has_counts};
 use crate::cursor::Cursor;
 use crate::fault::SnapFault;
+use crate::fields::UndoState;
 use crate::glk::{File, FileRef, Stream, Window};
 use crate::glk_reading::{area, content, request, target};
 use crate::glk_writing::{put_area, put_content, put_request, put_target};
 use crate::item::{Item, list, put_list};
-use crate::items::Items;
 use crate::put::{put_bytes, put_flag1, put_flag4, put1, put4};
 use std::alloc::{AllocError, Global};
 use vm_heap::Block;
@@ -45,25 +45,37 @@ impl Item for u32 {
     }
 }
 
-impl Item for Items<u8> {
-    ghost read_as = { bytes_at };
+impl Item for UndoState {
+    ghost read_as = { undo_state_at };
 
-    ghost print = { bytes_with_count };
+    ghost print = { print_undo_state };
 
-    ghost is_printable = { IsListOf IsByte };
+    ghost is_printable = { IsUndoState };
 
-    ghost has_counts = { IsCounted };
+    ghost has_counts = { CountsUndoState };
 
     fn has_counts(&self) -> bool {
-        is_counted(self.as_slice())
+        is_counted(self.contents.as_slice())
+            && is_counted(self.stack.as_slice())
+            && is_counted(self.heap.as_slice())
     }
 
-    fn read(alloc: Global, from: &mut Cursor<'_>) -> Result<Items<u8>, SnapFault> {
-        from.bytes(alloc)
+    #[tactic(auto, unfolding(crate::specs::Items::undo_state_at))]
+    fn read(alloc: Global, from: &mut Cursor<'_>) -> Result<UndoState, SnapFault> {
+        Ok(UndoState {
+            contents: from.bytes(alloc)?,
+            stack: from.bytes(alloc)?,
+            heap_start: from.n4()?,
+            heap: list(alloc, from)?,
+        })
     }
 
     fn write(&self, out: &mut Vec<u8>) -> Result<(), AllocError> {
-        put_bytes(out, self.as_slice())
+        put_bytes(out, self.contents.as_slice())?;
+        put_bytes(out, self.stack.as_slice())?;
+        put4(out, self.heap_start)?;
+        put_list(out, self.heap.as_slice())?;
+        Ok(())
     }
 }
 

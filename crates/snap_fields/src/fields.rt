@@ -25,6 +25,15 @@ pub struct Machine {
     pub heap: Items<Block>,
 }
 
+/// A state that undo keeps. `contents` is the contents of a save's memory chunk.
+#[derive(Drop)]
+pub struct UndoState {
+    pub contents: Items<u8>,
+    pub stack: Items<u8>,
+    pub heap_start: u32,
+    pub heap: Items<Block>,
+}
+
 /// The I/O system and its rock, the string table, and the memory that `restore` protects.
 #[derive(Clone, Copy)]
 pub struct Settings {
@@ -86,8 +95,8 @@ pub struct Fields {
     pub machine: Machine,
     pub settings: Settings,
     pub random: Random,
-    /// The undo states as saves, the oldest first.
-    pub undo: Items<Items<u8>>,
+    /// The undo states, the oldest first.
+    pub undo: Items<UndoState>,
     pub waiting: Waiting,
     pub numbers: Numbers,
     pub windows: Items<Window>,

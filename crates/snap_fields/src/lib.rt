@@ -19,7 +19,7 @@ mod write;
 mod writing;
 
 pub use fault::SnapFault;
-pub use fields::{Fields, Machine, Numbers, Random, Settings, Setup, Store, Waiting};
+pub use fields::{Fields, Machine, Numbers, Random, Settings, Setup, Store, UndoState, Waiting};
 pub use glk::{Area, Content, File, FileRef, Request, Stream, Target, Window};
 pub use items::Items;
 pub use laws::{begins_no_other, has_one_spelling, reads_each_spelling};

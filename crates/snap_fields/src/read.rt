@@ -8,15 +8,15 @@ ghost use Rattle.snap_fields.specs.Whole.{objects_at, after_machine_at, after_ma
 
 use crate::cursor::Cursor;
 use crate::fault::SnapFault;
-use crate::fields::{Fields, Numbers, Random, Settings, Waiting};
+use crate::fields::{Fields, Numbers, Random, Settings, UndoState, Waiting};
 use crate::glk::{File, FileRef, Stream, Window};
 use crate::item::list;
 use crate::items::Items;
 use crate::reading::{machine, numbers, random, settings, setup, waiting};
 use std::alloc::Global;
 
-/// `STW1`.
-pub(crate) const SIGNATURE: u32 = 0x5354_5731;
+/// `STW2`.
+pub(crate) const SIGNATURE: u32 = 0x5354_5732;
 
 /// The objects of Glk, and what was shown last.
 #[derive(Drop)]
@@ -33,7 +33,7 @@ struct Objects {
 struct AfterMachine {
     settings: Settings,
     random: Random,
-    undo: Items<Items<u8>>,
+    undo: Items<UndoState>,
     waiting: Waiting,
     numbers: Numbers,
     objects: Objects,

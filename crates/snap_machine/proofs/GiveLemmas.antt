@@ -1,16 +1,15 @@
 -- The parts of a machine give it back.
-use Rattle.std.proofs.Common.{◌≡◌, ℕ, ◌≤◌, Bool, true, cond, nat_le, List, [], ◌∷◌}
-use Rattle.std.proofs.Common.{length, Option, Some, None, refl, ap, sym, subst, ◌∙◌, arith}
+use Rattle.std.proofs.Common.{◌≡◌, ℕ, ◌≤◌, Bool, cond, nat_le, List}
+use Rattle.std.proofs.Common.{length, Option, Some, None, refl, ap, sym, ◌∙◌, arith, true}
 use Rattle.std.proofs.lemmas.Bool.Decides.{nat_tests}
-use Rattle.std.proofs.lemmas.List.Elements.{All-cons, All-head, All-nil, All-tail}
-use Rattle.std.specs.Prelude.{All, IsTrue}
+use Rattle.std.specs.Prelude.{IsTrue}
 use Rattle.snap_fields.specs.Reading.{◌>>=◌}
 use Rattle.glulx_image.specs.Header.{IsLaidOut, stack_size, start_function, string_table}
 use Rattle.glulx_image.specs.Checksum.{verified}
-use Rattle.quetzal.specs.Save.{IsStateOf, memory_contents, origin}
-use Rattle.quetzal.proofs.WriteLemmas.{memory_given_back}
+use Rattle.quetzal.specs.Save.{origin}
+use Rattle.quetzal.proofs.WriteLemmas.{memory_of_story}
 use Rattle.vm_exec.specs.Fields.{machine_of}
-use Rattle.vm_exec.specs.Machine.{IsFit, IsHeldBy, WaitsForNoSave}
+use Rattle.vm_exec.specs.Machine.{IsFit, WaitsForNoSave}
 use Rattle.vm_exec.specs.Start.{IsOver}
 use Rattle.vm_exec.specs.declared.fields.MachineFields.{MachineFields}
 use Rattle.vm_exec.specs.declared.machine.Machine.{Machine}
@@ -19,25 +18,25 @@ use Rattle.vm_exec.specs.declared.step.Waiting.TheVariants.{Store, Stub}
 use Rattle.vm_exec.specs.declared.text.Text.{Text}
 use Rattle.vm_exec.specs.declared.text.Text.TheVariants.{Off}
 use Rattle.vm_heap.specs.HeapMap.{HeapMap, is_heap}
-use Rattle.vm_memory.specs.MemoryMap.{Origin, origin_of}
 use Rattle.vm_operand.specs.declared.operand.Dest.{Dest}
 use Rattle.vm_stack.specs.StackState.{StackState}
-use Rattle.vm_undo.specs.SavedState.{IsSavedOf}
-use Rattle.vm_undo.specs.declared.saved.Saved.{Saved}
-use Rattle.snap_machine.specs.Fields.{memory_given, memory_from_chunk, stack_of}
+use Rattle.vm_undo.specs.Contents.{contents}
+use Rattle.vm_undo.proofs.ContentsLemmas.{given_back as given}
+use Rattle.snap_machine.specs.Fields.{memory_from_chunk, stack_of}
 use Rattle.snap_machine.specs.Fields.{heap_from_fields, undo_of, dest_of_store, fields_with}
 use Rattle.snap_machine.specs.Laws.{GivesBackMachine, HasRoms}
 use Rattle.snap_machine.specs.Parts.{machine_parts, store, waiting_store}
-use Rattle.snap_machine.proofs.SaveLemmas.{same_some, undo_back}
+use Rattle.snap_machine.proofs.UndoLemmas.{same_some, undo_back}
 use Rattle.snap_machine.proofs.StoreLemmas.{dest_back}
 
 -- ---- each part gives back what it was made of
 
 memory_back : (image : List ℕ) (m : Machine)
     → IsLaidOut image → IsFit m → IsOver image m → HasRoms m
-    → memory_from_chunk image (memory_contents image m.memory) ≡ Some m.memory
+    → memory_from_chunk image (contents m.memory) ≡ Some m.memory
 memory_back image m laid fit over kept =
-    ap memory_given (memory_given_back image m.memory laid over.origin fit.map.size kept.memory)
+    given (origin image) m.memory
+    (memory_of_story image m.memory laid over.origin fit.map.size kept.memory)
 
 stack_back : (image : List ℕ) (s : StackState)
     → s.limit ≡ stack_size image → length s.bytes ≤ s.limit
@@ -57,29 +56,10 @@ heap_back : (h : HeapMap)
     → heap_from_fields h.start h.blocks ≡ Some h
 heap_back h is = ap (λ (t : Bool). cond {A = Option HeapMap} t (Some h) None) is
 
--- the states that undo keeps are of the story
-states_of : (image : List ℕ) (o : Origin) (states : List Saved)
-    → o ≡ origin image → All (IsSavedOf o) states
-    → All (IsHeldBy (stack_size image)) states → All (IsStateOf image) states
-states_of image o [] e of held = All-nil (IsStateOf image)
-states_of image o (s ∷ ss) e of held =
-    All-cons (IsStateOf image) s ss
-    (record {
-      saved = subst (λ x. IsSavedOf x s) e (All-head (IsSavedOf o) s ss of);
-      size = All-head (IsHeldBy (stack_size image)) s ss held;
-    })
-    (states_of image o ss e (All-tail (IsSavedOf o) s ss of)
-    (All-tail (IsHeldBy (stack_size image)) s ss held))
-
-pub are_states : (image : List ℕ) (m : Machine)
-    → IsFit m → IsOver image m → All (IsStateOf image) m.undo
-are_states image m fit over =
-    states_of image (origin_of m.memory) m.undo over.origin fit.map.undo over.within.held
-
-undo_given : (image : List ℕ) (m : Machine) → IsLaidOut image → IsFit m → IsOver image m → HasRoms m
-    → undo_of image (machine_parts image m).undo ≡ Some m.undo
-undo_given image m laid fit over kept =
-    undo_back image m.undo laid (are_states image m fit over) kept.undo over.within.few
+undo_given : (image : List ℕ) (m : Machine) → IsFit m → IsOver image m → HasRoms m
+    → undo_of image (machine_parts m).undo ≡ Some m.undo
+undo_given image m fit over kept =
+    undo_back image m.undo (fit.map.image ∙ over.origin) kept.undo over.within.limits
 
 -- the store that a machine waits with
 abbrev StoreOf : Waiting → Type 0
@@ -135,12 +115,12 @@ bind_is f e g = ap (λ p. p >>= f) e ∙ g
 fields_back : (image : List ℕ) (m : Machine) (to : Dest)
     → IsLaidOut image → IsFit m → IsOver image m
     → length m.stack.bytes ≤ m.stack.limit → HasRoms m → dest_of_store (store m) ≡ Some to
-    → fields_with image m.random.seed (machine_parts image m) (store m) ≡ Some (fields_of m to)
+    → fields_with image m.random.seed (machine_parts m) (store m) ≡ Some (fields_of m to)
 fields_back image m to laid fit over room kept at =
     bind_is _ (memory_back image m laid fit over kept)
     (bind_is _ (stack_back image m.stack over.limit room)
     (bind_is _ (heap_back m.heap fit.map.heap.heap)
-    (bind_is _ (undo_given image m laid fit over kept)
+    (bind_is _ (undo_given image m fit over kept)
     (bind_is _ at refl))))
 
 pub given_back : GivesBackMachine

@@ -1,3 +1,3 @@
-pub mod SaveLemmas
+pub mod UndoLemmas
 pub mod StoreLemmas
 pub mod GiveLemmas

@@ -1,10 +1,8 @@
 -- The fields of a machine that waits, by its parts (own: docs/FORMATS.md, "Snapshot bytes").
-use Rattle.std.specs.Prelude.{ℕ, ◌==◌, ◌&&◌, nat_le, if◌then◌else◌, List, [], ◌∷◌, length}
-use Rattle.std.specs.Prelude.{reverse, Option, Some, None, Result, Ok, Err, option_map}
+use Rattle.std.specs.Prelude.{ℕ, ◌==◌, ◌&&◌, nat_le, if◌then◌else◌, List, length, map}
+use Rattle.std.specs.Prelude.{Option, Some, None}
 use Rattle.glulx_image.specs.Header.{stack_size}
-use Rattle.quetzal.specs.Save.{memory_in}
-use Rattle.quetzal.specs.State.{state_in}
-use Rattle.quetzal.specs.declared.fault.SaveFault.{SaveFault}
+use Rattle.quetzal.specs.Save.{origin}
 use Rattle.vm_exec.specs.declared.fields.MachineFields.{MachineFields}
 use Rattle.vm_heap.specs.HeapMap.{HeapMap, is_heap}
 use Rattle.vm_heap.specs.declared.block.Block.{Block}
@@ -12,26 +10,18 @@ use Rattle.vm_memory.specs.MemoryMap.{MemoryMap}
 use Rattle.vm_operand.specs.declared.operand.Dest.{Dest}
 use Rattle.vm_operand.specs.declared.operand.Dest.TheVariants.{Discard, At, Local, Push}
 use Rattle.vm_stack.specs.StackState.{StackState}
-use Rattle.vm_undo.specs.declared.saved.Saved.{Saved}
+use Rattle.vm_undo.specs.Contents.{memory_of_contents}
+use Rattle.vm_undo.specs.UndoList as kept
+use Rattle.vm_undo.specs.UndoList.{UndoList}
+use Rattle.vm_undo.specs.declared.kept.KeptState.{KeptState}
 use Rattle.snap_fields.specs.Reading.{◌>>=◌}
 use Rattle.snap_fields.specs.declared.fields.Store.{Store}
+use Rattle.snap_fields.specs.declared.fields.UndoState.{UndoState}
 use Rattle.snap_machine.specs.declared.parts.MachineParts.{MachineParts}
-
--- what each of a list gives; none where one gives nothing
-abbrev pub each_of : {A B : Type 0} → (A → Option B) → List A → Option (List B)
-each_of f [] = Some []
-each_of f (a ∷ rest) = do
-  b ← f a
-  bs ← each_of f rest
-  Some (b ∷ bs)
-
-abbrev pub memory_given : Result MemoryMap SaveFault → Option MemoryMap
-memory_given (Ok m) = Some m
-memory_given (Err e) = None
 
 -- the memory whose CMem chunk has these contents
 abbrev pub memory_from_chunk : List ℕ → List ℕ → Option MemoryMap
-memory_from_chunk image contents = memory_given (memory_in image contents)
+memory_from_chunk image contents = memory_of_contents (origin image) contents
 
 -- the stack with these bytes and this frame; none where it is larger than the story's
 abbrev pub stack_of : List ℕ → List ℕ → ℕ → Option StackState
@@ -45,11 +35,18 @@ abbrev pub heap_from_fields : ℕ → List Block → Option HeapMap
 heap_from_fields start blocks =
     if is_heap start blocks then Some (record { start = start; blocks = blocks }) else None
 
--- the states that these saves spell, the oldest first in the saves and last in the list; four at
--- most
-abbrev pub undo_of : List ℕ → List (List ℕ) → Option (List Saved)
-undo_of image saves =
-    if nat_le (length saves) 4 then option_map reverse (each_of (state_in image) saves) else None
+-- a state as undo keeps it
+abbrev pub kept_state : UndoState → KeptState
+kept_state s = record {
+  contents = s.contents;
+  stack = s.stack;
+  heap = s.heap;
+  heap_start = s.heap_start;
+}
+
+-- what undo keeps where these are its states, the oldest first
+abbrev pub undo_of : List ℕ → List UndoState → Option UndoList
+undo_of image states = kept.undo_of (origin image) (map kept_state states)
 
 -- the store of a DestType and a DestAddr (Glulx 3.1.3, "Call Stubs")
 abbrev pub dest_of_store : Store → Option Dest

@@ -7,25 +7,21 @@ use Rattle.vm_exec.specs.Machine.{IsFit}
 use Rattle.vm_exec.specs.Start.{IsOver}
 use Rattle.vm_exec.specs.declared.fields.MachineFields.{MachineFields}
 use Rattle.vm_exec.specs.declared.machine.Machine.{Machine}
-use Rattle.vm_undo.specs.declared.saved.Saved.{Saved}
+use Rattle.vm_undo.specs.UndoList.{IsOfImage}
 use Rattle.snap_machine.specs.Fields.{fields_with}
 use Rattle.snap_machine.specs.Parts.{machine_parts, store}
 
--- below RAMSTART a state's memory has the file's bytes
-abbrev pub StateHasRom : Saved → Type 0
-StateHasRom s = HasRom s.memory
-
--- so have a machine's memory and that of each undo state
+-- below RAMSTART a machine's memory has the file's bytes, and so has that of each undo state
 pub record HasRoms (m : Machine) : Type 0 where
   pub memory : HasRom m.memory
-  pub undo : All StateHasRom m.undo
+  pub undo : All (IsOfImage m.undo.origin) m.undo.states
 
 -- its parts and its store are the parts of fields, and any such fields make this machine
 pub record IsGivenBack (image : List ℕ) (m : Machine) : Type 0 where
   pub fields : MachineFields
-  pub found : fields_with image m.random.seed (machine_parts image m) (store m) ≡ Some fields
+  pub found : fields_with image m.random.seed (machine_parts m) (store m) ≡ Some fields
   pub same : (f : MachineFields)
-      → fields_with image m.random.seed (machine_parts image m) (store m) ≡ Some f
+      → fields_with image m.random.seed (machine_parts m) (store m) ≡ Some f
       → machine_of image f ≡ m
 
 -- what is made of the parts of a machine that waits is the machine

@@ -1,6 +1,6 @@
 -- What a world's bytes say of its machine (own: docs/FORMATS.md, "Snapshot bytes").
-use Rattle.std.specs.Prelude.{ℕ, List, [], map, reverse}
-use Rattle.quetzal.specs.Save.{canon, image_memory, memory_contents}
+use Rattle.std.specs.Prelude.{ℕ, List, [], map}
+use Rattle.quetzal.specs.Save.{image_memory}
 use Rattle.vm_exec.specs.Fields.{store_fields}
 use Rattle.vm_exec.specs.declared.machine.Machine.{Machine}
 use Rattle.vm_exec.specs.declared.random.Random.{Random}
@@ -10,16 +10,20 @@ use Rattle.snap_fields.specs.declared.fields.Machine.{Machine as Place}
 use Rattle.snap_fields.specs.declared.fields.Random.{Random as Words}
 use Rattle.snap_fields.specs.declared.fields.Settings.{Settings}
 use Rattle.snap_fields.specs.declared.fields.Store.{Store}
+use Rattle.snap_fields.specs.declared.fields.UndoState.{UndoState}
+use Rattle.vm_undo.specs.Contents.{contents}
+use Rattle.vm_undo.specs.UndoList.{kept_of}
+use Rattle.vm_undo.specs.declared.kept.KeptState.{KeptState}
 use Rattle.snap_machine.specs.declared.parts.MachineParts.{MachineParts}
 
 -- ---- a machine that waits for a result
 
 -- where it stands: its memory is told by the contents of its CMem chunk
-abbrev pub machine_place : List ℕ → Machine → Place
-machine_place image m = record {
+abbrev pub machine_place : Machine → Place
+machine_place m = record {
   pc = m.pc;
   frame = m.stack.frame;
-  memory = memory_contents image m.memory;
+  memory = contents m.memory;
   stack = m.stack.bytes;
   heap_start = m.heap.start;
   heap = m.heap.blocks;
@@ -38,14 +42,22 @@ settings_of m = record {
 abbrev pub random_words : Random → Words
 random_words r = record { start = r.start; stream = r.stream; taken = r.taken; fresh = r.fresh }
 
--- the parts of a machine of the story with this image; of the undo states their saves, the oldest
--- first
-abbrev pub machine_parts : List ℕ → Machine → MachineParts
-machine_parts image m = record {
-  machine = machine_place image m;
+-- a state as undo keeps it
+abbrev pub kept_fields : KeptState → UndoState
+kept_fields k = record {
+  contents = k.contents;
+  stack = k.stack;
+  heap_start = k.heap_start;
+  heap = k.heap;
+}
+
+-- the parts of a machine; the undo states stand as they are kept, the oldest first
+abbrev pub machine_parts : Machine → MachineParts
+machine_parts m = record {
+  machine = machine_place m;
   settings = settings_of m;
   random = random_words m.random;
-  undo = reverse (map (canon image) m.undo);
+  undo = map kept_fields (map kept_of m.undo.states);
 }
 
 -- the store that a machine waits with; zeros where a save is waited for
@@ -65,7 +77,7 @@ put_back image = record {
   machine = record {
     pc = 0;
     frame = 0;
-    memory = memory_contents image (image_memory image);
+    memory = contents (image_memory image);
     stack = [];
     heap_start = 0;
     heap = [];

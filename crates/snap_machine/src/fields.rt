@@ -4,9 +4,8 @@ ghost use Rattle.std.specs.Prelude.{◌≡◌, IfOk};
 ghost use Rattle.snap_machine.specs.Fields as spec;
 
 use crate::parts::MachineParts;
-use crate::saves::undo_of;
+use crate::undo::undo_of;
 use glulx_image::Image;
-use quetzal::{SaveFault, memory_in};
 use snap_fields::Store;
 use std::alloc::{AllocError, Global};
 use vm_exec::{MachineFields, Protection, Random, store_of_fields};
@@ -14,6 +13,7 @@ use vm_heap::{Block, Heap, is_heap};
 use vm_memory::Memory;
 use vm_operand::Dest;
 use vm_stack::Stack;
+use vm_undo::{RunsFault, cmem_read};
 
 /// The fields of a machine of the story with this image, begun with this seed. None exactly where
 /// the parts are no such fields. The error is want of memory.
@@ -76,10 +76,11 @@ fn memory_of<'i>(
 ) -> Result<Option<Memory<'i>>, AllocError>
     ensures { IfOk result (λ memory. memory ≡ spec.memory_from_chunk image.now contents.now) }
 {
-    match memory_in(alloc, contents, image) {
+    let rom = &image.bytes()[..image.extstart() as usize];
+    match cmem_read(alloc, rom, image.ramstart(), image.endmem(), contents) {
         Ok(memory) => Ok(Some(memory)),
-        Err(SaveFault::NoMemory) => Err(AllocError),
-        Err(_) => Ok(None),
+        Err(RunsFault::NoMemory) => Err(AllocError),
+        Err(RunsFault::BadRuns) => Ok(None),
     }
 }
 

@@ -4,7 +4,7 @@
 mod fields;
 mod laws;
 mod parts;
-mod saves;
+mod undo;
 
 pub use fields::machine_fields_of;
 pub use laws::gives_back;

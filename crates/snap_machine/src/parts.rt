@@ -1,18 +1,16 @@
 //! The parts of a machine.
 
-ghost use Rattle.std.specs.Prelude.{◌≡◌, ◌≤◌, IfOk, All, length};
-ghost use Rattle.quetzal.specs.Save.{IsStateOf};
+ghost use Rattle.std.specs.Prelude.{◌≡◌, IfOk};
 ghost use Rattle.snap_machine.specs.Laws.{HasRoms};
 ghost use Rattle.snap_machine.specs.Parts as spec;
-ghost use Rattle.vm_exec.specs.Machine.{IsFit};
-ghost use Rattle.vm_exec.specs.Start.{IsOver};
 
-use crate::saves::saves_of;
+use crate::undo::undo_fields_of;
 use glulx_image::Image;
-use quetzal::{first_memory, memory_contents};
-use snap_fields::{Items, Random, Settings, Store};
+use quetzal::first_memory;
+use snap_fields::{Items, Random, Settings, Store, UndoState};
 use std::alloc::{AllocError, Global};
 use vm_exec::{Machine, Waiting, store_fields};
+use vm_undo::cmem_write;
 
 /// What a world's bytes say of its machine.
 #[derive(Drop)]
@@ -20,45 +18,34 @@ pub struct MachineParts {
     pub machine: snap_fields::Machine,
     pub settings: Settings,
     pub random: Random,
-    /// The undo states as saves, the oldest first.
-    pub undo: Items<Items<u8>>,
+    /// The undo states, the oldest first.
+    pub undo: Items<UndoState>,
 }
 
 /// The parts of a machine that waits for a result. The error is want of memory.
-pub fn parts_of(
-    alloc: Global,
-    machine: &Machine<'_>,
-    image: &Image<'_>,
-) -> Result<MachineParts, AllocError>
-    requires fit { IsFit machine.now }
-    requires over { IsOver image.now machine.now }
-    ensures value { IfOk result (λ parts. parts ≡ spec.machine_parts image.now machine.now) }
+pub fn parts_of(alloc: Global, machine: &Machine<'_>) -> Result<MachineParts, AllocError>
+    ensures value { IfOk result (λ parts. parts ≡ spec.machine_parts machine.now) }
     // The machine's memories have the file's bytes, as the law asks for.
     ensures kept { IfOk result (λ _. HasRoms machine.now) }
 {
     let _rom = machine.memory.rom();
     Ok(MachineParts {
-        machine: place_of(alloc, machine, image)?,
+        machine: place_of(alloc, machine)?,
         settings: settings_of(machine),
         random: words_of(machine.random()),
-        undo: saves_of(alloc, machine.undo(), image)?,
+        undo: undo_fields_of(alloc, machine.undo().states())?,
     })
 }
 
 // Where it stands.
-fn place_of(
-    alloc: Global,
-    machine: &Machine<'_>,
-    image: &Image<'_>,
-) -> Result<snap_fields::Machine, AllocError>
-    requires { IsOver image.now machine.now }
-    ensures { IfOk result (λ place. place ≡ spec.machine_place image.now machine.now) }
+fn place_of(alloc: Global, machine: &Machine<'_>) -> Result<snap_fields::Machine, AllocError>
+    ensures { IfOk result (λ place. place ≡ spec.machine_place machine.now) }
 {
     let heap = machine.heap();
     Ok(snap_fields::Machine {
         pc: machine.pc(),
         frame: machine.stack.frame(),
-        memory: Items::of(memory_contents(alloc, &machine.memory, image)?),
+        memory: Items::of(cmem_write(alloc, &machine.memory)?),
         stack: Items::of(machine.stack.copy_bytes(alloc)?),
         heap_start: heap.start(),
         heap: Items::of(Vec::from_slice(alloc, heap.blocks())?),
@@ -115,7 +102,7 @@ pub fn put_back(alloc: Global, image: &Image<'_>) -> Result<MachineParts, AllocE
         machine: snap_fields::Machine {
             pc: 0,
             frame: 0,
-            memory: Items::of(memory_contents(alloc, &memory, image)?),
+            memory: Items::of(cmem_write(alloc, &memory)?),
             stack: Items::of(Vec::new(alloc)),
             heap_start: 0,
             heap: Items::of(Vec::new(alloc)),

@@ -1,3 +1,4 @@
+pub mod BeforeLemmas
 pub mod FileLemmas
 pub mod Newest
 pub mod AreaWritten
@@ -7,3 +8,4 @@ pub mod SlotLemmas
 pub mod StoreLemmas
 pub mod PutLemmas
 mod StandardFacts
+pub mod CallLemmas

@@ -24,7 +24,7 @@ pub ends_of_areas :
     ≡ side_start B ∷ 16781344 ∷ []
 ends_of_areas = refl
 
-pub gates : gate_of A ∷ gate_of B ∷ [] ≡ 8 ∷ 9 ∷ []
+pub gates : gate_of A ∷ gate_of B ∷ [] ≡ 10 ∷ 11 ∷ []
 gates = refl
 
 -- the header's bytes alone are no header

@@ -1,5 +1,5 @@
 -- A snapshot file as bytes (own: docs/FORMATS.md, "Snapshot files").
-use Rattle.std.specs.Prelude.{ℕ, ◌+◌, Bool, ◌&&◌, not, ◌==◌, nat_eq, nat_le, nat_lt}
+use Rattle.std.specs.Prelude.{◌≡◌, ℕ, ◌+◌, Bool, ◌&&◌, not, ◌==◌, nat_eq, nat_le, nat_lt}
 use Rattle.std.specs.Prelude.{if◌then◌else◌, List, [], ◌∷◌, ◌++◌, length, take}
 use Rattle.std.specs.Prelude.{drop, replicate}
 use Rattle.std.specs.Prelude.{slice_index, filter, Option, Some, None, option_map}
@@ -9,6 +9,7 @@ use Rattle.snap_store.specs.declared.side.Side.{Side}
 use Rattle.snap_store.specs.declared.side.Side.TheVariants.{A, B}
 use Rattle.snap_store.specs.declared.outline.Head.{Head}
 use Rattle.snap_store.specs.declared.outline.TheConstants.{MAX_SNAPSHOT, PAGE}
+use Rattle.snap_store.specs.declared.side.TheConstants.{GATE_A, GATE_B}
 use Rattle.snap_store.specs.declared.area.Area.{Area}
 
 -- the eight bytes with which it begins
@@ -21,8 +22,8 @@ empty_snapshot_file = snapshot_header ++ replicate 4088 0
 
 -- the place of an area's gate
 abbrev pub gate_of : Side → ℕ
-gate_of A = 8
-gate_of B = 9
+gate_of A = GATE_A
+gate_of B = GATE_B
 
 -- the place where an area starts
 abbrev pub side_start : Side → ℕ
@@ -132,3 +133,15 @@ newest_area place most file = greatest (filter (is_wanted_area place most) (open
 -- what is given of an area
 abbrev pub area_given : Option Stored → Option Area
 area_given area = option_map (λ x. record { count = x.count; bytes = x.bytes }) area
+
+-- ---- a law
+
+-- no area is open, and none may open
+pub record HasNoArea (file : List ℕ) : Type 0 where
+  pub opened : open_areas file ≡ []
+  pub openable : (side : Side) → openable_area side file ≡ None
+
+-- so it is with each file of before, whose gates stood at 8 and 9, and whose bytes 10 and 11 are 0
+abbrev pub KeepsAreasOfBeforeClosed : Type 0
+KeepsAreasOfBeforeClosed =
+    (file : List ℕ) → slice_index file 10 ≡ 0 → slice_index file 11 ≡ 0 → HasNoArea file

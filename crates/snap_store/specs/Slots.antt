@@ -30,6 +30,10 @@ is_closed Closed = true
 is_closed Unsure = false
 is_closed (Open place count) = false
 
+-- the device calls with which a gate is closed: a sync where it is 0, else a write and a sync
+abbrev pub closing_calls : Slot → ℕ
+closing_calls slot = if is_closed slot then 1 else 2
+
 -- what is known of a file of which nothing is pending
 abbrev pub slot_in : Side → List ℕ → Slot
 slot_in side file =

@@ -3,6 +3,7 @@
 ghost use Rattle.std.specs.Prelude.{◌≡◌, ◌<◌, ◌≤◌, ◌^◌, ◌&&◌, IsTrue};
 ghost use Rattle.std.specs.Prelude.{IsOk, IfOk, OnOk, List, ℕ};
 ghost use Rattle.std.specs.Prelude.{length, false, option_map, IfSome};
+ghost use Rattle.disk_model.specs.Work.{MakesCalls};
 ghost use Rattle.disk_model.specs.Disk.{CountsErrors, ReadsFile, Only, OnlyLooks};
 ghost use Rattle.snap_store.specs.File.{has_header, gate_byte, area_head, is_whole, is_open_area};
 ghost use Rattle.snap_store.specs.File.{newest_area, area_on_side, is_wanted_area};
@@ -11,7 +12,7 @@ ghost use Rattle.snap_store.specs.Slots.{slot_in};
 ghost use Rattle.snap_store.specs.declared.side.Side.TheVariants.{A, B};
 ghost use Rattle.snap_store.specs.declared.slot.Slot.TheVariants.{Closed};
 
-use crate::side::Side;
+use crate::side::{GATE_A, GATE_B, Side};
 use crate::slot::Slot;
 use byteorder::{BigEndian, ByteOrder};
 use disk_model::{Disk, Failed};
@@ -53,6 +54,8 @@ fn read_head<D: Disk>(disk: &mut D, side: Side) -> Result<Head, Failed>
     ensures seen { OnOk result (IsTrue (D.tells disk.old) → D.seen disk.new ≡ D.seen disk.old) }
     ensures kept { OnlyLooks D.tells D.may_leave D.moment D.left_since D.reach D.room D.label
         disk.old disk.new }
+    ensures calls { IsTrue (D.tells disk.old)
+        → MakesCalls D.fails_at D.moment D.room 0 1 result disk.old disk.new }
 {
     let mut bytes = [0; 16];
     disk.read_at(side.start(), &mut bytes)?;
@@ -65,7 +68,7 @@ fn read_head<D: Disk>(disk: &mut D, side: Side) -> Result<Head, Failed>
 
 // The file begins with the header's bytes; these are its first ones.
 fn is_header(size: u64, bytes: &[u8]) -> bool
-    requires { length bytes.now ≡ 10 }
+    requires { length bytes.now ≡ 12 }
     ensures { (file : List ℕ) → length file ≡ size → ReadsFile file 0 bytes.now
         → result ≡ has_header file }
 {
@@ -81,17 +84,19 @@ pub fn outline_in<D: Disk>(disk: &mut D) -> Result<Outline, Failed>
     ensures seen { OnOk result (IsTrue (D.tells disk.old) → D.seen disk.new ≡ D.seen disk.old) }
     ensures kept { OnlyLooks D.tells D.may_leave D.moment D.left_since D.reach D.room D.label
         disk.old disk.new }
+    ensures calls { IsTrue (D.tells disk.old)
+        → MakesCalls D.fails_at D.moment D.room 0 4 result disk.old disk.new }
 {
     let size = disk.size()?;
-    let mut bytes = [0; 10];
+    let mut bytes = [0; 12];
     disk.read_at(0, &mut bytes)?;
     let a = read_head(disk, Side::A)?;
     let b = read_head(disk, Side::B)?;
     Ok(Outline {
         made: is_header(size, &bytes),
         size,
-        gate_a: bytes[8],
-        gate_b: bytes[9],
+        gate_a: bytes[GATE_A as usize],
+        gate_b: bytes[GATE_B as usize],
         a,
         b,
     })
@@ -106,6 +111,8 @@ pub fn synced_outline<D: Disk>(disk: &mut D) -> Result<Outline, Failed>
     ensures seen { OnOk result (IsTrue (D.tells disk.old) → D.seen disk.new ≡ D.seen disk.old) }
     ensures kept { OnlyLooks D.tells D.may_leave D.moment D.left_since D.reach D.room D.label
         disk.old disk.new }
+    ensures calls { IsTrue (D.tells disk.old)
+        → MakesCalls D.fails_at D.moment D.room 0 5 result disk.old disk.new }
 {
     disk.sync()?;
     let outline = outline_in(disk)?;

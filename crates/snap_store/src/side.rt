@@ -4,6 +4,13 @@ ghost use Rattle.std.specs.Prelude.{◌≡◌};
 ghost use Rattle.snap_store.specs.File.{gate_of, side_start};
 ghost use Rattle.snap_store.specs.Slots.{opposite_side};
 
+/// The place of the gate of area A. Areas of before, whose gates stood at 8 and 9, have other bytes and
+/// are closed.
+pub const GATE_A: u64 = 10;
+
+/// The place of the gate of area B.
+pub const GATE_B: u64 = 11;
+
 /// One of the two areas.
 #[derive(Clone, Copy)]
 pub enum Side {
@@ -17,8 +24,8 @@ impl Side {
         ensures { result ≡ gate_of self }
     {
         match self {
-            Side::A => 8,
-            Side::B => 9,
+            Side::A => GATE_A,
+            Side::B => GATE_B,
         }
     }
 

@@ -1,11 +1,12 @@
 //! The device calls of a put (own).
 
-ghost use Rattle.std.specs.Prelude.{◌≡◌, ◌⊎◌, ◌+◌, ◌≤◌, ℕ, List, OnOk, OnErr, IfErr};
+ghost use Rattle.std.specs.Prelude.{◌≡◌, ◌⊎◌, ◌+◌, ◌≤◌, ℕ, List, OnOk, OnErr, IfErr, IsTrue};
 ghost use Rattle.std.specs.Prelude.{Option, Some, None, length};
 ghost use Rattle.disk_model.specs.Disk.{EachImage};
-ghost use Rattle.disk_model.specs.Work.{Ran, Triple};
+ghost use Rattle.disk_model.specs.Work.{MakesCalls, Ran, Triple};
 ghost use Rattle.snap_store.specs.File.{Stored, area_with, gate_of, side_start, head_bytes};
 ghost use Rattle.snap_store.specs.Slots.{slot_of, with_slot, taken_side, opposite_side};
+ghost use Rattle.snap_store.specs.Slots.{closing_calls};
 ghost use Rattle.snap_store.specs.Images.{IsLaid, IsLaidTaken, Spares, loosened, DuringPut, IsLeft};
 ghost use Rattle.snap_store.specs.declared.slot.Slot.{Slot};
 ghost use Rattle.snap_store.specs.declared.slot.Slot.TheVariants.{Closed, Open, Unsure};
@@ -25,6 +26,9 @@ fn close_gate<D: Disk>(disk: &mut D, side: Side, slot: Slot) -> Result<(), Faile
         (IsLaid side Closed area beside beside_area) }
     ensures ran { Ran D.tells D.steady D.room D.label D.faults D.reach
         (gate_of side + 1) result disk.old disk.new }
+    ensures calls { IsTrue (D.tells disk.old)
+        → MakesCalls D.fails_at D.moment D.room (gate_of side + 1) (closing_calls slot)
+        result disk.old disk.new }
 {
     if slot.is_closed() {
         disk.sync()?;
@@ -48,6 +52,9 @@ fn fill<D: Disk>(
         (IsLaid side Unsure (Some (area_with place count bytes.now)) beside beside_area) }
     ensures ran { Ran D.tells D.steady D.room D.label D.faults D.reach
         (side_start side + 16 + length bytes.now) result disk.old disk.new }
+    ensures calls { IsTrue (D.tells disk.old)
+        → MakesCalls D.fails_at D.moment D.room (side_start side + 16 + length bytes.now) 3
+        result disk.old disk.new }
 {
     disk.write_at(side.start(), &head_bytes(place, count, bytes.len() as u32))?;
     write_through(disk, side.start() + 16, bytes)
@@ -62,6 +69,9 @@ fn open_gate<D: Disk>(disk: &mut D, side: Side) -> Result<(), Failed>
         (IsLaid side (Open area.place area.count) (Some area) beside beside_area) }
     ensures ran { Ran D.tells D.steady D.room D.label D.faults D.reach
         (gate_of side + 1) result disk.old disk.new }
+    ensures calls { IsTrue (D.tells disk.old)
+        → MakesCalls D.fails_at D.moment D.room (gate_of side + 1) 2
+        result disk.old disk.new }
 {
     write_through(disk, side.gate(), &[1])
 }
@@ -102,6 +112,9 @@ fn write_area<D: Disk>(
     ensures gate { IfErr result (λ now. (now ≡ Closed) ⊎ (now ≡ Unsure)) }
     ensures ran { Ran D.tells D.steady D.room D.label D.faults D.reach
         (side_start side + 16 + length bytes.now) result disk.old disk.new }
+    ensures calls { IsTrue (D.tells disk.old)
+        → MakesCalls D.fails_at D.moment D.room (side_start side + 16 + length bytes.now) (closing_calls slot + 5)
+        result disk.old disk.new }
 {
     let Ok(()) = close_gate(disk, side, slot) else {
         return Err(slot.loosened());
@@ -149,6 +162,9 @@ pub fn replace<D: Disk>(
         ⊎ (slots.new ≡ with_slot slots.old (taken_side slots.old) Unsure)) }
     ensures ran { Ran D.tells D.steady D.room D.label D.faults D.reach
         (side_start (taken_side slots.old) + 16 + length bytes.now) result disk.old disk.new }
+    ensures calls { IsTrue (D.tells disk.old)
+        → MakesCalls D.fails_at D.moment D.room (side_start (taken_side slots.old) + 16 + length bytes.now) (closing_calls (slot_of slots.old (taken_side slots.old)) + 5)
+        result disk.old disk.new }
 {
     let side = slots.taken();
     let slot = slots.of(side);

@@ -1,10 +1,11 @@
 //! One session's snapshot file (own).
 
-ghost use Rattle.std.specs.Prelude.{◌≡◌, ◌⊎◌, ◌+◌, ◌≤◌, ℕ, Bool, IsTrue};
+ghost use Rattle.std.specs.Prelude.{◌≡◌, ◌⊎◌, ◌+◌, ◌<◌, ◌≤◌, ℕ, Bool, IsTrue};
 ghost use Rattle.std.specs.Prelude.{IsOk, IfOk, IfErr, OnOk};
 ghost use Rattle.std.specs.Prelude.{OnErr, MatchResult, Ok, Some, None, IfSome, length, max, true};
 ghost use Rattle.std.specs.Prelude.{false};
 ghost use Rattle.disk_model.specs.Disk.{Only, LeavesOnly, EachImage, SameDisk, OnlyLooks};
+ghost use Rattle.disk_model.specs.Work.{FailedCall, GoodCalls, MakesCalls};
 ghost use Rattle.snap_store.specs.Frames.{IsFaultOfDisk, HasNewestCause};
 ghost use Rattle.snap_store.specs.declared.outline.TheConstants.{MAX_SNAPSHOT};
 
@@ -45,7 +46,7 @@ impl<D: Disk> Store<D> {
     ghost use Rattle.snap_store.specs.File.{openable_area};
     ghost use Rattle.snap_store.specs.File.{newest_area, area_given, area_with};
     ghost use Rattle.snap_store.specs.Slots.{opposite_side, slot_of, slot_in, with_slot};
-    ghost use Rattle.snap_store.specs.Slots.{taken_side};
+    ghost use Rattle.snap_store.specs.Slots.{closing_calls, taken_side};
     ghost use Rattle.snap_store.specs.Slots.{is_stored};
     ghost use Rattle.snap_store.specs.Store.{store_area, IsImageOf, IsPutImage, IsGiven};
     ghost use Rattle.snap_store.specs.declared.side.Side.{Side};
@@ -74,6 +75,10 @@ impl<D: Disk> Store<D> {
             disk s.disk)
             (λ e. OnlyLooks D.tells D.may_leave D.moment D.left_since D.reach D.room D.label
             disk e.1) }
+        // by five device calls, or the first of them up to one that failed
+        ensures calls { IsTrue (D.tells disk) → MatchResult result
+            (λ s. GoodCalls D.fails_at D.moment 5 disk s.disk)
+            (λ e. (k : ℕ) × (k < 5) × FailedCall D.fails_at D.moment D.room 0 k disk e.1) }
     {
         let from = disk.faults();
         let Ok(outline) = synced_outline(&mut disk) else {
@@ -155,6 +160,12 @@ impl<D: Disk> Store<D> {
 
         ensures reach { D.reach self.new.disk ≤ max (D.reach self.old.disk)
             (side_start (taken_side self.old.slots) + 16 + length bytes.now) }
+        // by six or seven device calls, or the first of them up to one that failed
+        ensures calls { self.old.made ≡ true → IsTrue (D.tells self.old.disk)
+            → MakesCalls D.fails_at D.moment D.room
+            (side_start (taken_side self.old.slots) + 16 + length bytes.now)
+            (closing_calls (slot_of self.old.slots (taken_side self.old.slots)) + 5)
+            result self.old.disk self.new.disk }
         ensures kept { SameDisk D.tells D.room D.label self.old.disk self.new.disk
             × (self.new.made ≡ self.old.made) }
     {

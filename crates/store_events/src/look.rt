@@ -7,7 +7,7 @@ ghost use Rattle.snap_store.specs.Outline.{outline_of};
 ghost use Rattle.store_events.specs.Events.{slots_in};
 
 use byteorder::{BigEndian, ByteOrder};
-use snap_store::{HEADER, Head, Outline, PAGE, Side, Slots};
+use snap_store::{GATE_A, GATE_B, HEADER, Head, Outline, PAGE, Side, Slots};
 
 // The byte at this place, and 0 past the end.
 fn byte_at(file: &[u8], place: usize) -> u8
@@ -56,8 +56,8 @@ pub fn outline_of(file: &[u8]) -> Outline
     Outline {
         made: has_header(file),
         size: file.len() as u64,
-        gate_a: byte_at(file, 8),
-        gate_b: byte_at(file, 9),
+        gate_a: byte_at(file, GATE_A as usize),
+        gate_b: byte_at(file, GATE_B as usize),
         a: head_at(file, Side::A),
         b: head_at(file, Side::B),
     }

@@ -45,7 +45,7 @@ stage-back image seed g (AtSelect m) laid v roms =
     let b = machine.given_back image m laid v.waiting.fit v.waiting.over v.room roms in record {
       fields = fields.AtSelect b.fields;
       made = subst (λ (n : ℕ). option_map fields.AtSelect
-          (fields_with image n (machine_parts image m) (store m)) ≡ Some (fields.AtSelect b.fields))
+          (fields_with image n (machine_parts m) (store m)) ≡ Some (fields.AtSelect b.fields))
           v.begun (ap (option_map fields.AtSelect) b.found);
       same = ap AtSelect (b.same b.fields b.found);
     }
@@ -53,7 +53,7 @@ stage-back image seed g (AtPrompt m) laid v roms =
     let b = machine.given_back image m laid v.waiting.fit v.waiting.over v.room roms in record {
       fields = fields.AtPrompt b.fields;
       made = subst (λ (n : ℕ). option_map fields.AtPrompt
-          (fields_with image n (machine_parts image m) (store m)) ≡ Some (fields.AtPrompt b.fields))
+          (fields_with image n (machine_parts m) (store m)) ≡ Some (fields.AtPrompt b.fields))
           v.begun (ap (option_map fields.AtPrompt) b.found);
       same = ap AtPrompt (b.same b.fields b.found);
     }

@@ -19,8 +19,8 @@ world_setup w = record { seed = w.seed; cols = w.glk.cols; rows = w.glk.rows; bu
 
 -- the machine where the story waits; that of a story that is over is put back
 abbrev pub stage_parts : List ℕ → Stage → MachineParts
-stage_parts image (AtSelect m) = machine_parts image m
-stage_parts image (AtPrompt m) = machine_parts image m
+stage_parts image (AtSelect m) = machine_parts m
+stage_parts image (AtPrompt m) = machine_parts m
 stage_parts image Quit = put_back image
 stage_parts image (Fault n) = put_back image
 

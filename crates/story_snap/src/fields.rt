@@ -29,7 +29,7 @@ fn parts_of(alloc: Global, world: &World<'_>) -> Result<MachineParts, AllocError
 {
     match world.stage() {
         Stage::AtSelect(machine) | Stage::AtPrompt(machine) => {
-            snap_machine::parts_of(alloc, machine, world.image())
+            snap_machine::parts_of(alloc, machine)
         }
         Stage::Quit | Stage::Fault(_) => snap_machine::put_back(alloc, world.image()),
     }

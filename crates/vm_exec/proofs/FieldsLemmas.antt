@@ -1,10 +1,10 @@
 -- The machine of its fields is fit where they are.
 use Rattle.std.proofs.Common.{◌≡◌, ◌≤◌, ◌∙◌, ℕ, List, length, ap, refl}
-use Rattle.std.specs.Prelude.{All}
 use Rattle.glulx_image.specs.Header.{IsLaidOut, endmem, stack_size}
 use Rattle.vm_memory.specs.MemoryMap.{Origin, origin_of}
 use Rattle.vm_stack.specs.Chain.{Chain, HasFrame}
-use Rattle.vm_undo.specs.SavedState.{IsHeapOver, IsSavedWithin, IsSize}
+use Rattle.vm_undo.specs.SavedState.{IsHeapOver, IsSize}
+use Rattle.vm_undo.specs.UndoList.{KeepLimits, KeepsOf}
 use Rattle.vm_exec.specs.Fields.{machine_of, store_fields}
 use Rattle.vm_exec.specs.Rules.{stub_for}
 use Rattle.vm_exec.specs.declared.machine.Machine.{Machine}
@@ -19,16 +19,17 @@ pub fit_by : (image : List ℕ) (f : MachineFields) → IsLaidOut image
     → IsSize f.memory.endmem (length f.memory.bytes)
     → IsHeapOver f.memory.endmem (length f.memory.bytes) f.heap.start f.heap.blocks
     → f.stack.limit ≡ stack_size image → Chain f.stack × HasFrame f.stack → f.mode ≤ 2
-    → All (IsSavedWithin (origin_of f.memory) (stack_size image)) f.undo → length f.undo ≤ 4
+    → KeepsOf (origin_of f.memory) (stack_size image) f.undo → KeepLimits f.undo.states
     → IsFit (machine_of image f) × IsOver image (machine_of image f)
-fit_by image f laid origin size heap limit frames mode held few =
+fit_by image f laid origin size heap limit frames mode keeps limits =
     let end : f.memory.endmem ≡ endmem image = ap Origin.endmem origin in (
       record {
         map = record {
           page = rw end laid.end_page;
           size = size;
           heap = heap;
-          undo = λ k d l. (held k d l).0;
+          image = keeps.image;
+          undo = λ k d l. (keeps.states k d l).0;
         };
         frames = frames.0;
         frame = frames.1;
@@ -41,15 +42,22 @@ fit_by image f laid origin size heap limit frames mode held few =
         verified = refl;
         start_function = refl;
         first_table = refl;
-        within = record { system = mode; few = few; held = λ k d l. (held k d l).1 };
+        within = record {
+          system = mode;
+          limits = limits;
+          held = λ k d l. (keeps.states k d l).1;
+        };
       },
     )
 
 pub undo_of : (image : List ℕ) (f : MachineFields)
     → IsFit (machine_of image f)
     → IsOver image (machine_of image f)
-    → All (IsSavedWithin (origin_of f.memory) (stack_size image)) f.undo
-undo_of image f fit over = λ k d l. (fit.map.undo k d l, over.within.held k d l)
+    → KeepsOf (origin_of f.memory) (stack_size image) f.undo
+undo_of image f fit over = record {
+  image = fit.map.image;
+  states = λ k d l. (fit.map.undo k d l, over.within.held k d l);
+}
 
 stub_at : (m : Machine) (to : Dest)
     → record {

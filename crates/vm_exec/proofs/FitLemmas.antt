@@ -5,7 +5,6 @@ use Rattle.std.proofs.Common.{Option, Some, None, Result, Ok, Err, IsTrue, refl,
 use Rattle.std.proofs.Common.{◌∙◌, subst}
 use Rattle.std.specs.Prelude.{All, OnOk}
 use Rattle.std.proofs.lemmas.List.{length-append, length-replicate, length-take}
-use Rattle.std.proofs.lemmas.List.Elements.{All-take, All-drop, All-cons}
 use Rattle.std.proofs.lemmas.Grind.{common_steps}
 use Rattle.vm_memory.specs.declared.fault.Trap.{Trap}
 use Rattle.vm_exec.specs.Answer.{Changes}
@@ -23,16 +22,17 @@ use Rattle.vm_stack.specs.Chain.{Chain, HasFrame, IsReady}
 use Rattle.vm_stack.specs.Saved.{LinkedFrames}
 use Rattle.vm_stack.proofs.SavedLemmas.{ready_saved}
 use Rattle.vm_undo.specs.SavedState.{IsSize, IsHeapOver, IsSavedOf}
-use Rattle.vm_undo.specs.UndoList.{newest, without_newest, with_newest}
+use Rattle.vm_undo.specs.UndoList.{UndoList, saved, without_newest}
 use Rattle.vm_undo.specs.declared.saved.Saved.{Saved}
 use Rattle.vm_exec.specs.Machine.{IsMapped, IsFit, IsSaving, WaitsForNoSave}
 use Rattle.vm_exec.specs.declared.machine.Machine.{Machine}
 use Rattle.vm_exec.specs.declared.text.Text.TheVariants.{Off}
 use Rattle.vm_exec.specs.Rows.Undo.{saved_state}
+use Rattle.vm_undo.proofs.ListLemmas.{before_all, saved_all, saved_origin}
 use Rattle.vm_exec.specs.Rows.Heap.{memory_end}
 
 -- a heap that starts at a page from ENDMEM on, and memory that ends where it does
-over : (o : Origin) (n : ℕ) (h new : HeapMap) (states : List Saved)
+over : (o : Origin) (n : ℕ) (h new : HeapMap) (states : UndoList)
     → IsMapped o n h states
     → IsTrue (is_heap new.start new.blocks)
     → heap_end new.blocks ≤ 16777216
@@ -50,6 +50,7 @@ over o n h new states m heap limit page least =
         limit = omega (arith, is, limit);
       };
       heap = record { heap = heap; page = page; least = λ p. least; ends = λ p. is };
+      image = m.image;
       undo = m.undo;
     }
 
@@ -67,7 +68,7 @@ ok_is true a b f e = cc
 ok_is false a b f e = cc
 
 -- where a heap starts, or would start
-start-mapped : (o : Origin) (n : ℕ) (h : HeapMap) (states : List Saved)
+start-mapped : (o : Origin) (n : ℕ) (h : HeapMap) (states : UndoList)
     → IsMapped o n h states → (start_from h n % 256 ≡ 0) × (o.endmem ≤ start_from h n)
 start-mapped o n h states m =
     elim (nat_eq h.start 0) as (λ t. nat_eq h.start 0 ≡ t
@@ -77,7 +78,7 @@ start-mapped o n h states m =
     ] refl
 
 -- a block more
-pub malloced-mapped : (o : Origin) (n size x : ℕ) (h new : HeapMap) (states : List Saved)
+pub malloced-mapped : (o : Origin) (n size x : ℕ) (h new : HeapMap) (states : UndoList)
     → malloced h size n ≡ (Some x, new)
     → IsTrue (is_heap new.start new.blocks)
     → heap_end new.blocks ≤ 16777216
@@ -103,7 +104,7 @@ freed-start h new at e =
     (ok_is (begins at h.blocks) _ new (BadBlock at) e)
     (heap_of-start h.start (blocks_without at h.blocks))
 
-smaller : (o : Origin) (n : ℕ) (h new : HeapMap) (states : List Saved)
+smaller : (o : Origin) (n : ℕ) (h new : HeapMap) (states : UndoList)
     → h.start ≤ 16777216 → IsTrue (is_heap new.start new.blocks)
     → IsMapped o n h states → new.start ≡ 0
     → IsMapped o (max o.endmem h.start) new states
@@ -122,6 +123,7 @@ smaller o n h new states limit heap m none =
         least = λ p. absurd (omega (arith, p, none));
         ends = λ p. absurd (omega (arith, p, none));
       };
+      image = m.image;
       undo = m.undo;
     }
 
@@ -132,7 +134,7 @@ same_start h new p (inl e) = absurd (omega (arith, p, e))
 same_start h new p (inr e) = e
 
 -- a block less
-pub freed-mapped : (o : Origin) (n at : ℕ) (h new : HeapMap) (states : List Saved)
+pub freed-mapped : (o : Origin) (n at : ℕ) (h new : HeapMap) (states : UndoList)
     → freed h at ≡ Ok new
     → IsTrue (is_heap new.start new.blocks)
     → heap_end new.blocks ≤ 16777216 → h.start ≤ 16777216
@@ -158,7 +160,7 @@ none_over endmem n = record {
 }
 
 -- a state of the story in place of memory and heap
-pub resumed-mapped : (o : Origin) (n : ℕ) (h : HeapMap) (states : List Saved) (s : Saved)
+pub resumed-mapped : (o : Origin) (n : ℕ) (h : HeapMap) (states : UndoList) (s : Saved)
     → IsMapped o n h states → IsSavedOf o s
     → IsMapped o (length s.memory.bytes) (record { start = s.heap_start; blocks = s.heap }) states
 resumed-mapped o n h states s m saved =
@@ -169,15 +171,9 @@ resumed-mapped o n h states s m saved =
       heap =
           subst (λ e. IsHeapOver e (length s.memory.bytes) s.heap_start s.heap)
           endmem saved.saved.heap;
+      image = m.image;
       undo = m.undo;
     }
-
-pub newest-saved : (o : Origin) (states : List Saved) (s : Saved)
-    → All (IsSavedOf o) states → newest states ≡ Some s
-    → IsSavedOf o s
-newest-saved o [] s all e = cc
-newest-saved o (t ∷ states) s all e =
-    let same : t ≡ s = cc in subst (IsSavedOf o) same (all 0 t (omega arith))
 
 -- what is saved of a machine with a stub on top
 pub saved_of : (m : Machine)
@@ -245,10 +241,17 @@ state-fit m s memory stack heap bytes blocks bytes_are blocks_are keeps is load 
     }
 
 -- other states that undo keeps
-with_states : (m : Machine) (states : List Saved)
-    → IsFit m → All (IsSavedOf (origin_of m.memory)) states → IsFit (record m { undo = states })
-with_states m states fit all = record {
-  map = record { page = fit.map.page; size = fit.map.size; heap = fit.map.heap; undo = all };
+with_states : (m : Machine) (u : UndoList)
+    → IsFit m → u.origin ≡ origin_of m.memory → All (IsSavedOf (origin_of m.memory)) u.states
+    → IsFit (record m { undo = u })
+with_states m u fit image all = record {
+  map = record {
+    page = fit.map.page;
+    size = fit.map.size;
+    heap = fit.map.heap;
+    image = image;
+    undo = all;
+  };
   frames = fit.frames;
   frame = fit.frame;
   waits = fit.waits;
@@ -256,24 +259,39 @@ with_states m states fit all = record {
 }
 
 -- a state more is kept
-pub kept-fit : (m : Machine) (s : Saved) (states : List Saved)
-    → s ≡ saved_state m → states ≡ with_newest m.undo s
+pub kept-fit : (m : Machine) (s : Saved) (u : UndoList)
+    → s ≡ saved_state m → u ≡ saved m.undo s
     → IsFit m → IsReady m.stack
-    → IsFit (record m { undo = states })
-kept-fit m s states is kept fit ready =
+    → IsFit (record m { undo = u })
+kept-fit m s u is kept fit ready =
     let Is = IsSavedOf (origin_of m.memory) in
-    let saved : Is s = subst Is (sym is) (saved_of m fit.map fit.frames fit.frame ready) in
-    with_states m states fit
-    (subst (All Is) (sym kept)
-    (All-take Is 4 (s ∷ m.undo) (All-cons Is s m.undo saved fit.map.undo)))
+    let one : Is s = subst Is (sym is) (saved_of m fit.map fit.frames fit.frame ready) in
+    with_states m u fit (ap (λ (v : UndoList). v.origin) kept ∙ saved_origin m.undo s ∙ fit.map.image)
+    (subst (λ (v : UndoList). All Is v.states) (sym kept) (saved_all Is m.undo s fit.map.undo one))
+
+-- what is saved, by its parts
+pub saved_is : (m : Machine) (memory : MemoryMap) (stack : List ℕ) (heap : List Block) (start : ℕ)
+    → memory ≡ m.memory → stack ≡ m.stack.bytes → heap ≡ m.heap.blocks → start ≡ m.heap.start
+    → record { memory = memory; stack = stack; heap = heap; heap_start = start } ≡ saved_state m
+saved_is m memory stack heap start a b c d = rw (a, b, c, d) refl
+
+-- a state more is kept, for which memory was lent
+pub lent-fit : (m : Machine) (memory : MemoryMap) (s : Saved) (u : UndoList)
+    → memory ≡ m.memory → s ≡ saved_state m → u ≡ saved m.undo s
+    → IsFit m → IsReady m.stack
+    → IsFit (record m { memory = memory; undo = u })
+lent-fit m memory s u same is kept fit ready =
+    subst (λ (x : MemoryMap). IsFit (record m { memory = x; undo = u })) (sym same)
+    (kept-fit m s u is kept fit ready)
 
 -- the newest state is taken
-pub taken-fit : (m : Machine) (states : List Saved)
-    → states ≡ without_newest m.undo → IsFit m
-    → IsFit (record m { undo = states })
-taken-fit m states is fit =
+pub taken-fit : (m : Machine) (u : UndoList)
+    → u ≡ without_newest m.undo → IsFit m
+    → IsFit (record m { undo = u })
+taken-fit m u is fit =
     let Is = IsSavedOf (origin_of m.memory) in
-    with_states m states fit (subst (All Is) (sym is) (All-drop Is 1 m.undo fit.map.undo))
+    with_states m u fit (ap (λ (v : UndoList). v.origin) is ∙ fit.map.image)
+    (subst (λ (v : UndoList). All Is v.states) (sym is) (before_all Is m.undo.states fit.map.undo))
 
 -- memory that ends elsewhere
 pub ended : (m new : Machine) (end n : ℕ) (r : Result (Unit {0}) Trap)

@@ -54,7 +54,7 @@ lies image m new over k =
       verified = sym kept.verified ∙ over.verified;
       start_function = sym kept.start_function ∙ over.start_function;
       first_table = sym kept.first_table ∙ over.first_table;
-      within = subst (λ (n : ℕ). IsWithin n new.mode new.undo) over.limit (k.within refl);
+      within = subst (λ (n : ℕ). IsWithin n new.mode new.undo.states) over.limit (k.within refl);
     }
 
 ok-on : {A E : Type 0} (P Q : Type 0) (r : Result A E) → OnOk r P → (P → Q) → OnOk r Q
@@ -66,7 +66,7 @@ Mapped m = IsMapped (origin_of m.memory) (length m.memory.bytes) m.heap m.undo
 
 -- a machine keeps what it has itself, within its limits where it is known to be
 begins : (b : Bool) (m : Machine)
-    → Mapped m → (IsTrue b → IsWithin m.stack.limit m.mode m.undo) → Over (base_of b m) m
+    → Mapped m → (IsTrue b → IsWithin m.stack.limit m.mode m.undo.states) → Over (base_of b m) m
 begins b m map within = record {
   memory = refl;
   limit = refl;
@@ -81,7 +81,7 @@ free m map = begins false m map (λ t. absurd cc)
 bound : (image : List ℕ) (m : Machine) → Mapped m → IsOver image m → Over (base_of true m) m
 bound image m map over =
     begins true m map
-    (λ t. subst (λ (n : ℕ). IsWithin n m.mode m.undo) (sym over.limit) over.within)
+    (λ t. subst (λ (n : ℕ). IsWithin n m.mode m.undo.states) (sym over.limit) over.within)
 
 stepped : (b : Bool) (left : ℕ) (m new : Machine) (x : t.Text) (r : Result Step Trap)
     → Does (row.step_within left (row.charged (row.due m x))) new r
@@ -168,8 +168,11 @@ resume_over image m mid new s x r put back f h over =
 
 -- no state is kept, and output goes nowhere
 pub none_within : (n : ℕ) → IsWithin n 0 []
-none_within n =
-    record { system = omega arith; few = omega arith; held = λ k d l. absurd (omega (arith, l)) }
+none_within n = record {
+  system = omega arith;
+  limits = record { few = omega arith; light = omega arith };
+  held = λ k d l. absurd (omega (arith, l));
+}
 
 -- the machine with which a story begins lies over its image
 pub started_over : (image : List ℕ) (memory : MemoryMap) (stack new : StackState) (at pc : ℕ)

@@ -76,7 +76,7 @@ pub record Kept (o : Base) (image : Origin) (size : ℕ) (states : List Saved) (
 
 -- of a machine; any other part of it may change
 abbrev pub Over : Base → Machine → Type 0
-Over o m = Kept o (origin_of m.memory) m.stack.limit m.undo (fixed_of m) m.mode
+Over o m = Kept o (origin_of m.memory) m.stack.limit m.undo.states (fixed_of m) m.mode
 
 abbrev pub OverFirst : {A : Type 0} → Base → Machine × A → Type 0
 OverFirst o p = Over o p.0
@@ -161,7 +161,7 @@ in_mode k h = record {
   limit = k.limit;
   undo = k.undo;
   fixed = k.fixed;
-  within = λ t. record { system = h; few = (k.within t).few; held = (k.within t).held };
+  within = λ t. record { system = h; limits = (k.within t).limits; held = (k.within t).held };
 }
 
 -- ---- memory and stack

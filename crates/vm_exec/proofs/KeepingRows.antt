@@ -247,7 +247,7 @@ over-state Verify m l d k = over-puts m _ _ k
 over-state Restart m l d k = over-goes (over-restarted m k)
 over-state Saveundo m l d k = over-goes (over-undo_saved m (d 0) k)
 over-state Restoreundo m l d k =
-    over-goes (over-restored m (d 0) m.undo k.undo (over-discards m k))
+    over-goes (over-restored m (d 0) k)
 over-state Protect m l d k = ok-done k
 over-state Hasundo m l d k = over-puts m _ _ k
 over-state Discardundo m l d k = ok-done (over-discards m k)

@@ -1,9 +1,7 @@
 -- The heap, undo, a restart and a save keep what memory has of its image.
-use Rattle.std.proofs.Common.{arith, length-drop, ℕ, ◌-◌, ◌%◌, ◌^◌, ◌==◌, ◌||◌, not, nat_le, nat_lt}
-use Rattle.std.proofs.Common.{Bool, true, false, List, [], ◌∷◌, length, Option, Some, None, cond}
-use Rattle.std.specs.Prelude.{All}
-use Rattle.std.proofs.lemmas.List.{length-take}
-use Rattle.std.proofs.lemmas.List.Elements.{All-cons, All-drop, All-head, All-take}
+use Rattle.std.proofs.Common.{arith, refl, ℕ, ◌-◌, ◌%◌, ◌^◌, ◌==◌, ◌||◌, not, nat_le, nat_lt}
+use Rattle.std.proofs.Common.{Bool, true, false, List, [], length, Option, Some, None, cond}
+use Rattle.std.specs.Prelude.{◌≡◌}
 use Rattle.vm_memory.specs.MemoryMap.{MemoryMap, Origin, reset, resized}
 use Rattle.vm_memory.specs.declared.memory.TheConstants.{MAX_SIZE}
 use Rattle.vm_stack.specs.StackState.{StackState}
@@ -12,7 +10,7 @@ use Rattle.vm_stack.specs.Stub.{stub_bytes}
 use Rattle.vm_heap.specs.Allocation.{freed, malloced}
 use Rattle.vm_heap.specs.HeapMap.{HeapMap}
 use Rattle.vm_undo.specs.Protection.{protected, protection_start, protection_end}
-use Rattle.vm_undo.specs.UndoList.{newest, without_newest}
+use Rattle.vm_undo.specs.UndoList.{before_newest, newest, without_newest}
 use Rattle.vm_undo.specs.declared.saved.Saved.{Saved}
 use Rattle.vm_operand.specs.declared.operand.Dest as d
 use Rattle.vm_operand.specs.declared.operand.Dest.TheVariants as dest
@@ -24,6 +22,8 @@ use Rattle.vm_exec.specs.Start.{finished_at}
 use Rattle.vm_exec.specs.declared.machine.Machine.{Machine}
 use Rattle.vm_exec.specs.declared.step.Waiting as w
 use Rattle.vm_exec.specs.declared.step.Waiting.TheVariants as waiting
+use Rattle.vm_undo.proofs.ListLemmas.{before_all, before_limits, newest_all, saved_all}
+use Rattle.vm_undo.proofs.ListLemmas.{saved_limits}
 use Rattle.vm_exec.proofs.KeepingLemmas.{Base, Gives, Has, Lies, Over, RuleOver, SavedOver}
 use Rattle.vm_exec.proofs.KeepingLemmas.{appended-within, has-called, has-stub_taken, in_memory}
 use Rattle.vm_exec.proofs.KeepingLemmas.{in_mode, keeping, ok-bind, ok-both, ok-done, ok-fault}
@@ -99,40 +99,41 @@ pub over-undo_saved : {o : Base} (m : Machine) (to : d.Dest)
     → Over o m → Gives (undo.undo_saved m to) (Over o)
 over-undo_saved {o} m to k =
     ok-bind (ok-both (over-with_stub m to k) (held-with_stub m to k.limit))
-    (λ r p. over-came_back (undo.state_kept r) 0
+    (λ r p. over-came_back (undo.state_kept r).0 (undo.save_answer (undo.state_kept r).1)
     (keeping p.0
-    (All-take (SavedOver o.origin) 4 (undo.saved_state r ∷ r.undo)
-    (All-cons (SavedOver o.origin) (undo.saved_state r) r.undo p.0.memory p.0.undo))
+    (saved_all (SavedOver o.origin) r.undo (undo.saved_state r) p.0.undo p.0.memory)
     (λ t. let w = p.0.within t in record {
       system = w.system;
-      few = let l = length-take 4 (undo.saved_state r ∷ r.undo) in omega (arith, l);
-      held =
-          All-take (IsHeldBy o.limit) 4 (undo.saved_state r ∷ r.undo)
-          (All-cons (IsHeldBy o.limit) (undo.saved_state r) r.undo p.1 w.held);
+      limits = saved_limits r.undo (undo.saved_state r) w.limits;
+      held = saved_all (IsHeldBy o.limit) r.undo (undo.saved_state r) w.held p.1;
     })))
 
 fewer : (n mode : ℕ) (states : List Saved)
-    → IsWithin n mode states → IsWithin n mode (without_newest states)
+    → IsWithin n mode states → IsWithin n mode (before_newest states)
 fewer n mode states w = record {
   system = w.system;
-  few = let few = w.few in let l = length-drop 1 states in omega (arith, few, l);
-  held = All-drop (IsHeldBy n) 1 states w.held;
+  limits = before_limits states w.limits;
+  held = before_all (IsHeldBy n) states w.held;
 }
 
 pub over-discards : {o : Base} (m : Machine)
     → Over o m → Over o (record m { undo = without_newest m.undo })
 over-discards {o} m k =
-    keeping k (All-drop (SavedOver o.origin) 1 m.undo k.undo)
-    (λ t. fewer o.limit m.mode m.undo (k.within t))
+    keeping k (before_all (SavedOver o.origin) m.undo.states k.undo)
+    (λ t. fewer o.limit m.mode m.undo.states (k.within t))
 
-pub over-restored : {o : Base} (m : Machine) (to : d.Dest) (states : List Saved)
-    → All (SavedOver o.origin) states
-    → Over o (record m { undo = without_newest states })
-    → Gives (undo.restored_from (record m { undo = without_newest states }) to (newest states))
-    (Over o)
-over-restored m to [] h k = over-stored_in 4 (record m { undo = [] }) to 1 k
-over-restored {o} m to (s ∷ states) h k =
-    over-resumed (record m { undo = states }) s k (All-head (SavedOver o.origin) s states h)
+-- a machine goes on with the state that was taken, if there was one
+over-from : {o : Base} (m : Machine) (to : d.Dest) (taken : Option Saved)
+    → ((s : Saved) → taken ≡ Some s → Lies o.origin s.memory) → Over o m
+    → Gives (undo.restored_from m to taken) (Over o)
+over-from m to None h k = over-stored_in 4 m to 1 k
+over-from m to (Some s) h k = over-resumed m s k (h s refl)
+
+pub over-restored : {o : Base} (m : Machine) (to : d.Dest) → Over o m
+    → Gives (undo.undo_restored m to) (Over o)
+over-restored {o} m to k =
+    over-from (record m { undo = without_newest m.undo }) to (newest m.undo.states)
+    (λ s e. newest_all (SavedOver o.origin) m.undo.states s k.undo e) (over-discards m k)
 
 pub over-restarted : {o : Base} (m : Machine) → Over o m → Gives (undo.restarted m) (Over o)
 over-restarted m k =

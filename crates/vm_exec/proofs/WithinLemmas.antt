@@ -4,7 +4,7 @@ use Rattle.std.proofs.Common.{Result, Ok, Err, IfOk, refl, arith, ap, sym, ◌�
 use Rattle.std.proofs.lemmas.List.{length-append, length-replicate, length-take-le}
 use Rattle.glulx_image.specs.Header.{IsLaidOut, extstart, endmem}
 use Rattle.vm_memory.specs.MemoryMap.{original, origin_of}
-use Rattle.vm_exec.specs.Machine.{IsMapped, no_heap}
+use Rattle.vm_exec.specs.Machine.{IsMapped, no_heap, no_states}
 use Rattle.vm_exec.specs.Start.{image_memory}
 use Rattle.vm_exec.proofs.FitLemmas.{none_over}
 use Rattle.vm_memory.specs.declared.fault.Trap.{Trap}
@@ -41,7 +41,8 @@ original-size rom endmem inside =
 
 pub image-mapped : (file : List ℕ)
     → IsLaidOut file
-    → IsMapped (origin_of (image_memory file)) (length (image_memory file).bytes) no_heap []
+    → IsMapped (origin_of (image_memory file)) (length (image_memory file).bytes) no_heap
+    (no_states (origin_of (image_memory file)))
 image-mapped file laid =
     let rom : length (take (extstart file) file) ≡ extstart file =
     length-take-le (extstart file) file laid.ext_inside in
@@ -55,5 +56,6 @@ image-mapped file laid =
         limit = rw size laid.end_limit;
       };
       heap = none_over (endmem file) (length (image_memory file).bytes);
+      image = refl;
       undo = λ k d l. absurd (omega (arith, l));
     }

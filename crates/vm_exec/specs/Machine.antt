@@ -4,6 +4,7 @@ use Rattle.vm_memory.specs.MemoryMap.{Origin, origin_of}
 use Rattle.vm_stack.specs.Chain.{Chain, HasFrame, IsReady}
 use Rattle.vm_heap.specs.HeapMap.{HeapMap}
 use Rattle.vm_undo.specs.SavedState.{IsSize, IsHeapOver, IsSavedOf}
+use Rattle.vm_undo.specs.UndoList.{KeepLimits, UndoList}
 use Rattle.vm_undo.specs.declared.saved.Saved.{Saved}
 use Rattle.vm_exec.specs.declared.machine.Machine.{Machine}
 use Rattle.vm_exec.specs.declared.step.Out.{Out}
@@ -16,15 +17,20 @@ use Rattle.vm_exec.specs.declared.text.Text.TheVariants.{Off}
 
 -- memory of an image, with so many bytes, a heap and the states that undo keeps: the size is one
 -- that it may have, the heap is one over it, and the states are the story's
-pub record IsMapped (o : Origin) (n : ℕ) (h : HeapMap) (states : List Saved) : Type 0 where
+pub record IsMapped (o : Origin) (n : ℕ) (h : HeapMap) (u : UndoList) : Type 0 where
   pub page : o.endmem % 256 ≡ 0
   pub size : IsSize o.endmem n
   pub heap : IsHeapOver o.endmem n h.start h.blocks
-  pub undo : All (IsSavedOf o) states
+  pub image : u.origin ≡ o
+  pub undo : All (IsSavedOf o) u.states
 
 -- a heap that isn't active
 abbrev pub no_heap : HeapMap
 no_heap = record { start = 0; blocks = [] }
+
+-- no state is kept of this image
+abbrev pub no_states : Origin → UndoList
+no_states o = record { origin = o; states = [] }
 
 -- no save is waited for
 abbrev pub WaitsForNoSave : Waiting → Type 0
@@ -70,11 +76,11 @@ pub record KeepsImage (old new : Machine) : Type 0 where
 abbrev pub IsHeldBy : ℕ → Saved → Type 0
 IsHeldBy size s = length s.stack ≤ size
 
--- the I/O system is one of the three, and undo keeps four states at most, each of which a stack of
--- this size holds
+-- the I/O system is one of the three, and undo keeps states within its limits, each of which a
+-- stack of this size holds
 pub record IsWithin (size mode : ℕ) (states : List Saved) : Type 0 where
   pub system : mode ≤ 2
-  pub few : length states ≤ 4
+  pub limits : KeepLimits states
   pub held : All (IsHeldBy size) states
 
 -- the machine is sound unless its story is over; no text is in progress where it waits for Glk, a

@@ -9,7 +9,7 @@ use Rattle.vm_operand.specs.declared.operand.Dest.TheVariants.{Discard}
 use Rattle.vm_stack.specs.StackState.{StackState}
 use Rattle.vm_flow.specs.Call.{function_called}
 use Rattle.vm_exec.specs.Fault.{flowed}
-use Rattle.vm_exec.specs.Machine.{IsWithin, no_heap}
+use Rattle.vm_exec.specs.Machine.{IsWithin, no_heap, no_states}
 use Rattle.vm_exec.specs.Random.{seeded}
 use Rattle.vm_exec.specs.Rules.{stored}
 use Rattle.vm_exec.specs.Rows.Undo.{save_over}
@@ -34,7 +34,7 @@ pub record IsOver (image : List ℕ) (m : Machine) : Type 0 where
   pub verified : m.verified ≡ verified image
   pub start_function : m.start_function ≡ start_function image
   pub first_table : m.first_table ≡ string_table image
-  pub within : IsWithin (stack_size image) m.mode m.undo
+  pub within : IsWithin (stack_size image) m.mode m.undo.states
 
 -- the start function is called without arguments, over an empty stack
 abbrev pub started : List ℕ → ℕ → Result Machine ℕ
@@ -51,7 +51,7 @@ started file seed =
       waiting = Store Discard;
       verified = verified file;
       heap = no_heap;
-      undo = [];
+      undo = no_states (origin_of (image_memory file));
       protection = record { start = 0; length = 0 };
       random = seeded seed;
       start_function = start_function file;

@@ -1,6 +1,6 @@
 //! The fields of a machine that waits for a result, and the machine that they make.
 
-ghost use Rattle.std.specs.Prelude.{◌≡◌, ◌≤◌, true, length, All, IfNone, IfSome, IsSome};
+ghost use Rattle.std.specs.Prelude.{◌≡◌, ◌≤◌, true, length, IfNone, IfSome, IsSome};
 ghost use Rattle.vm_exec.specs.Fields as spec;
 ghost use Rattle.vm_exec.specs.Fields.{machine_of};
 ghost use Rattle.vm_exec.specs.Machine.{IsFit};
@@ -8,7 +8,8 @@ ghost use Rattle.vm_exec.specs.Start.{IsOver, image_memory};
 ghost use Rattle.glulx_image.specs.Header.{stack_size};
 ghost use Rattle.vm_memory.specs.MemoryMap.{origin_of};
 ghost use Rattle.vm_stack.specs.Chain.{Chain, HasFrame};
-ghost use Rattle.vm_undo.specs.SavedState.{IsHeapOver, IsSavedWithin, IsSize};
+ghost use Rattle.vm_undo.specs.SavedState.{IsHeapOver, IsSize};
+ghost use Rattle.vm_undo.specs.UndoList.{KeepLimits, KeepsOf};
 
 use crate::Machine;
 use crate::random::Random;
@@ -85,11 +86,10 @@ impl<'i> MachineFields<'i> {
     // Whether what undo keeps is of the story.
     fn has_undo(&self, image: &Image<'_>) -> bool
         ensures only { result ≡ true
-            → All (IsSavedWithin (origin_of self.now.memory) (stack_size image.now))
-            self.now.undo }
-        ensures found { All (IsSavedWithin (origin_of self.now.memory) (stack_size image.now))
-            self.now.undo → result ≡ true }
-        ensures few { length self.now.undo ≤ 4 }
+            → KeepsOf (origin_of self.now.memory) (stack_size image.now) self.now.undo }
+        ensures found { KeepsOf (origin_of self.now.memory) (stack_size image.now) self.now.undo
+            → result ≡ true }
+        ensures within { KeepLimits self.now.undo.states }
     {
         let _any = self.undo.has();
         self.undo.are_of(&self.memory, image.stack_size())

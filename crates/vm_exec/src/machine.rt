@@ -6,7 +6,7 @@ ghost use Rattle.vm_exec.specs.Answer.{Changes, Does, MakesValue};
 ghost use Rattle.vm_exec.specs.Fault.{flowed};
 ghost use Rattle.vm_exec.specs.Row.{IsPriced, charged, due, fetched, row, step_within};
 ghost use Rattle.vm_exec.specs.Machine.{GoesOnFit, IsFit, IsMapped, IsSaving, IsSoundMachine};
-ghost use Rattle.vm_exec.specs.Machine.{KeepsImage, no_heap};
+ghost use Rattle.vm_exec.specs.Machine.{KeepsImage, no_heap, no_states};
 ghost use Rattle.vm_exec.specs.Start as start;
 ghost use Rattle.vm_exec.specs.Start.{IsOver, finished, started};
 ghost use Rattle.vm_exec.specs.declared.text.Text.TheVariants as text;
@@ -67,6 +67,7 @@ impl<'i> Machine<'i> {
     {
         let memory = image_memory(alloc, image)?;
         let mut stack = empty_stack(alloc, image)?;
+        let undo = no_states(image);
         let pc = begin(alloc, &memory, &mut stack, image.start_function())?;
         Ok(Machine {
             memory,
@@ -79,7 +80,7 @@ impl<'i> Machine<'i> {
             waiting: Waiting::Store(Dest::Discard),
             verified: image.verify(),
             heap: Heap::new(alloc),
-            undo: Undo::new(),
+            undo,
             protection: Protection {
                 start: 0,
                 length: 0,
@@ -111,10 +112,11 @@ impl<'i> Machine<'i> {
     /// The next piece of the text in progress, or else the instruction at the PC: its row of the
     /// table, within so many ticks. Fault 24 where it costs more; else the row's fault.
     pub fn step(&mut self, alloc: Global, left: u64) -> Result<Step, Trap>
+        requires { IsSoundMachine self.old }
         ensures does { Does (step_within left (row self.old)) self.new result }
-        ensures fit { IsSoundMachine self.old → IfOk result (λ step. GoesOnFit self.new step) }
-        ensures kept { IsSoundMachine self.old → OnOk result (KeepsImage self.old self.new) }
-        ensures over { (image : List ℕ) → IsSoundMachine self.old → IsOver image self.old
+        ensures fit { IfOk result (λ step. GoesOnFit self.new step) }
+        ensures kept { OnOk result (KeepsImage self.old self.new) }
+        ensures over { (image : List ℕ) → IsOver image self.old
             → OnOk result (IsOver image self.new) }
         ensures cost { IfOk result (λ step. IsPriced left step) }
     {
@@ -151,11 +153,12 @@ impl<'i> Machine<'i> {
         held: bool,
         left: u64,
     ) -> Result<Step, Trap>
-        requires { 0 < left }
+        requires some { 0 < left }
+        requires sound { IsSoundMachine self.old }
         ensures does { Does
             (step_within left (charged (due self.old (text.Number value place held))))
             self.new result }
-        ensures fit { IsSoundMachine self.old → IfOk result (λ step. GoesOnFit self.new step) }
+        ensures fit { IfOk result (λ step. GoesOnFit self.new step) }
         ensures cost { IfOk result (λ step. IsPriced left step) }
     {
         self.text = Text::Off;
@@ -169,9 +172,10 @@ impl<'i> Machine<'i> {
 
     // One tick, and then the instruction at the PC.
     fn instruction(&mut self, alloc: Global, left: u64) -> Result<Step, Trap>
-        requires { 0 < left }
+        requires some { 0 < left }
+        requires fit { IsFit self.old }
         ensures does { Does (step_within left (charged (fetched self.old))) self.new result }
-        ensures fit { IsFit self.old → IfOk result (λ step. GoesOnFit self.new step) }
+        ensures fit { IfOk result (λ step. GoesOnFit self.new step) }
         ensures cost { IfOk result (λ step. IsPriced left step) }
     {
         let instr = decode(&self.memory, self.pc)?;
@@ -188,13 +192,21 @@ impl<'i> Machine<'i> {
 fn image_memory<'i>(alloc: Global, image: &Image<'i>) -> Result<Memory<'i>, Trap>
     ensures value { MakesValue (Ok (start.image_memory image.now)) result }
     ensures map { IfOk result (λ memory. IsMapped (origin_of memory)
-        (length memory.bytes) no_heap []) }
+        (length memory.bytes) no_heap (no_states (origin_of memory))) }
 {
     let rom = &image.bytes()[..image.extstart() as usize];
     match Memory::new(alloc, rom, image.ramstart(), image.endmem()) {
         Ok(memory) => Ok(memory),
         Err(_) => Err(Trap::NoMemory),
     }
+}
+
+// No state is kept.
+fn no_states<'i>(image: &Image<'i>) -> Undo<'i>
+    ensures value { result ≡ no_states (origin_of (start.image_memory image.now)) }
+{
+    let rom = &image.bytes()[..image.extstart() as usize];
+    Undo::new(rom, image.ramstart(), image.endmem())
 }
 
 // A stack with nothing on it.

@@ -26,10 +26,11 @@ impl<'i> Machine<'i> {
         to: &[Dest; 2],
         left: u64,
     ) -> Result<Done, Trap>
+        requires { IsFit self.old }
         ensures does { Does
             (budgeted left (work op self.old (slice_index args.now) (dest_by_index to.now)))
             self.new result }
-        ensures fit { IsFit self.old → IfOk result (λ done. StaysFit self.new done.out) }
+        ensures fit { IfOk result (λ done. StaysFit self.new done.out) }
         ensures within { IfOk result (λ done. done.cost ≤ left) }
     {
         match op {
@@ -56,11 +57,12 @@ impl<'i> Machine<'i> {
         to: &[Dest; 2],
         left: u64,
     ) -> Result<Step, Trap>
-        requires { 0 < left }
+        requires some { 0 < left }
+        requires fit { IsFit self.old }
         ensures does { Does
             (step_within left (charged (Ok (work_of op self.old args.now to.now))))
             self.new result }
-        ensures fit { IsFit self.old → IfOk result (λ step. GoesOnFit self.new step) }
+        ensures fit { IfOk result (λ step. GoesOnFit self.new step) }
         ensures cost { IfOk result (λ step. IsPriced left step) }
     {
         match op {

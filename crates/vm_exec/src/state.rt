@@ -60,10 +60,11 @@ impl<'i> Machine<'i> {
     }
 
     fn saveundo(&mut self, alloc: Global, to: Dest, left: u64) -> Result<Done, Trap>
+        requires { IsFit self.old }
         ensures does { Does
             (budgeted left (Costs (undo.pages self.old) (undo.saves_undo self.old to)))
             self.new result }
-        ensures fit { IsFit self.old → IfOk result (λ done. StaysFit self.new done.out) }
+        ensures fit { IfOk result (λ done. StaysFit self.new done.out) }
         ensures within { IfOk result (λ done. done.cost ≤ left) }
     {
         let cost = self.charge_pages(left)?;
@@ -122,11 +123,12 @@ impl<'i> Machine<'i> {
         to: &[Dest; 2],
         left: u64,
     ) -> Result<Done, Trap>
+        requires { IsFit self.old }
         ensures does { Does
             (budgeted left
             (rows.state_work op self.old (slice_index args.now) (dest_by_index to.now)))
             self.new result }
-        ensures fit { IsFit self.old → IfOk result (λ done. StaysFit self.new done.out) }
+        ensures fit { IfOk result (λ done. StaysFit self.new done.out) }
         ensures within { IfOk result (λ done. done.cost ≤ left) }
     {
         match op {

@@ -1,7 +1,7 @@
 //! Saved states, restart and the protected range.
 
 ghost use Rattle.std.specs.Prelude.{◌≡◌, ◌≤◌, ℕ, List, length, IsTrue, IfOk, OnOk, Ok};
-ghost use Rattle.vm_exec.specs.Answer.{Changes, MakesValue};
+ghost use Rattle.vm_exec.specs.Answer.{Changes, Does, MakesValue};
 ghost use Rattle.vm_exec.specs.Machine.{IsFit, IsSaving, KeepsImage, StaysFit};
 ghost use Rattle.vm_exec.specs.Rows.Undo as rows;
 ghost use Rattle.vm_exec.specs.Rows.Work.{DoesAtNoCost};
@@ -17,10 +17,11 @@ use crate::machine::begin;
 use crate::step::{Done, Out};
 use crate::trap::of_stack;
 use std::alloc::{AllocError, Global};
+use std::mem;
 use vm_heap::Heap;
 use vm_memory::{Memory, Trap};
 use vm_operand::Dest;
-use vm_undo::{Blocks, Saved, StackBytes, protect};
+use vm_undo::{Blocks, Kept, Saved, StackBytes, protect};
 
 /// The range of so many bytes that restart and each restore leave as it is.
 #[derive(Clone, Copy, Debug, PartialEq, Eq)]
@@ -117,38 +118,55 @@ impl<'i> Machine<'i> {
         self.come_back(0xFFFF_FFFF)
     }
 
-    // The state is kept, with the stub on top.
-    fn keep_state(&mut self, alloc: Global) -> Result<(), Trap>
-        ensures does { Changes (Ok (rows.state_kept self.old)) self.new result }
-        ensures fit { IsFit self.old → IsReady self.old.stack → OnOk result (IsFit self.new) }
-        ensures own { IsFit self.old → IsReady self.old.stack
-            → OnOk result (EndsInOwnStub self.new.stack) }
+    // The state is kept, with the stub on top, unless it is too large. Memory is lent for it, and not
+    // copied.
+    fn keep_state(&mut self, alloc: Global) -> Result<Kept, Trap>
+        requires fit { IsFit self.old }
+        requires ready { IsReady self.old.stack }
+        ensures does { Does (Ok (rows.state_kept self.old)) self.new result }
+        ensures fit { OnOk result (IsFit self.new) }
+        ensures own { OnOk result (EndsInOwnStub self.new.stack) }
     {
-        match self.saved(alloc) {
-            Ok(state) => {
-                self.undo.keep(state);
-                Ok(())
-            }
+        let Ok(stack) = self.stack.copy_bytes(alloc) else {
+            return Err(Trap::NoMemory);
+        };
+        let Ok(blocks) = Vec::from_slice(alloc, self.heap.blocks()) else {
+            return Err(Trap::NoMemory);
+        };
+        let fresh = self.memory.fresh();
+        let state = Saved {
+            memory: mem::replace(&mut self.memory, fresh),
+            stack: StackBytes::of(stack),
+            heap: Blocks::of(blocks),
+            heap_start: self.heap.start(),
+        };
+        let kept = self.undo.save(alloc, &state);
+        let Saved { memory, .. } = state;
+        self.memory = memory;
+        match kept {
+            Ok(kept) => Ok(kept),
             Err(_) => Err(Trap::NoMemory),
         }
     }
 
     pub(crate) fn save_undo(&mut self, alloc: Global, to: Dest) -> Result<(), Trap>
+        requires { IsFit self.old }
         ensures does { Changes (rows.undo_saved self.old to) self.new result }
-        ensures fit { IsFit self.old → OnOk result (IsFit self.new) }
+        ensures fit { OnOk result (IsFit self.new) }
     {
         self.push_stub_for(to)?;
-        self.keep_state(alloc)?;
-        self.come_back(0)
+        let kept = self.keep_state(alloc)?;
+        self.come_back(answer_of(kept))
     }
 
     pub(crate) fn restore_undo(&mut self, alloc: Global, to: Dest) -> Result<(), Trap>
         ensures does { Changes (rows.undo_restored self.old to) self.new result }
         ensures fit { IsFit self.old → OnOk result (IsFit self.new) }
     {
-        match self.undo.restore() {
-            Some(state) => self.resume(alloc, state),
-            None => self.store(to, 1),
+        match self.undo.restore(alloc) {
+            Ok(Some(state)) => self.resume(alloc, state),
+            Ok(None) => self.store(to, 1),
+            Err(_) => Err(Trap::NoMemory),
         }
     }
 
@@ -176,27 +194,22 @@ impl<'i> Machine<'i> {
         self.tell(Out::Ran)
     }
 
-    // The original memory, but for the protected bytes.
-    fn original(&self, alloc: Global) -> Result<Memory<'i>, Trap>
+    // The original memory, but for the protected bytes. It takes no memory for pages that are dropped.
+    fn original(&self) -> Result<Memory<'i>, Trap>
         ensures does { MakesValue (Ok (rows.sparing self.now (reset self.now.memory))) result }
         ensures origin { IfOk result (λ m. origin_of m ≡ origin_of self.now.memory) }
         ensures size { IfOk result (λ m. length m.bytes ≡ m.endmem) }
     {
-        match self.memory.copy_of(alloc) {
-            Ok(mut memory) => {
-                memory.reset();
-                self.spare(&mut memory)?;
-                Ok(memory)
-            }
-            Err(_) => Err(Trap::NoMemory),
-        }
+        let mut memory = self.memory.fresh();
+        self.spare(&mut memory)?;
+        Ok(memory)
     }
 
     pub(crate) fn restart(&mut self, alloc: Global) -> Result<(), Trap>
         ensures does { Changes (rows.restarted self.old) self.new result }
         ensures fit { IsFit self.old → OnOk result (IsFit self.new) }
     {
-        self.memory = self.original(alloc)?;
+        self.memory = self.original()?;
         self.heap = Heap::new(alloc);
         self.empty_stack()?;
         self.pc = begin(alloc, &self.memory, &mut self.stack, self.start_function)?;
@@ -212,5 +225,15 @@ impl<'i> Machine<'i> {
             self.new result }
     {
         self.stack.cut(0).map_err(of_stack)
+    }
+}
+
+// What saveundo stores.
+fn answer_of(kept: Kept) -> u32
+    ensures { result ≡ rows.save_answer kept }
+{
+    match kept {
+        Kept::Kept => 0,
+        Kept::TooLarge => 1,
     }
 }

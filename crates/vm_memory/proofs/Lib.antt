@@ -4,3 +4,4 @@ pub mod LaidLemmas
 pub mod CodeLemmas
 pub mod OwnLemmas
 pub mod StandardFacts
+pub mod ChangeLemmas

@@ -1,6 +1,6 @@
 -- The memory map (Glulx 3.1.3, "The Memory Map").
 use Rattle.std.specs.Prelude.{◌≡◌, ◌≤◌, ℕ, ◌+◌, ◌-◌, List, ◌++◌, length}
-use Rattle.std.specs.Prelude.{take, drop, replicate}
+use Rattle.std.specs.Prelude.{◌≢◌, ◌<◌, take, drop, replicate, slice_index}
 use Rattle.byteorder.specs.Endian.{big_number}
 
 -- the bytes of memory, those from RAMSTART on writable; and the original list, which is the file's
@@ -14,6 +14,10 @@ pub record MemoryMap : Type 0 where
 -- the bytes of a file, and then zeros up to the end of memory
 abbrev pub original : List ℕ → ℕ → List ℕ
 original rom endmem = rom ++ replicate (endmem - length rom) 0
+
+-- the byte of the original list at an address, and 0 past its end
+abbrev pub original_byte : MemoryMap → ℕ → ℕ
+original_byte m at = slice_index (original m.rom m.endmem) at
 
 -- the memory of a file as a story begins
 abbrev pub memory_of : List ℕ → ℕ → ℕ → MemoryMap
@@ -63,3 +67,10 @@ origin_of m = record { ramstart = m.ramstart; rom = m.rom; endmem = m.endmem }
 pub record KeepsMap (old new : MemoryMap) : Type 0 where
   pub origin : origin_of old ≡ origin_of new
   pub size : length old.bytes ≡ length new.bytes
+
+-- the first address from one on at which memory isn't as it was at first, or its end
+pub record IsNextChange (m : MemoryMap) (from at : ℕ) : Type 0 where
+  pub least : from ≤ at
+  pub within : at ≤ length m.bytes
+  pub same : (i : ℕ) → from ≤ i → i < at → slice_index m.bytes i ≡ original_byte m i
+  pub other : at < length m.bytes → slice_index m.bytes at ≢ original_byte m at

@@ -29,8 +29,9 @@ pub(crate) fn byte_at(rom: &[u8], ramstart: u32, rows: &[Row], at: u32) -> u8
     }
 }
 
-// The image's byte at an address, and 0 past its end.
-fn image_byte(rom: &[u8], at: u32) -> u8
+/// The image's byte at an address, and 0 past its end.
+#[inline(always)]
+pub(crate) fn image_byte(rom: &[u8], at: u32) -> u8
     ensures { result ≡ slice_index rom.now at }
 {
     match rom.get(at as usize) {

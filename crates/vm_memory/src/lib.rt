@@ -2,6 +2,7 @@
 #![tactic(auto)]
 
 mod access;
+mod changes;
 mod code;
 mod fault;
 pub mod faults;

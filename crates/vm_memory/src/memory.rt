@@ -99,6 +99,23 @@ impl<'i> Memory<'i> {
         self.size = self.endmem;
     }
 
+    /// The original memory over the same file. It takes no memory of the host
+    /// (Glulx 3.1.3, "Game State").
+    #[tactic(auto, using(crate::proofs::LaidLemmas::laid_original, crate::proofs::OwnLemmas::own_original))]
+    pub fn fresh(&self) -> Memory<'i>
+        ensures value { result ≡ reset self.now }
+        ensures own { own_pages result ≡ 0 }
+    {
+        Memory {
+            alloc: self.alloc,
+            rom: self.rom,
+            endmem: self.endmem,
+            ramstart: self.ramstart,
+            size: self.endmem,
+            rows: Vec::new(self.alloc),
+        }
+    }
+
     /// An equal memory over the same file. It holds copies of the held pages alone.
     #[tactic(auto, using(crate::proofs::LaidLemmas::laid_alike))]
     pub fn copy_of(&self, alloc: Global) -> Result<Memory<'i>, AllocError>
@@ -154,6 +171,7 @@ impl<'i> Memory<'i> {
     pub fn rom(&self) -> &'i [u8]
         ensures value { result.now ≡ self.now.rom }
         ensures kept { KeepsRom self.now.ramstart self.now.rom self.now.bytes }
+        ensures extent { length self.now.rom ≤ self.now.endmem }
     {
         self.rom
     }

@@ -17,10 +17,10 @@ pub(crate) type Page = Vec<u8>;
 /// The pages of 64 numbers.
 pub(crate) type Row = Vec<Page>;
 
-// What the vector at a place holds.
+/// What the vector at a place holds.
 #[inline(always)]
 #[tactic(auto, using(crate::proofs::RowLemmas::items_at_read, crate::proofs::RowLemmas::items_at_past))]
-fn items_of<T>(vectors: &[Vec<T>], n: usize) -> &[T]
+pub(crate) fn items_of<T>(vectors: &[Vec<T>], n: usize) -> &[T]
     ensures { result.now ≡ items_at vectors.now n }
 {
     match vectors.get(n) {

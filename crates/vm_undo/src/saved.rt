@@ -53,8 +53,8 @@ impl<'i> Saved<'i> {
     }
 }
 
-// Whether the bytes are a saved stack, and at most so many.
-fn is_stack(bytes: &[u8], most: u32) -> bool
+/// Whether the bytes are a saved stack, and at most so many.
+pub(crate) fn is_stack(bytes: &[u8], most: u32) -> bool
     requires { most ≤ MAX_STACK }
     ensures only { result ≡ true → SavedStack bytes.now × (length bytes.now ≤ most) }
     ensures found { SavedStack bytes.now → length bytes.now ≤ most → result ≡ true }

@@ -8,8 +8,10 @@ use Rattle.vm_stack.specs.Frame.{stack_loaded}
 use Rattle.vm_stack.specs.Stub.{stub_taken}
 use Rattle.vm_flow.specs.Call.{function_called}
 use Rattle.vm_undo.specs.Protection.{protected}
-use Rattle.vm_undo.specs.UndoList.{with_newest, without_newest, newest, has_any}
+use Rattle.vm_undo.specs.UndoList.{answer, has_any, newest, saved, without_newest}
 use Rattle.vm_undo.specs.declared.saved.Saved.{Saved}
+use Rattle.vm_undo.specs.declared.undo.Kept.{Kept}
+use Rattle.vm_undo.specs.declared.undo.Kept.TheVariants as kept
 use Rattle.vm_operand.specs.declared.operand.Dest as d
 use Rattle.vm_operand.specs.declared.operand.Dest.TheVariants.{Discard}
 use Rattle.vm_exec.specs.Fault.{stacked, flowed}
@@ -56,13 +58,20 @@ came_back m x =
 abbrev pub resumed : Machine → Saved → Result Machine ℕ
 resumed m s = with_state m s >>= (λ n. came_back n (2 ^ 32 - 1))
 
--- the machine's state is kept
-abbrev pub state_kept : Machine → Machine
-state_kept m = record m { undo = with_newest m.undo (saved_state m) }
+-- the machine's state is kept, unless it is too large, and whether it is
+abbrev pub state_kept : Machine → Machine × Kept
+state_kept m = (record m { undo = saved m.undo (saved_state m) }, answer (saved_state m))
 
--- the state is kept with a stub for the store on its stack, and the result is 0
+-- the result of saveundo: 1 where the state is too large
+abbrev pub save_answer : Kept → ℕ
+save_answer kept.Kept = 0
+save_answer kept.TooLarge = 1
+
+-- the state is kept with a stub for the store on its stack, which is then taken off again with the
+-- result
 abbrev pub undo_saved : Machine → d.Dest → Result Machine ℕ
-undo_saved m to = with_stub m to >>= (λ n. came_back (state_kept n) 0)
+undo_saved m to =
+    with_stub m to >>= (λ n. came_back (state_kept n).0 (save_answer (state_kept n).1))
 
 -- the newest state is taken and restored; where there is none the result is 1
 abbrev pub restored_from : Machine → d.Dest → Option Saved → Result Machine ℕ
@@ -71,7 +80,7 @@ restored_from m to (Some s) = resumed m s
 
 abbrev pub undo_restored : Machine → d.Dest → Result Machine ℕ
 undo_restored m to =
-    restored_from (record m { undo = without_newest m.undo }) to (newest m.undo)
+    restored_from (record m { undo = without_newest m.undo }) to (newest m.undo.states)
 
 abbrev pub stack_emptied : StackState → StackState
 stack_emptied s = record s { bytes = []; frame = 0 }
@@ -126,7 +135,7 @@ protects m start n = goes (record m { protection = record { start = start; lengt
 
 -- 0 where a state is kept
 abbrev pub tells_undo : Machine → d.Dest → Rule
-tells_undo m to = puts m to (if has_any m.undo then 0 else 1)
+tells_undo m to = puts m to (if has_any m.undo.states then 0 else 1)
 
 abbrev pub discards : Machine → Rule
 discards m = goes (record m { undo = without_newest m.undo })

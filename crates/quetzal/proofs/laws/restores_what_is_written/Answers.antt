@@ -1,4 +1,4 @@
-use Rattle.quetzal.proofs.RunLemmas.{restored_again}
+use Rattle.vm_undo.proofs.RunLemmas.{restored_again}
 use Rattle.quetzal.proofs.laws.restores_what_is_written.Goals as goal
 
 pub returns : goal.returns

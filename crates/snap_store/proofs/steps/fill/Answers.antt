@@ -1,3 +1,5 @@
+use Rattle.std.proofs.lemmas.Result.{MatchResult-from_err}
+use Rattle.disk_model.proofs.CountLaws.{answered, calls_then, failed_farther, refused}
 use Rattle.std.proofs.Common.{◌≡◌, ◌∙◌, ◌+◌, ap, subst, sym, arith, rules, length, Bool, List, ℕ}
 use Rattle.std.specs.Prelude.{IsTrue}
 use Rattle.disk_model.proofs.WorkLaws.{on_ok, then_, through}
@@ -60,3 +62,28 @@ returns-clause-triple g c area beside_area beside spares =
           (omega (arith, c.ranges.count.fits)) c.requires spares
           (each file (g.met.D.Disk.seen_may_stay d)))) c.write_through.ensures.ok;
     }
+
+pub returns-in_err-write_at-clause-calls : goal.returns-in_err-write_at-clause-calls
+returns-in_err-write_at-clause-calls g c told =
+    let long : length c.head_bytes.result ≡ 16 =
+    ap (λ (l : List ℕ). length l) c.head_bytes.ensures
+    ∙ length-head c.args.place c.args.count (length c.args.bytes.now) in
+    MatchResult-from_err _ _ _ c.from_residual.ensures.0
+    (λ e. (
+      0,
+      omega arith,
+      failed_farther (omega (arith, c.start.ensures, long))
+          (refused (c.start.result + length c.head_bytes.result) (λ found. found.clock)
+          (c.in_err-write_at.ensures.only told) (c.write_at.ensures.clock told)
+          c.write_at.ensures.listed),
+    ))
+
+pub returns-clause-calls : goal.returns-clause-calls
+returns-clause-calls g c told =
+    calls_then g.D.Disk.room c.write_through.new.disk c.write_through.result 1 2
+    (c.start-2.result + 16 + length c.args.bytes.now) _
+    (answered (λ is_err. absurd (cc)) c.in_ok-write_at.ensures.err
+    (c.in_ok-write_at.ensures.clock told) c.write_at.ensures.listed)
+    c.write_at.ensures.kept.size (omega (arith, c.start-2.ensures))
+    (c.write_through.ensures.calls
+    (subst (λ (b : Bool). IsTrue b) (sym c.write_at.ensures.kept.telling) told))

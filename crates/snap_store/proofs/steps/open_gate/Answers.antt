@@ -1,4 +1,4 @@
-use Rattle.std.proofs.Common.{◌∷◌, []}
+use Rattle.std.proofs.Common.{◌∷◌, [], sym}
 use Rattle.std.specs.Prelude.{Some}
 use Rattle.disk_model.proofs.WorkLaws.{through}
 use Rattle.snap_store.proofs.LaidLemmas.{laid_gate_torn, laid_opened}
@@ -12,3 +12,6 @@ returns-clause-triple g c area beside_area beside =
     (λ f d laid torn.
     laid_gate_torn side (Some area) beside beside_area f d (rw c.gate.ensures at torn) laid)
     (λ d laid. rw c.gate.ensures (laid_opened side beside beside_area area d laid))
+
+pub returns-clause-calls : goal.returns-clause-calls
+returns-clause-calls g c told = rw (sym c.gate.ensures) (c.write_through.ensures.calls told)

@@ -1,10 +1,12 @@
-use Rattle.std.proofs.Common.{◌≡◌, ◌∙◌, ap, subst}
+use Rattle.std.proofs.Common.{◌≡◌, ◌+◌, ◌∙◌, ap, length, subst}
 use Rattle.disk_model.specs.Disk.{EachImage}
 use Rattle.disk_model.proofs.WorkLaws.{done, failed}
 use Rattle.snap_store.specs.declared.side.Side.{Side}
 use Rattle.snap_store.specs.declared.slot.Slot.{Slot}
-use Rattle.snap_store.specs.File.{area_with}
-use Rattle.snap_store.specs.Slots.{opposite_side, slot_of, with_slot, taken_side}
+use Rattle.disk_model.specs.Work.{GoodCalls}
+use Rattle.disk_model.proofs.CountLaws.{FailsAmong}
+use Rattle.snap_store.specs.File.{area_with, side_start}
+use Rattle.snap_store.specs.Slots.{closing_calls, opposite_side, slot_of, with_slot, taken_side}
 use Rattle.snap_store.specs.Images.{IsLaid, Spares, IsLeft}
 use Rattle.snap_store.proofs.PutLemmas.{put_on_side}
 use Rattle.snap_store.proofs.SlotLemmas.{spares_taken}
@@ -48,3 +50,19 @@ returns-in-Err-clause-err g c =
                 (IsLaid s c.in-Err.now found.0 beside beside_area)) is found.2,
           ),
     )
+
+pub returns-in-Ok-clause-calls : goal.returns-in-Ok-clause-calls
+returns-in-Ok-clause-calls g c told =
+    let is = c.taken-side.ensures in
+    subst (λ (s : Slot). GoodCalls g.D.Disk.fails_at g.D.Disk.moment (closing_calls s + 5)
+    c.args.disk.now c.write_area.new.disk)
+    (c.of-slot.ensures ∙ ap (λ (s : Side). slot_of c.args.slots.now s) is)
+    (c.in-Ok.ensures.calls told)
+
+pub returns-in-Err-clause-calls : goal.returns-in-Err-clause-calls
+returns-in-Err-clause-calls g c told =
+    let is = c.taken-side.ensures in
+    let slot_is = c.of-slot.ensures ∙ ap (λ (s : Side). slot_of c.args.slots.now s) is in
+    subst (λ (x : Side × Slot). FailsAmong g.D.Disk.fails_at g.D.Disk.moment g.D.Disk.room
+    (side_start x.0 + 16 + length c.args.bytes.now) (closing_calls x.1 + 5) c.args.disk.now
+    c.write_area.new.disk) (λ i. (is i, slot_is i)) (c.in-Err.ensures.calls told)

@@ -1,7 +1,11 @@
-use Rattle.std.proofs.Common.{inl, inr, refl}
-use Rattle.std.specs.Prelude.{Some}
+use Rattle.std.proofs.Common.{◌≡◌, ◌+◌, ◌∙◌, ℕ, Bool, arith, inl, inr, length, refl, subst, sym}
+use Rattle.std.specs.Prelude.{Some, IsTrue}
+use Rattle.disk_model.specs.Work.{GoodCalls}
+use Rattle.disk_model.proofs.CountLaws.{among_more, among_then, good_then}
+use Rattle.snap_store.specs.Slots.{closing_calls}
+use Rattle.snap_store.proofs.CallLemmas.{gate_low}
 use Rattle.disk_model.proofs.WorkLaws.{done, failed, images_after, images_meanwhile, looser, then_}
-use Rattle.snap_store.specs.File.{area_with}
+use Rattle.snap_store.specs.File.{area_with, gate_of, side_start}
 use Rattle.snap_store.proofs.steps.write_area.Goals as goal
 
 -- the gate wasn't closed
@@ -72,3 +76,46 @@ returns-clause-triple g c area beside_area beside spares =
     (looser (λ f laid. inr (inl laid)) (c.in-Ok-fill.ensures.triple area beside_area beside spares))
     c.fill.ensures.ran.same.telling
     (looser (λ f laid. inr (inr laid)) (c.in-Ok-open_gate.ensures.triple put beside_area beside))))
+
+pub returns-in_default-clause-calls : goal.returns-in_default-clause-calls
+returns-in_default-clause-calls g c told =
+    among_more (closing_calls c.args.slot) (closing_calls c.args.slot + 5) _ _ (omega arith)
+    (gate_low c.args.side (length c.args.bytes.now)) (c.in_default.ensures.calls told)
+
+pub returns-in_default-fill-clause-calls : goal.returns-in_default-fill-clause-calls
+returns-in_default-fill-clause-calls g c told =
+    let n = closing_calls c.args.slot in
+    let told_then =
+    subst (λ (b : Bool). IsTrue b) (sym c.close_gate.ensures.ran.same.telling) told in
+    let far = side_start c.args.side + 16 + length c.args.bytes.now in
+    among_more (n + 3) (n + 5) far far (omega arith) (omega arith)
+    (among_then n 3 far far (c.in-Ok.ensures.calls told) c.close_gate.ensures.ran.same.size
+    (omega arith) (c.in_default-fill.ensures.calls told_then))
+
+pub returns-in_default-open_gate-clause-calls : goal.returns-in_default-open_gate-clause-calls
+returns-in_default-open_gate-clause-calls g c told =
+    let n = closing_calls c.args.slot in
+    let told_then =
+    subst (λ (b : Bool). IsTrue b) (sym c.close_gate.ensures.ran.same.telling) told in
+    let told_last =
+    subst (λ (b : Bool). IsTrue b) (sym c.fill.ensures.ran.same.telling) told_then in
+    let far = side_start c.args.side + 16 + length c.args.bytes.now in
+    among_more (n + 3 + 2) (n + 5) far far (omega arith) (omega arith)
+    (among_then (n + 3) 2 (gate_of c.args.side + 1) far
+    (good_then n 3 (c.in-Ok.ensures.calls told) (c.in-Ok-fill.ensures.calls told_then))
+    (c.fill.ensures.ran.same.size ∙ c.close_gate.ensures.ran.same.size)
+    (gate_low c.args.side (length c.args.bytes.now))
+    (c.in_default-open_gate.ensures.calls told_last))
+
+pub returns-clause-calls : goal.returns-clause-calls
+returns-clause-calls g c told =
+    let n = closing_calls c.args.slot in
+    let told_then =
+    subst (λ (b : Bool). IsTrue b) (sym c.close_gate.ensures.ran.same.telling) told in
+    let told_last =
+    subst (λ (b : Bool). IsTrue b) (sym c.fill.ensures.ran.same.telling) told_then in
+    subst (λ (k : ℕ). GoodCalls g.D.Disk.fails_at g.D.Disk.moment k c.args.disk.now
+    c.open_gate.new.disk) (omega arith)
+    (good_then (n + 3) 2
+    (good_then n 3 (c.in-Ok.ensures.calls told) (c.in-Ok-fill.ensures.calls told_then))
+    (c.in-Ok-open_gate.ensures.calls told_last))

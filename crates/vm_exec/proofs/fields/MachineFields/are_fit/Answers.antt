@@ -37,7 +37,7 @@ returns-clause-only c = λ yes.
     (c.has_heap.ensures.only c.if-not-has_heap.false)
     (c.has_stack_size.ensures.only c.if-not-has_stack_size.false)
     (c.is_framed.ensures.only c.if-not-is_framed.false)
-    (omega (arith, most)) (c.has_undo.ensures.only yes) c.has_undo.ensures.few
+    (omega (arith, most)) (c.has_undo.ensures.only yes) c.has_undo.ensures.within
 
 pub returns-clause-found : goal.returns-clause-found
 returns-clause-found c =

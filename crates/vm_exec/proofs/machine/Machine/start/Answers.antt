@@ -15,5 +15,5 @@ returns-clause-over c =
       verified = search rules;
       start_function = search rules;
       first_table = search rules;
-      within = rw c.new-2.ensures.value (none_within (stack_size c.args.image.now));
+      within = rw c.no_states-undo.ensures.value (none_within (stack_size c.args.image.now));
     }
