@@ -15,7 +15,7 @@ use Rattle.session_core.specs.declared.entry.Outcome.TheVariants.{Answered, Disk
 use Rattle.session_core.specs.declared.entry.Outcome.TheVariants.{OutOfMemory}
 use Rattle.host_world.specs.Events.{accept_at}
 use Rattle.host_world.specs.Sessions.{taken_in, with_entry}
-use Rattle.host_world.specs.declared.state.HostState.{HostState}
+use Rattle.host_world.specs.declared.state.JournalHost.{JournalHost}
 use Rattle.host_world.specs.declared.turn.Phase.TheVariants.{Ready, Taken}
 use Rattle.host_world.specs.declared.turn.Session.{Session}
 use Rattle.host_world.specs.declared.turn.Turn.{Turn}
@@ -67,7 +67,7 @@ module _ (h : List Entry) (by : ℕ) (commands : List Command) (d : Decision) (o
       ∙ met
 
 -- so Accept is done once its session has it
-pub accept_is : (stories : List Story) (budget : ℕ) (w : HostState) (s : ℕ) (x : Session) (t : Turn)
+pub accept_is : (stories : List Story) (budget : ℕ) (w : JournalHost) (s : ℕ) (x : Session) (t : Turn)
     (outcome : Outcome) (reply : Reply) (entry : Option Entry)
     → slice_get w.sessions s ≡ Some x → x.turn ≡ Some t → t.phase ≡ Ready outcome
     → turn_of stories budget x.history t.pass t.line outcome

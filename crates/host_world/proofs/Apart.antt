@@ -18,8 +18,8 @@ use Rattle.host_world.specs.Happenings.{cut_at, history_left, replies_of, given_
 use Rattle.host_world.specs.Headline.{AreGiven, uncounted, uncounted_outcome, uncounted_reply}
 use Rattle.host_world.specs.Sessions.{history_found}
 use Rattle.host_world.specs.Starts.{IsStart}
-use Rattle.host_world.specs.declared.event.Event.{Event}
-use Rattle.host_world.specs.declared.state.HostState.{HostState}
+use Rattle.host_world.specs.declared.event.JournalEvent.{JournalEvent}
+use Rattle.host_world.specs.declared.state.JournalHost.{JournalHost}
 use Rattle.host_world.specs.declared.turn.Session.{Session}
 use Rattle.host_world.specs.declared.turn.Turn.{Turn}
 use Rattle.host_world.proofs.Folds.{commands-accepted, commands-faulted, history-push, turn_is}
@@ -116,7 +116,7 @@ module _ (stories : List Story) (budget : ℕ) (premise : AreGiven stories budge
       (ap (λ (l : List Command). commands_in (history_found (l ++ cs))) is)
 
   pub isolated_holds :
-      (w v : HostState) (es fs : List Event) → IsStart w → IsStart v → (s : ℕ) (x y : Session)
+      (w v : JournalHost) (es fs : List JournalEvent) → IsStart w → IsStart v → (s : ℕ) (x y : Session)
       → slice_get w.sessions s ≡ Some x → slice_get v.sessions s ≡ Some y
       → commands_in x.history ≡ commands_in y.history
       → map uncounted (all_told stories budget s w es)
@@ -191,7 +191,7 @@ module _ (stories : List Story) (budget : ℕ) (premise : AreGiven stories budge
       (history_grows past (history_found (commands_in h ++ cs)))
 
   pub nothing_lost :
-      (w : HostState) (events later : List Event) → IsStart w → (s : ℕ) (x y : Session)
+      (w : JournalHost) (events later : List JournalEvent) → IsStart w → (s : ℕ) (x y : Session)
       → slice_get (run stories budget w events).sessions s ≡ Some x → x.turn ≡ None
       → slice_get (run stories budget (run stories budget w events) later).sessions s ≡ Some y
       → Grows (commands_in x.history) (commands_in y.history)

@@ -28,7 +28,7 @@ use Rattle.host_world.specs.Pending.{command_listed, pending}
 use Rattle.host_world.specs.Sessions.{in_phase, phase_set}
 use Rattle.store_events.specs.declared.disk.DiskCall.{DiskCall}
 use Rattle.store_events.specs.declared.disk.DiskCall.TheVariants.{Sync, Write}
-use Rattle.host_world.specs.declared.state.HostState.{HostState}
+use Rattle.host_world.specs.declared.state.JournalHost.{JournalHost}
 use Rattle.host_world.specs.declared.state.Step.{Step}
 use Rattle.host_world.specs.declared.state.Step.TheVariants.{GateSync, GateWrite, Idle, RepairSync}
 use Rattle.host_world.specs.declared.state.Step.TheVariants.{RepairWrite, RowSync, RowWrite}
@@ -46,7 +46,7 @@ use Rattle.host_world.proofs.Sound.{Busy, PhaseFact, RowsFact, Sound, Stands, St
 
 module _ (stories : List Story) (budget : ℕ) (premise : AreGiven stories budget) where
   -- the calls of an append
-  module _ (first : ℕ → List Entry) (past : ℕ → List Happening) (v : HostState)
+  module _ (first : ℕ → List Entry) (past : ℕ → List Happening) (v : JournalHost)
       (sound : Sound stories budget first past v) (reads : List ℕ) where
     abbrev reading_after : DiskCall → DiskState
     reading_after call = disk_after call true reads v.disk
@@ -124,7 +124,7 @@ module _ (stories : List Story) (budget : ℕ) (premise : AreGiven stories budge
         → P c
     only P here c image = subst P (sym (only_settled v.disk.seen c image)) here
 
-    abbrev after_call : DiskCall → HostState
+    abbrev after_call : DiskCall → JournalHost
     after_call call = record v { disk = reading_after call }
 
     -- what stands in each image while an append goes on, with the row behind the gate by its name

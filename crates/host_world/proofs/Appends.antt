@@ -18,7 +18,7 @@ use Rattle.host_world.specs.Happenings.{Happening, history_left}
 use Rattle.host_world.specs.Headline.{AreGiven}
 use Rattle.host_world.specs.Pending.{pending}
 use Rattle.host_world.specs.Sessions.{in_phase}
-use Rattle.host_world.specs.declared.state.HostState.{HostState}
+use Rattle.host_world.specs.declared.state.JournalHost.{JournalHost}
 use Rattle.host_world.specs.declared.state.Step.{Step}
 use Rattle.host_world.specs.declared.state.Step.TheVariants.{AskSize, CloseSync, CloseWrite}
 use Rattle.host_world.specs.declared.state.Step.TheVariants.{FirstSync, GateSync, GateWrite, Idle}
@@ -62,9 +62,9 @@ module _ (stories : List Story) (budget : ℕ) (premise : AreGiven stories budge
   nothing_pending (Some r) s x none = λ is. none
 
   -- an append begins
-  module _ (first : ℕ → List Entry) (past : ℕ → List Happening) (w : HostState)
+  module _ (first : ℕ → List Entry) (past : ℕ → List Happening) (w : JournalHost)
       (sound : Sound stories budget first past w) where
-    append_fact : (v : HostState) (r : Row) (n : ℕ) (u : Option Row) → v.uncertain ≡ u
+    append_fact : (v : JournalHost) (r : Row) (n : ℕ) (u : Option Row) → v.uncertain ≡ u
         → Busy stories budget v r → StepFact stories budget v (first_step u r n)
     append_fact v r n None is busy = (busy, is)
     append_fact v r n (Some y) is busy = (busy, (y, is))
@@ -127,15 +127,15 @@ module _ (stories : List Story) (budget : ℕ) (premise : AreGiven stories budge
         }
 
   -- what a beginning leaves
-  pub record SameHost (w v : HostState) : Type 0 where
+  pub record SameHost (w v : JournalHost) : Type 0 where
     pub up : v.up ≡ w.up
     pub rows : v.rows ≡ w.rows
     pub uncertain : v.uncertain ≡ w.uncertain
 
-  same_host : (w : HostState) → SameHost w w
+  same_host : (w : JournalHost) → SameHost w w
   same_host w = record { up = refl; rows = refl; uncertain = refl }
 
-  module _ (first : ℕ → List Entry) (past : ℕ → List Happening) (w : HostState)
+  module _ (first : ℕ → List Entry) (past : ℕ → List Happening) (w : JournalHost)
       (sound : Sound stories budget first past w) where
     as_it_is : Sound stories budget first past w × SameHost w w
     as_it_is = (sound, same_host w)

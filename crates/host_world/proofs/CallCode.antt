@@ -11,7 +11,7 @@ use Rattle.host_world.specs.Journal.{call_ended, gate_closed, host_called, comes
 use Rattle.host_world.specs.Journal.{looked, next_call, onward, with_disk}
 use Rattle.host_world.specs.Reading.{rows_in}
 use Rattle.store_events.specs.declared.disk.DiskCall.{DiskCall}
-use Rattle.host_world.specs.declared.state.HostState.{HostState}
+use Rattle.host_world.specs.declared.state.JournalHost.{JournalHost}
 use Rattle.host_world.specs.declared.state.Step.{Step}
 use Rattle.host_world.specs.declared.state.Step.TheVariants.{AskSize, CloseSync, CloseWrite}
 use Rattle.host_world.specs.declared.state.Step.TheVariants.{FirstSync, GateSync, GateWrite, Idle}
@@ -20,7 +20,7 @@ use Rattle.host_world.specs.declared.state.Step.TheVariants.{RowSync, RowWrite}
 use Rattle.host_world.specs.declared.state.Step.TheVariants.{VersionSync, VersionWrite}
 
 -- where something is under way no append begins
-pub busy_begins : (stories : List Story) (budget : ℕ) (w : HostState) (step : Step)
+pub busy_begins : (stories : List Story) (budget : ℕ) (w : JournalHost) (step : Step)
     (holder : Option ℕ) → is_idle step ≡ false → begin_held stories budget w step holder ≡ w
 busy_begins stories budget w Idle holder is = absurd cc
 busy_begins stories budget w (RepairWrite r from) holder is = refl
@@ -54,10 +54,10 @@ idle_is (VersionWrite rows) is = absurd cc
 idle_is (VersionSync rows) is = absurd cc
 
 -- the step is taken out of the host before the call ends
-abbrev without_step : HostState → HostState
+abbrev without_step : JournalHost → JournalHost
 without_step w = record w { step = Idle }
 
-closed_on : (w : HostState) (rows : List Row)
+closed_on : (w : JournalHost) (rows : List Row)
     → gate_closed (without_step w) rows ≡ gate_closed w rows
 closed_on w rows = of (version_byte w.disk.seen == 1)
   where
@@ -68,7 +68,7 @@ closed_on w rows = of (version_byte w.disk.seen == 1)
     of true = refl
     of false = refl
 
-looks_on : (w : HostState) (read : Option (List Row)) → looked (without_step w) read ≡ looked w read
+looks_on : (w : JournalHost) (read : Option (List Row)) → looked (without_step w) read ≡ looked w read
 looks_on w None = refl
 looks_on w (Some rows) = of (slice_index w.disk.seen (length (journal_bytes rows)) == 0)
   where
@@ -79,7 +79,7 @@ looks_on w (Some rows) = of (slice_index w.disk.seen (length (journal_bytes rows
     of true = closed_on w rows
     of false = refl
 
-onward_alike : (w : HostState) (step : Step) (call : DiskCall) → next_call w.rows step ≡ Some call
+onward_alike : (w : JournalHost) (step : Step) (call : DiskCall) → next_call w.rows step ≡ Some call
     → onward (without_step w) step ≡ onward w step
 onward_alike w Idle call is = absurd cc
 onward_alike w (RepairWrite r from) call is = refl
@@ -96,7 +96,7 @@ onward_alike w (CloseSync rows) call is = closed_on w rows
 onward_alike w (VersionWrite rows) call is = refl
 onward_alike w (VersionSync rows) call is = refl
 
-ended_alike : (w : HostState) (good : Bool) (step : Step) (call : DiskCall)
+ended_alike : (w : JournalHost) (good : Bool) (step : Step) (call : DiskCall)
     → next_call w.rows step ≡ Some call
     → call_ended (without_step w) good step ≡ call_ended w good step
 ended_alike w true step call is = onward_alike w step call is
@@ -115,7 +115,7 @@ ended_alike w false (CloseSync rows) call is = refl
 ended_alike w false (VersionWrite rows) call is = refl
 ended_alike w false (VersionSync rows) call is = refl
 
-may_happens : (w v : HostState) (good : Bool) (reads : List ℕ) (step : Step) (call : DiskCall)
+may_happens : (w v : JournalHost) (good : Bool) (reads : List ℕ) (step : Step) (call : DiskCall)
     → may_happen call good reads v.disk ≡ true
     → host_called w v good reads step (Some call)
     ≡ call_ended (with_disk v call good reads) good step
@@ -123,19 +123,19 @@ may_happens w v true reads step call is = rw is refl
 may_happens w v false reads step call is = rw is refl
 
 -- a call that is made, of a step that was taken out
-pub call_made : (w v u : HostState) (good : Bool) (reads : List ℕ) (call : DiskCall)
+pub call_made : (w v u : JournalHost) (good : Bool) (reads : List ℕ) (call : DiskCall)
     → next_call v.rows v.step ≡ Some call → may_happen call good reads v.disk ≡ true
     → u ≡ without_step (with_disk v call good reads)
     → call_ended u good v.step
     ≡ host_called w v good reads v.step (next_call v.rows v.step)
 call_made w v u good reads call next is alike =
-    ap (λ (z : HostState). call_ended z good v.step) alike
+    ap (λ (z : JournalHost). call_ended z good v.step) alike
     ∙ ended_alike (with_disk v call good reads) good v.step call next
     ∙ sym (may_happens w v good reads v.step call is)
     ∙ ap (λ (o : Option DiskCall). host_called w v good reads v.step o) (sym next)
 
 -- one that isn't made
-pub call_not_made : (w v : HostState) (good : Bool) (reads : List ℕ) (call : DiskCall)
+pub call_not_made : (w v : JournalHost) (good : Bool) (reads : List ℕ) (call : DiskCall)
     → next_call v.rows v.step ≡ Some call → may_happen call good reads v.disk ≡ false
     → w ≡ host_called w v good reads v.step (next_call v.rows v.step)
 call_not_made w v true reads call next is = rw (next, is) refl

@@ -16,8 +16,8 @@ use Rattle.host_world.specs.Happenings.{Ended, Happening, turn_over, ended_at}
 use Rattle.host_world.specs.Happenings.{ended_in, history_left, replies_of}
 use Rattle.host_world.specs.Pending.{pending, pending_at}
 use Rattle.host_world.specs.Sessions.{ready_reply, phase_in, phase_of, turn_ended}
-use Rattle.host_world.specs.declared.event.Event.TheVariants.{Accept, Free, Hold, Run, Take, Want}
-use Rattle.host_world.specs.declared.state.HostState.{HostState}
+use Rattle.host_world.specs.declared.event.JournalEvent.TheVariants.{Accept, Free, Hold, Run, Take, Want}
+use Rattle.host_world.specs.declared.state.JournalHost.{JournalHost}
 use Rattle.host_world.specs.declared.turn.Phase.{Phase}
 use Rattle.host_world.specs.declared.turn.Phase.TheVariants.{Asked, Begun, Broken, Freed, Kept}
 use Rattle.host_world.specs.declared.turn.Phase.TheVariants.{Plain, Ready, Taken}
@@ -34,7 +34,7 @@ use Rattle.host_world.proofs.Turning.{want_kept}
 
 module _ (stories : List Story) (budget : ℕ) where
   -- a reply is given: the turn has happened
-  module _ (first : ℕ → List Entry) (past : ℕ → List Happening) (w : HostState)
+  module _ (first : ℕ → List Entry) (past : ℕ → List Happening) (w : JournalHost)
       (sound : Sound stories budget first past w) (s : ℕ) where
     -- the past of each session, where the event tells this of s
     abbrev pub past_with : List Happening → ℕ → List Happening
@@ -133,9 +133,9 @@ module _ (stories : List Story) (budget : ℕ) where
     give_kept (Some x) is = give_turn x is x.turn refl
 
   -- the events of one session, but for Give: nothing is told
-  module _ (first : ℕ → List Entry) (past : ℕ → List Happening) (w : HostState)
+  module _ (first : ℕ → List Entry) (past : ℕ → List Happening) (w : JournalHost)
       (sound : Sound stories budget first past w) where
-    abbrev Good : HostState → Type 0
+    abbrev Good : JournalHost → Type 0
     Good v = Sound stories budget first past v
 
     take_session : (s pass : ℕ) (line : List ℕ) → w.up ≡ true → (o : Option Session)

@@ -13,7 +13,7 @@ use Rattle.store_events.specs.Disk.{disk_after}
 use Rattle.host_world.specs.Journal.{next_call, past_gate}
 use Rattle.store_events.specs.declared.disk.DiskCall.{DiskCall}
 use Rattle.store_events.specs.declared.disk.DiskCall.TheVariants.{Look, Sync, Write}
-use Rattle.host_world.specs.declared.state.HostState.{HostState}
+use Rattle.host_world.specs.declared.state.JournalHost.{JournalHost}
 use Rattle.host_world.specs.declared.state.Step.{Step}
 use Rattle.host_world.specs.declared.state.Step.TheVariants.{AskSize, CloseSync, CloseWrite}
 use Rattle.host_world.specs.declared.state.Step.TheVariants.{FirstSync, GateSync, GateWrite, Idle}
@@ -24,8 +24,8 @@ use Rattle.host_world.proofs.Lists.{some_none, some_same}
 use Rattle.host_world.proofs.Sound.{Stands, StepFact}
 
 module _ (stories : List Story) (budget : ℕ) where
-  module _ (first_images : HostState) where
-    abbrev w : HostState
+  module _ (first_images : JournalHost) where
+    abbrev w : JournalHost
     w = first_images
 
     abbrev All : DiskState → Type 0

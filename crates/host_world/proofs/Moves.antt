@@ -11,7 +11,7 @@ use Rattle.session_core.specs.declared.entry.Entry.{Entry}
 use Rattle.host_world.specs.Happenings.{Happening, history_left, replies_of, given_replies}
 use Rattle.host_world.specs.Pending.{pending}
 use Rattle.host_world.specs.declared.state.Given.{Given}
-use Rattle.host_world.specs.declared.state.HostState.{HostState}
+use Rattle.host_world.specs.declared.state.JournalHost.{JournalHost}
 use Rattle.host_world.specs.declared.state.Step.{Step}
 use Rattle.host_world.specs.declared.state.Step.TheVariants.{AskSize, CloseSync, CloseWrite}
 use Rattle.host_world.specs.declared.state.Step.TheVariants.{FirstSync, GateSync, GateWrite, Idle}
@@ -30,13 +30,13 @@ replies-append s [] m none = none
 replies-append s (g ∷ l) m none = rw (replies-append s l m none) refl
 
 -- one session is this from now on, and perhaps another holds the journal; replies were given
-abbrev pub moved : HostState → ℕ → Session → Option ℕ → List Given → HostState
+abbrev pub moved : JournalHost → ℕ → Session → Option ℕ → List Given → JournalHost
 moved w s x holder given =
     record w { sessions = set w.sessions s x; holder = holder; given = w.given ++ given }
 
 module _ (stories : List Story) (budget : ℕ) where
   -- what an event of session s may do
-  pub record Moving (first : ℕ → List Entry) (past later : ℕ → List Happening) (w : HostState)
+  pub record Moving (first : ℕ → List Entry) (past later : ℕ → List Happening) (w : JournalHost)
       (s : ℕ) (x y : Session) (holder : Option ℕ) (given : List Given) : Type 0 where
     pub at : slice_get w.sessions s ≡ Some x
     pub up : w.up ≡ true
@@ -50,10 +50,10 @@ module _ (stories : List Story) (budget : ℕ) where
         ≡ commands_in x.history ++ pending stories budget x
     pub none : pending stories budget x ≡ [] → pending stories budget y ≡ []
 
-  module _ (first : ℕ → List Entry) (past later : ℕ → List Happening) (w : HostState) (s : ℕ)
+  module _ (first : ℕ → List Entry) (past later : ℕ → List Happening) (w : JournalHost) (s : ℕ)
       (x y : Session) (holder : Option ℕ) (given : List Given)
       (m : Moving first past later w s x y holder given) where
-    abbrev new : HostState
+    abbrev new : JournalHost
     new = moved w s y holder given
 
     busy_stays : (r : Row) → Busy stories budget w r → Busy stories budget new r

@@ -36,8 +36,8 @@ use Rattle.host_world.specs.Reading.{rows_in}
 use Rattle.host_world.specs.Sessions.{history_found, found_session, found_sessions}
 use Rattle.store_events.specs.declared.disk.DiskCall.{DiskCall}
 use Rattle.store_events.specs.declared.disk.DiskCall.TheVariants.{Look, Sync, Write}
-use Rattle.host_world.specs.declared.event.Event.TheVariants.{Call}
-use Rattle.host_world.specs.declared.state.HostState.{HostState}
+use Rattle.host_world.specs.declared.event.JournalEvent.TheVariants.{Call}
+use Rattle.host_world.specs.declared.state.JournalHost.{JournalHost}
 use Rattle.host_world.specs.declared.state.Step.{Step}
 use Rattle.host_world.specs.declared.state.Step.TheVariants.{AskSize, CloseSync, CloseWrite}
 use Rattle.host_world.specs.declared.state.Step.TheVariants.{FirstSync, GateSync, GateWrite, Idle}
@@ -64,10 +64,10 @@ use Rattle.host_world.proofs.Sound.{Busy, Knows, MayBeFound, Sound, Stands, Step
 use Rattle.host_world.proofs.Sound.{stands_either_way}
 
 module _ (stories : List Story) (budget : ℕ) (premise : AreGiven stories budget) where
-  module _ (first : ℕ → List Entry) (past : ℕ → List Happening) (w v : HostState)
+  module _ (first : ℕ → List Entry) (past : ℕ → List Happening) (w v : JournalHost)
       (was : Sound stories budget first past w) (same : SameHost stories budget premise w v)
       (sound : Sound stories budget first past v) where
-    abbrev Well : HostState → Type 0
+    abbrev Well : JournalHost → Type 0
     Well new = CallsWell stories budget first past w new
 
     -- the rows that an opening may find
@@ -87,7 +87,7 @@ module _ (stories : List Story) (budget : ℕ) (premise : AreGiven stories budge
         (subst (λ (o : Option Row). IfSome o (IsNext v.rows)) is sound.next))
 
     module _ (p : DiskState) (rows : List Row) (down : v.up ≡ false) (which : Found rows) where
-      abbrev risen : HostState
+      abbrev risen : JournalHost
       risen = comes_up (record v { disk = p }) rows
 
       -- what the opening found of a session that it hadn't
@@ -161,13 +161,13 @@ module _ (stories : List Story) (budget : ℕ) (premise : AreGiven stories budge
       }
 
     -- the host stays as up as it was
-    well : (new : HostState) → new.up ≡ v.up → Sound stories budget first past new → Well new
+    well : (new : JournalHost) → new.up ≡ v.up → Sound stories budget first past new → Well new
     well new up s = same_up stories budget first past w new (up ∙ same.up) s
 
     unmoved : Well w
     unmoved = same_up stories budget first past w w refl was
 
-    if_well : (test : Bool) (new : HostState) → new.up ≡ v.up
+    if_well : (test : Bool) (new : JournalHost) → new.up ≡ v.up
         → (test ≡ true → Sound stories budget first past new) → Well (if test then new else w)
     if_well test new up then_ =
         if_kept stories budget Well new w test unmoved (λ is. well new up (then_ is))
@@ -398,7 +398,7 @@ module _ (stories : List Story) (budget : ℕ) (premise : AreGiven stories budge
           opening_fails (Write 8 (1 ∷ [])) (VersionWrite those) fact refl
       bad_well (VersionSync those) fact = opening_fails Sync (VersionSync those) fact refl
 
-  made_well : (first : ℕ → List Entry) (past : ℕ → List Happening) (w : HostState) (good : Bool)
+  made_well : (first : ℕ → List Entry) (past : ℕ → List Happening) (w : JournalHost) (good : Bool)
       (reads : List ℕ) → Sound stories budget first past w
       → CallsWell stories budget first past w
       (call_next w (begun stories budget w) good reads)
@@ -411,11 +411,11 @@ module _ (stories : List Story) (budget : ℕ) (premise : AreGiven stories budge
       let v = begun stories budget w in
       bad_well first past w v sound b.1 b.0 reads v.step b.0.step
 
-  pub call_well : (first : ℕ → List Entry) (past : ℕ → List Happening) (w : HostState) (disk : ℕ)
+  pub call_well : (first : ℕ → List Entry) (past : ℕ → List Happening) (w : JournalHost) (disk : ℕ)
       (good : Bool) (reads : List ℕ) → Sound stories budget first past w
       → CallsWell stories budget first past w (after stories budget w (Call disk good reads))
   call_well first past w disk good reads sound =
-      if_kept stories budget (λ (new : HostState). CallsWell stories budget first past w new)
+      if_kept stories budget (λ (new : JournalHost). CallsWell stories budget first past w new)
       (call_next w (begun stories budget w) good reads) w (disk == 0)
       (same_up stories budget first past w w refl sound)
       (λ is. made_well first past w good reads sound)

@@ -10,7 +10,7 @@ use Rattle.session_core.specs.declared.entry.Entry.{Entry}
 use Rattle.host_world.specs.Events.{goes_to, held_by, with_session}
 use Rattle.host_world.specs.Happenings.{Happening}
 use Rattle.host_world.specs.Sessions.{in_phase, phase_in, phase_of}
-use Rattle.host_world.specs.declared.state.HostState.{HostState}
+use Rattle.host_world.specs.declared.state.JournalHost.{JournalHost}
 use Rattle.host_world.specs.declared.turn.Phase.{Phase}
 use Rattle.host_world.specs.declared.turn.Phase.TheVariants.{Begun}
 use Rattle.host_world.specs.declared.turn.Session.{Session}
@@ -23,7 +23,7 @@ use Rattle.host_world.proofs.Sound.{Knows, RowsFact, Sound}
 module _ (stories : List Story) (budget : ℕ) where
   -- what holds of a function of a session's phase
   pub phase_kept :
-      (P : HostState → Type 0) (w : HostState) (s : ℕ) (f : Option Phase → HostState) → P (f None)
+      (P : JournalHost → Type 0) (w : JournalHost) (s : ℕ) (f : Option Phase → JournalHost) → P (f None)
       → ((x : Session) → slice_get w.sessions s ≡ Some x → (t : Turn) → x.turn ≡ Some t
       → P (f (Some t.phase)))
       → P (f (phase_of (slice_get w.sessions s)))
@@ -41,25 +41,25 @@ module _ (stories : List Story) (budget : ℕ) where
 
   -- a session whose phase goes on, as a session that is set
   pub goes_is :
-      (w : HostState) (s : ℕ) (x : Session) (t : Turn) (phase : Phase) (holder : Option ℕ)
+      (w : JournalHost) (s : ℕ) (x : Session) (t : Turn) (phase : Phase) (holder : Option ℕ)
       → slice_get w.sessions s ≡ Some x → x.turn ≡ Some t
       → moved w s (in_phase x t phase) holder [] ≡ goes_to w s phase holder
   goes_is w s x t phase holder at turn = rw (at, turn, append-nil w.given) refl
 
   -- and one that is set while nobody else takes the journal
-  pub with_is : (w : HostState) (s : ℕ) (x : Session) → moved w s x w.holder [] ≡ with_session w s x
+  pub with_is : (w : JournalHost) (s : ℕ) (x : Session) → moved w s x w.holder [] ≡ with_session w s x
   with_is w s x = rw (append-nil w.given) refl
 
-  pub held_as : (w : HostState) (s : ℕ) (x : Session) → slice_get w.sessions s ≡ Some x
+  pub held_as : (w : JournalHost) (s : ℕ) (x : Session) → slice_get w.sessions s ≡ Some x
       → moved w s x (Some s) [] ≡ record w { holder = Some s }
   held_as w s x at = rw (set_same w.sessions s x at, append-nil w.given) refl
 
-  pub if_kept : (P : HostState → Type 0) (a b : HostState) (test : Bool) → P b → (test ≡ true → P a)
+  pub if_kept : (P : JournalHost → Type 0) (a b : JournalHost) (test : Bool) → P b → (test ≡ true → P a)
       → P (if test then a else b)
   if_kept P a b true same then_ = then_ refl
   if_kept P a b false same then_ = same
 
-  pub same_past : (first : ℕ → List Entry) (past past_with : ℕ → List Happening) (w : HostState)
+  pub same_past : (first : ℕ → List Entry) (past past_with : ℕ → List Happening) (w : JournalHost)
       → ((n : ℕ) → past n ≡ past_with n) → Sound stories budget first past w
       → Sound stories budget first past_with w
   same_past first past past_with w same sound = record {
@@ -74,7 +74,7 @@ module _ (stories : List Story) (budget : ℕ) where
   }
 
   -- nothing happened
-  pub untold : (first : ℕ → List Entry) (past : ℕ → List Happening) (w : HostState)
+  pub untold : (first : ℕ → List Entry) (past : ℕ → List Happening) (w : JournalHost)
       → Sound stories budget first past w → Sound stories budget first (λ s. past s ++ []) w
   untold first past w sound =
       same_past first past (λ s. past s ++ []) w (λ s. sym (append-nil (past s))) sound

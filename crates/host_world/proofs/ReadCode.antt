@@ -20,7 +20,7 @@ use Rattle.session_core.specs.declared.entry.Entry.{Entry}
 use Rattle.host_world.specs.Journal.{comes_up, gate_closed, looked}
 use Rattle.host_world.specs.Reading.{rows_in}
 use Rattle.host_world.specs.Sessions.{history_found}
-use Rattle.host_world.specs.declared.state.HostState.{HostState}
+use Rattle.host_world.specs.declared.state.JournalHost.{JournalHost}
 use Rattle.host_world.specs.declared.state.Step.TheVariants.{CloseWrite, Idle, VersionWrite}
 use Rattle.host_world.specs.Starts.{IsStart, down_over, rows_or_none}
 use Rattle.host_world.proofs.ReadingLemmas.{found_rows, reads_rows}
@@ -46,31 +46,31 @@ corrupt_none bytes place refuses =
     (λ rows spells. never_both bytes rows place spells refuses))
 
 -- what an opening does with what it read
-pub looks_none : (w : HostState) → rows_in w.disk.seen ≡ None
+pub looks_none : (w : JournalHost) → rows_in w.disk.seen ≡ None
     → record w { step = Idle } ≡ looked w (rows_in w.disk.seen)
 looks_none w is = rw is refl
 
-looks : (w : HostState) (rows : List Row) → rows_in w.disk.seen ≡ Some rows → (b : Bool)
+looks : (w : JournalHost) (rows : List Row) → rows_in w.disk.seen ≡ Some rows → (b : Bool)
     → (slice_index w.disk.seen (length (journal_bytes rows)) == 0) ≡ b
     → (if b then gate_closed w rows else record w { step = CloseWrite rows })
     ≡ looked w (rows_in w.disk.seen)
 looks w rows is b gate = rw (is, gate) refl
 
-pub looks_shut : (w : HostState) (rows : List Row) → rows_in w.disk.seen ≡ Some rows
+pub looks_shut : (w : JournalHost) (rows : List Row) → rows_in w.disk.seen ≡ Some rows
     → slice_index w.disk.seen (length (journal_bytes rows)) ≡ 0
     → gate_closed w rows ≡ looked w (rows_in w.disk.seen)
 looks_shut w rows is gate = looks w rows is true (grind (arith, nat_tests, gate))
 
-pub looks_open : (w : HostState) (rows : List Row) → rows_in w.disk.seen ≡ Some rows
+pub looks_open : (w : JournalHost) (rows : List Row) → rows_in w.disk.seen ≡ Some rows
     → slice_index w.disk.seen (length (journal_bytes rows)) ≢ 0
     → record w { step = CloseWrite rows } ≡ looked w (rows_in w.disk.seen)
 looks_open w rows is gate = looks w rows is false (grind (arith, nat_tests, gate))
 
-pub closed_second : (w : HostState) (rows : List Row) → (version_byte w.disk.seen == 1) ≡ true
+pub closed_second : (w : JournalHost) (rows : List Row) → (version_byte w.disk.seen == 1) ≡ true
     → comes_up w rows ≡ gate_closed w rows
 closed_second w rows is = rw is refl
 
-pub closed_first : (w : HostState) (rows : List Row) → (version_byte w.disk.seen == 1) ≡ false
+pub closed_first : (w : JournalHost) (rows : List Row) → (version_byte w.disk.seen == 1) ≡ false
     → record w { step = VersionWrite rows } ≡ gate_closed w rows
 closed_first w rows is = rw is refl
 

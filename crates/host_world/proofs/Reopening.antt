@@ -14,7 +14,7 @@ use Rattle.session_core.specs.declared.entry.Entry.{Entry}
 use Rattle.host_world.specs.Happenings.{Happening, Opened, further, news}
 use Rattle.host_world.specs.Pending.{OneMore}
 use Rattle.host_world.specs.Sessions.{found_session, found_sessions}
-use Rattle.host_world.specs.declared.state.HostState.{HostState}
+use Rattle.host_world.specs.declared.state.JournalHost.{JournalHost}
 use Rattle.host_world.specs.declared.turn.Session.{Session}
 use Rattle.host_world.proofs.Lists.{false_true}
 use Rattle.host_world.proofs.Phases.{same_past}
@@ -40,14 +40,14 @@ found_at rows s x at =
 
 module _ (stories : List Story) (budget : ℕ) where
   -- the rows that an opening finds
-  pub record Reopens (w new : HostState) : Type 0 where
+  pub record Reopens (w new : JournalHost) : Type 0 where
     pub rows : (new.rows ≡ w.rows) ⊎ ((u : Row) × (w.uncertain ≡ Some u)
         × (new.rows ≡ w.rows ++ u ∷ []))
     pub sessions : new.sessions ≡ found_sessions new.rows
 
   -- what a call does
   pub record CallsWell (first : ℕ → List Entry) (past : ℕ → List Happening)
-      (w new : HostState) : Type 0 where
+      (w new : JournalHost) : Type 0 where
     pub sound : Sound stories budget first (λ s. past s ++ news s w new) new
     pub reopens : w.up ≡ false → new.up ≡ true → Reopens w new
 
@@ -57,7 +57,7 @@ module _ (stories : List Story) (budget : ℕ) where
   of_down s rows u x false is fact = fact
 
   -- the rows that an opening finds, for one session
-  pub one_more_of : (w : HostState) (rows : List Row) (s : ℕ) (x : Session)
+  pub one_more_of : (w : JournalHost) (rows : List Row) (s : ℕ) (x : Session)
       → RowsFact stories budget s w.rows w.uncertain x false
       → (rows ≡ w.rows) ⊎ ((u : Row) × (w.uncertain ≡ Some u) × (rows ≡ w.rows ++ u ∷ []))
       → OneMore (commands_in x.history) (commands_of rows s)
@@ -73,7 +73,7 @@ module _ (stories : List Story) (budget : ℕ) where
   no_news true l m is = is
   no_news false l m is = is
 
-  pub same_up : (first : ℕ → List Entry) (past : ℕ → List Happening) (w new : HostState)
+  pub same_up : (first : ℕ → List Entry) (past : ℕ → List Happening) (w new : JournalHost)
       → new.up ≡ w.up → Sound stories budget first past new → CallsWell first past w new
   same_up first past w new up sound = record {
     sound = same_past stories budget first past (λ s. past s ++ news s w new) new

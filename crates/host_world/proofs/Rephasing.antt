@@ -11,7 +11,7 @@ use Rattle.story_run.specs.declared.story.Story.{Story}
 use Rattle.session_core.specs.declared.entry.Entry.{Entry}
 use Rattle.host_world.specs.Happenings.{Happening, history_left}
 use Rattle.host_world.specs.Sessions.{in_phase}
-use Rattle.host_world.specs.declared.state.HostState.{HostState}
+use Rattle.host_world.specs.declared.state.JournalHost.{JournalHost}
 use Rattle.host_world.specs.declared.state.Step.{Step}
 use Rattle.host_world.specs.declared.turn.Phase.{Phase}
 use Rattle.host_world.specs.declared.turn.Phase.TheVariants.{Asked, Begun, Broken, Freed, Kept}
@@ -35,13 +35,13 @@ module _ (stories : List Story) (budget : ℕ) where
   reached before h t next (Plain outcome reply) f = f
 
   -- the phase of one turn changes, and the journal
-  module _ (first : ℕ → List Entry) (past : ℕ → List Happening) (v : HostState) (s : ℕ)
+  module _ (first : ℕ → List Entry) (past : ℕ → List Happening) (v : JournalHost) (s : ℕ)
       (x : Session) (t : Turn) (next : Phase) (p : DiskState) (n : ℕ) (rows : List Row)
       (u : Option Row) (step : Step) where
     abbrev asker : Session
     asker = in_phase x t next
 
-    abbrev new : HostState
+    abbrev new : JournalHost
     new = record v {
       sessions = set v.sessions s asker;
       disk = p;
@@ -104,7 +104,7 @@ module _ (stories : List Story) (budget : ℕ) where
         ]
 
   -- no turn changes, but the journal
-  pub stepped : (first : ℕ → List Entry) (past : ℕ → List Happening) (v : HostState) (p : DiskState)
+  pub stepped : (first : ℕ → List Entry) (past : ℕ → List Happening) (v : JournalHost) (p : DiskState)
       (n : ℕ) (u : Option Row) (step : Step)
       → Sound stories budget first past v → IsDiskImage p p.seen
       → ((c : List ℕ) → IsDiskImage p c → Stands v.up v.rows u c) → IfSome u (IsNext v.rows)

@@ -26,11 +26,11 @@ use Rattle.host_world.specs.Laws.{StartsOver}
 use Rattle.host_world.specs.Pending.{OneMore, pending, pending_of}
 use Rattle.host_world.specs.Sessions.{found_session}
 use Rattle.host_world.specs.Starts.{IsDown, IsOpenedState, IsStart, down_over}
-use Rattle.host_world.specs.declared.event.Event.{Event}
-use Rattle.host_world.specs.declared.event.Event.TheVariants.{Accept, Call, Free, Give, Hold}
-use Rattle.host_world.specs.declared.event.Event.TheVariants.{Recover, Run, Stop, Take, Want}
+use Rattle.host_world.specs.declared.event.JournalEvent.{JournalEvent}
+use Rattle.host_world.specs.declared.event.JournalEvent.TheVariants.{Accept, Call, Free, Give, Hold}
+use Rattle.host_world.specs.declared.event.JournalEvent.TheVariants.{Recover, Run, Stop, Take, Want}
 use Rattle.host_world.specs.declared.state.Given.{Given}
-use Rattle.host_world.specs.declared.state.HostState.{HostState}
+use Rattle.host_world.specs.declared.state.JournalHost.{JournalHost}
 use Rattle.host_world.specs.declared.state.Step.{Step}
 use Rattle.host_world.specs.declared.state.Step.TheVariants.{FirstSync}
 use Rattle.host_world.specs.declared.turn.Phase.{Phase}
@@ -76,7 +76,7 @@ starts_over bytes rows all (inr one) =
     (Some one.0, down_well bytes rows (Some one.0) all one.1 one.2)
 
 module _ (stories : List Story) (budget : ℕ) (premise : AreGiven stories budget) where
-  recover_well : (first : ℕ → List Entry) (past : ℕ → List Happening) (w : HostState)
+  recover_well : (first : ℕ → List Entry) (past : ℕ → List Happening) (w : JournalHost)
       → Sound stories budget first past w → (up : Bool) → w.up ≡ up
       → Sound stories budget first past (if up then w else record w { step = FirstSync })
   recover_well first past w sound true is = sound
@@ -96,7 +96,7 @@ module _ (stories : List Story) (budget : ℕ) (premise : AreGiven stories budge
         };
   }
 
-  pub event_well : (first : ℕ → List Entry) (past : ℕ → List Happening) (w : HostState) (e : Event)
+  pub event_well : (first : ℕ → List Entry) (past : ℕ → List Happening) (w : JournalHost) (e : JournalEvent)
       → Sound stories budget first past w
       → Sound stories budget first (λ s. past s ++ told stories budget s w e)
       (after stories budget w e)
@@ -127,8 +127,8 @@ module _ (stories : List Story) (budget : ℕ) (premise : AreGiven stories budge
       untold stories budget first past (after stories budget w Recover)
       (recover_well first past w sound w.up refl)
 
-  pub run_well : (events : List Event) (first : ℕ → List Entry) (past : ℕ → List Happening)
-      (w : HostState) → Sound stories budget first past w
+  pub run_well : (events : List JournalEvent) (first : ℕ → List Entry) (past : ℕ → List Happening)
+      (w : JournalHost) → Sound stories budget first past w
       → Sound stories budget first (λ s. past s ++ all_told stories budget s w events)
       (run stories budget w events)
   run_well [] first past w sound = untold stories budget first past w sound
@@ -147,10 +147,10 @@ module _ (stories : List Story) (budget : ℕ) (premise : AreGiven stories budge
   history_at None = []
   history_at (Some x) = x.history
 
-  abbrev pub first_of : HostState → ℕ → List Entry
+  abbrev pub first_of : JournalHost → ℕ → List Entry
   first_of w s = history_at (slice_get w.sessions s)
 
-  opened_well : (w : HostState) → IsOpenedState w → Sound stories budget (first_of w) (λ s. []) w
+  opened_well : (w : JournalHost) → IsOpenedState w → Sound stories budget (first_of w) (λ s. []) w
   opened_well w o = record {
     stays = o.quiet.reads;
     images =
@@ -199,7 +199,7 @@ module _ (stories : List Story) (budget : ℕ) (premise : AreGiven stories budge
     )
   ]
 
-  stopped_well : (w : HostState) → IsDown w → Sound stories budget (first_of w) (λ s. []) w
+  stopped_well : (w : JournalHost) → IsDown w → Sound stories budget (first_of w) (λ s. []) w
   stopped_well w o = record {
     stays = o.quiet.reads;
     images =
@@ -229,7 +229,7 @@ module _ (stories : List Story) (budget : ℕ) (premise : AreGiven stories budge
         };
   }
 
-  pub start_well : (w : HostState) → IsStart w → Sound stories budget (first_of w) (λ s. []) w
+  pub start_well : (w : JournalHost) → IsStart w → Sound stories budget (first_of w) (λ s. []) w
   start_well w (inl o) = opened_well w o
   start_well w (inr o) = stopped_well w o
 
@@ -284,9 +284,9 @@ module _ (stories : List Story) (budget : ℕ) (premise : AreGiven stories budge
   risen true b is = absurd (false_true is)
   risen false false is = absurd (false_true is)
 
-  module _ (first : ℕ → List Entry) (past : ℕ → List Happening) (w : HostState)
+  module _ (first : ℕ → List Entry) (past : ℕ → List Happening) (w : JournalHost)
       (sound : Sound stories budget first past w) (s : ℕ) (low : s < 64) where
-    few_news : (new : HostState) → CallsWell stories budget first past w new → (b : Bool)
+    few_news : (new : JournalHost) → CallsWell stories budget first past w new → (b : Bool)
         → (not w.up && new.up) ≡ b → EachFindsOneMore
         (if b then Opened (further (slice_get w.sessions s) (commands_of new.rows s)) ∷ [] else [])
     few_news new calls false is = tt
@@ -304,7 +304,7 @@ module _ (stories : List Story) (budget : ℕ) (premise : AreGiven stories budge
         ∙ drop_at (commands_in x.history) one.0 (length (commands_in x.history)) refl in
         (omega (arith, ap (λ (l : List Command). length l) is_more, one.1), tt)
 
-    few_told : (e : Event) → EachFindsOneMore (told stories budget s w e)
+    few_told : (e : JournalEvent) → EachFindsOneMore (told stories budget s w e)
     few_told (Take t pass line) = tt
     few_told (Want t) = tt
     few_told (Hold t) = tt
@@ -324,8 +324,8 @@ module _ (stories : List Story) (budget : ℕ) (premise : AreGiven stories budge
     few_told (Stop (image ∷ other ∷ more)) = tt
     few_told Recover = tt
 
-  few_all : (events : List Event) (first : ℕ → List Entry) (past : ℕ → List Happening)
-      (w : HostState) → Sound stories budget first past w → (s : ℕ) → s < 64
+  few_all : (events : List JournalEvent) (first : ℕ → List Entry) (past : ℕ → List Happening)
+      (w : JournalHost) → Sound stories budget first past w → (s : ℕ) → s < 64
       → EachFindsOneMore (all_told stories budget s w events)
   few_all [] first past w sound s low = tt
   few_all (e ∷ events) first past w sound s low =
@@ -336,7 +336,7 @@ module _ (stories : List Story) (budget : ℕ) (premise : AreGiven stories budge
       (event_well first past w e sound) s low)
 
   pub lives_holds :
-      (w : HostState) (events : List Event) → IsStart w → (s : ℕ) (x y : Session)
+      (w : JournalHost) (events : List JournalEvent) → IsStart w → (s : ℕ) (x y : Session)
       → slice_get w.sessions s ≡ Some x → slice_get (run stories budget w events).sessions s
       ≡ Some y
       → Lives stories budget s x (all_told stories budget s w events)
@@ -365,7 +365,7 @@ module _ (stories : List Story) (budget : ℕ) (premise : AreGiven stories budge
       }
 
   -- the replies to a session of a host that has run
-  pub lives_on : (w : HostState) (events : List Event) → IsStart w → (s : ℕ) (x : Session)
+  pub lives_on : (w : JournalHost) (events : List JournalEvent) → IsStart w → (s : ℕ) (x : Session)
       → slice_get w.sessions s ≡ Some x → given_replies s (run stories budget w events).given
       ≡ replies_of stories budget x.history (all_told stories budget s w events)
   lives_on w events o s x at =

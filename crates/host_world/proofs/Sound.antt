@@ -18,7 +18,7 @@ use Rattle.session_core.specs.declared.entry.Outcome.TheVariants.{OutOfMemory}
 use Rattle.host_world.specs.Happenings.{Happening, history_left, replies_of, given_replies}
 use Rattle.host_world.specs.Journal.{past_gate}
 use Rattle.host_world.specs.Pending.{OneMore, pending}
-use Rattle.host_world.specs.declared.state.HostState.{HostState}
+use Rattle.host_world.specs.declared.state.JournalHost.{JournalHost}
 use Rattle.host_world.specs.declared.state.Step.{Step}
 use Rattle.host_world.specs.declared.state.Step.TheVariants.{AskSize, CloseSync, CloseWrite}
 use Rattle.host_world.specs.declared.state.Step.TheVariants.{FirstSync, GateSync, GateWrite, Idle}
@@ -46,13 +46,13 @@ stands_either_way true rows u c stands = stands_either rows u c stands
 stands_either_way false rows u c stands = stands
 
 -- the rows that an opening may find of a host
-abbrev pub MayBeFound : HostState → List Row → Type 0
+abbrev pub MayBeFound : JournalHost → List Row → Type 0
 MayBeFound w rows =
     (rows ≡ w.rows) ⊎ ((u : Row) × (w.uncertain ≡ Some u) × (rows ≡ w.rows ++ u ∷ []))
 
 module _ (stories : List Story) (budget : ℕ) where
   -- an append of this row is under way
-  pub record Busy (w : HostState) (r : Row) : Type 0 where
+  pub record Busy (w : JournalHost) (r : Row) : Type 0 where
     pub up : w.up ≡ true
     pub next : IsNext w.rows r
     pub held : w.holder ≡ Some r.session
@@ -65,7 +65,7 @@ module _ (stories : List Story) (budget : ℕ) where
         ≡ Some (r.command)
 
   -- what is known between two device calls
-  abbrev pub StepFact : HostState → Step → Type 0
+  abbrev pub StepFact : JournalHost → Step → Type 0
   StepFact w Idle = Unit {0}
   StepFact w (RepairWrite r n) = Busy w r × ((u : Row) × (w.uncertain ≡ Some u))
   StepFact w (RepairSync r n) = Busy w r × IsShut (journal_bytes w.rows) w.disk.seen
@@ -116,14 +116,14 @@ module _ (stories : List Story) (budget : ℕ) where
       (x.turn ≡ None) × OneMore (commands_in x.history) (commands_of rows s)
       × IfSome uncertain (λ r. OneMore (commands_in x.history) (commands_of (rows ++ r ∷ []) s))
 
-  pub record Knows (h : List Entry) (past : List Happening) (w : HostState) (s : ℕ)
+  pub record Knows (h : List Entry) (past : List Happening) (w : JournalHost) (s : ℕ)
       (x : Session) : Type 0 where
     pub turn : TurnFact (history_left stories budget h past) x.history x.turn
     pub replies : given_replies s w.given ≡ replies_of stories budget h past
     pub rows : RowsFact s w.rows w.uncertain x w.up
 
   pub record Sound (first : ℕ → List Entry) (past : ℕ → List Happening)
-      (w : HostState) : Type 0 where
+      (w : JournalHost) : Type 0 where
     pub stays : IsDiskImage w.disk w.disk.seen
     pub images : (c : List ℕ) → IsDiskImage w.disk c → Stands w.up w.rows w.uncertain c
     pub journal : IsJournal w.rows

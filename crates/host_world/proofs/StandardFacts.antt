@@ -10,7 +10,7 @@ use Rattle.gate_journal.specs.Rows.{header_with, journal_header, journal_bytes}
 use Rattle.session_core.specs.Turning.{commands_in}
 use Rattle.host_world.specs.Reading.{rows_in}
 use Rattle.host_world.specs.Starts.{IsOpenedState, down_over}
-use Rattle.host_world.specs.declared.state.HostState.{HostState}
+use Rattle.host_world.specs.declared.state.JournalHost.{JournalHost}
 use Rattle.host_world.specs.declared.turn.Session.{Session}
 use Rattle.host_world.proofs.Reopening.{found_at}
 
@@ -19,7 +19,7 @@ abbrev empty : List ℕ
 empty = journal_header ++ 0 ∷ []
 
 -- an opened host over it
-abbrev new_host : HostState
+abbrev new_host : JournalHost
 new_host = record (down_over empty [] None) { up = true }
 
 holds_itself : (l : List ℕ) → Holds l 0 l

@@ -26,7 +26,7 @@ use Rattle.host_world.specs.Happenings.{cut_in, history_left, lost, replies_of}
 use Rattle.host_world.specs.Pending.{KeepsCommands, OneMore, RowsOrOneMore, command_listed}
 use Rattle.host_world.specs.Pending.{pending, pending_at, pending_of}
 use Rattle.host_world.specs.Sessions.{without_turn}
-use Rattle.host_world.specs.declared.state.HostState.{HostState}
+use Rattle.host_world.specs.declared.state.JournalHost.{JournalHost}
 use Rattle.host_world.specs.declared.turn.Phase.{Phase}
 use Rattle.host_world.specs.declared.turn.Phase.TheVariants.{Asked, Begun, Broken, Freed, Kept}
 use Rattle.host_world.specs.declared.turn.Phase.TheVariants.{Plain, Ready, Taken}
@@ -143,9 +143,9 @@ module _ (stories : List Story) (budget : ℕ) where
   )
   down_rows s rows u x false fact = (refl, fact.1, fact.2)
 
-  module _ (first : ℕ → List Entry) (past : ℕ → List Happening) (w : HostState)
+  module _ (first : ℕ → List Entry) (past : ℕ → List Happening) (w : JournalHost)
       (sound : Sound stories budget first past w) (image : List ℕ) where
-    abbrev down_now : HostState
+    abbrev down_now : JournalHost
     down_now = stopped w image
 
     stops : IsDiskImage w.disk image → Sound stories budget first
@@ -252,7 +252,7 @@ module _ (stories : List Story) (budget : ℕ) where
           × (w.up ≡ true → KeepsCommands stories budget s w x rows)
       image_spells of = spelled_by w.uncertain refl of
 
-  pub stop_well : (first : ℕ → List Entry) (past : ℕ → List Happening) (w : HostState)
+  pub stop_well : (first : ℕ → List Entry) (past : ℕ → List Happening) (w : JournalHost)
       → Sound stories budget first past w → (images : List (List ℕ))
       → Sound stories budget first (λ s. past s ++ lost s w images) (stop w images)
   stop_well first past w sound [] =

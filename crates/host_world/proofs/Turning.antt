@@ -19,7 +19,7 @@ use Rattle.host_world.specs.Happenings.{Happening, history_left, given_replies}
 use Rattle.host_world.specs.Pending.{pending, pending_at, pending_of}
 use Rattle.host_world.specs.Sessions.{asking, first_phase, in_phase, taking}
 use Rattle.host_world.specs.declared.state.Given.{Given}
-use Rattle.host_world.specs.declared.state.HostState.{HostState}
+use Rattle.host_world.specs.declared.state.JournalHost.{JournalHost}
 use Rattle.host_world.specs.declared.turn.Phase.{Phase}
 use Rattle.host_world.specs.declared.turn.Phase.TheVariants.{Asked, Begun, Broken, Freed, Kept}
 use Rattle.host_world.specs.declared.turn.Phase.TheVariants.{Plain, Ready, Taken}
@@ -33,7 +33,7 @@ use Rattle.host_world.proofs.Rephasing.{reached}
 use Rattle.host_world.proofs.Sound.{Knows, PhaseFact, Sound, TurnFact}
 
 module _ (stories : List Story) (budget : ℕ) where
-  module _ (first : ℕ → List Entry) (past : ℕ → List Happening) (w : HostState)
+  module _ (first : ℕ → List Entry) (past : ℕ → List Happening) (w : JournalHost)
       (sound : Sound stories budget first past w) (s : ℕ) (x : Session)
       (at : slice_get w.sessions s ≡ Some x) where
     pub knows_of : Knows stories budget (first s) (past s) w s x
@@ -75,7 +75,7 @@ module _ (stories : List Story) (budget : ℕ) where
           ≡ pending_at stories budget (commands_in x.history) t.line phase
           → Sound stories budget first past (goes_to w s next holder)
       advance phase next holder is quiet keeps fact same =
-          subst (λ (v : HostState). Sound stories budget first past v)
+          subst (λ (v : JournalHost). Sound stories budget first past v)
           (goes_is stories budget w s x t next holder at turn)
           (moves stories budget first past past w s x (in_phase x t next) holder [] (record {
             at = at;
@@ -160,7 +160,7 @@ module _ (stories : List Story) (budget : ℕ) where
       pub hold_kept : (phase : Phase) → t.phase ≡ phase → (holder : Option ℕ) → w.holder ≡ holder
           → Sound stories budget first past (hold w s (Some phase) holder)
       hold_kept Asked is None nobody =
-          subst (λ (v : HostState). Sound stories budget first past v)
+          subst (λ (v : JournalHost). Sound stories budget first past v)
           (held_as stories budget w s x at)
           (moves stories budget first past past w s x x (Some s) [] (record {
             at = at;
@@ -193,7 +193,7 @@ module _ (stories : List Story) (budget : ℕ) where
           entry_rows stories budget x.history t.pass t.line outcome f.1.0 f.1.1 f.2
           ∙ ap (λ (l : List Command). commands_in x.history ++ l)
           (sym (pending_is (Ready outcome) is)) in
-          subst (λ (v : HostState). Sound stories budget first past v)
+          subst (λ (v : JournalHost). Sound stories budget first past v)
           (with_is stories budget w s
           (taking t outcome (turn_of stories budget x.history t.pass t.line outcome)))
           (moves stories budget first past past w s x
@@ -253,7 +253,7 @@ module _ (stories : List Story) (budget : ℕ) where
         let p : pending_at stories budget (commands_in x.history) line
         (first_phase a.reply a.accepted) ≡ [] =
         first_pending (commands_in x.history) line a.reply a.accepted in
-        subst (λ (v : HostState). Sound stories budget first past v)
+        subst (λ (v : JournalHost). Sound stories budget first past v)
         (with_is stories budget w s (asking x pass line
         (decision_on stories budget (commands_in x.history) line)))
         (moves stories budget first past past w s x

@@ -16,11 +16,11 @@ use Rattle.host_world.specs.Events.{after, run}
 use Rattle.host_world.specs.Whole.{are_images, closes_host, fails_at, is_up, no_put, stopped_files}
 use Rattle.host_world.specs.Keeping.{with_event}
 use Rattle.host_world.specs.Whole.{whole_after, with_files, with_host}
-use Rattle.host_world.specs.declared.event.Event.{Event}
-use Rattle.host_world.specs.declared.event.Event.TheVariants as journal
-use Rattle.host_world.specs.declared.state.HostState.{HostState}
-use Rattle.host_world.specs.declared.whole.WholeEvent.TheVariants.{Call, Give, Recover, Stop}
-use Rattle.host_world.specs.declared.whole.WholeState.{WholeState}
+use Rattle.host_world.specs.declared.event.JournalEvent.{JournalEvent}
+use Rattle.host_world.specs.declared.event.JournalEvent.TheVariants as journal
+use Rattle.host_world.specs.declared.state.JournalHost.{JournalHost}
+use Rattle.host_world.specs.declared.whole.Event.TheVariants.{Call, Give, Recover, Stop}
+use Rattle.host_world.specs.declared.whole.HostState.{HostState}
 use Rattle.host_world.proofs.FollowLemmas.{run-append}
 use Rattle.host_world.proofs.Lists.{some_same}
 
@@ -28,9 +28,9 @@ pub on_ok : {T E P Q : Type 0} (r : Result T E) → (P → Q) → OnOk r P → O
 on_ok (Ok x) f p = f p
 on_ok (Err e) f p = tt
 
-pub on_host : {T E : Type 0} (r : Result T E) (w : WholeState) (new old : HostState)
+pub on_host : {T E : Type 0} (r : Result T E) (w : HostState) (new old : JournalHost)
     → OnOk r (new ≡ old) → OnOk r (with_host w new ≡ with_host w old)
-on_host r w new old is = on_ok r (λ same. ap (λ (h : HostState). with_host w h) same) is
+on_host r w new old is = on_ok r (λ same. ap (λ (h : JournalHost). with_host w h) same) is
 
 -- ---- a loop over the files
 
@@ -125,13 +125,13 @@ stops_end stores items images i is are = are ∙ cut_images stores images i is
 
 -- ---- events
 
-module _ (stories : List Story) (budget : ℕ) (w : WholeState) where
-  pub gives_is : (s : ℕ) (host : HostState) → no_put (slice_get w.stores s) ≡ true
+module _ (stories : List Story) (budget : ℕ) (w : HostState) where
+  pub gives_is : (s : ℕ) (host : JournalHost) → no_put (slice_get w.stores s) ≡ true
       → host ≡ after stories budget w.host (journal.Give s)
       → with_host w host ≡ whole_after stories budget w (Give s)
   gives_is s host free is = rw (is, free) refl
 
-  pub called_is : (disk : ℕ) (good : Bool) (reads : List ℕ) (mid new : WholeState)
+  pub called_is : (disk : ℕ) (good : Bool) (reads : List ℕ) (mid new : HostState)
       → (disk == 0) ≡ false → w.host.up ≡ true
       → fails_at (slice_get w.stores (disk - 1)) good reads ≡ true
       → mid ≡ with_files w (with_event w.stores (disk - 1) (files.Call good reads))
@@ -140,14 +140,14 @@ module _ (stories : List Story) (budget : ℕ) (w : WholeState) where
   called_is disk good reads mid new other up fails mid_is is =
       rw (is, mid_is, other, up, fails) refl
 
-  pub stops_is : (image : List ℕ) (images : List (List ℕ)) (mid new : WholeState)
+  pub stops_is : (image : List ℕ) (images : List (List ℕ)) (mid new : HostState)
       → is_image w.host.disk image ≡ true → are_images w.stores images ≡ true
       → mid ≡ with_host w (after stories budget w.host (journal.Stop (image ∷ [])))
       → new ≡ with_files mid (stopped_files mid.stores images)
       → new ≡ whole_after stories budget w (Stop (image ∷ images))
   stops_is image images mid new first others mid_is is =
       is
-      ∙ ap (λ (m : WholeState). with_files m (stopped_files m.stores images)) mid_is
+      ∙ ap (λ (m : HostState). with_files m (stopped_files m.stores images)) mid_is
       ∙ ap (λ (b : Bool). record {
         host = run stories budget w.host (if b then journal.Stop (image ∷ []) ∷ [] else []);
         stores = if b then stopped_files w.stores images else w.stores;
@@ -156,10 +156,10 @@ module _ (stories : List Story) (budget : ℕ) (w : WholeState) where
       both : (is_image w.host.disk image && are_images w.stores images) ≡ true
       both = ap (λ (b : Bool). b && are_images w.stores images) first ∙ others
 
-  abbrev closed_up : List Event
+  abbrev closed_up : List JournalEvent
   closed_up = if w.host.up then closes_host w.host else []
 
-  pub recovers_is : (closed begun new : WholeState) → is_up w ≡ false
+  pub recovers_is : (closed begun new : HostState) → is_up w ≡ false
       → closed ≡ with_host w (run stories budget w.host closed_up)
       → begun ≡ with_host closed (after stories budget closed.host journal.Recover)
       → new ≡ with_files begun (map begins_opening begun.stores)

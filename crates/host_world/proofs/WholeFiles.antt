@@ -28,11 +28,11 @@ use Rattle.host_world.specs.Puts.{IsOwnPut}
 use Rattle.host_world.specs.Whole.{are_images, is_up}
 use Rattle.host_world.specs.Whole.{put_of, stopped_files, to_files}
 use Rattle.host_world.specs.declared.keeping.Snapshot.{Snapshot}
-use Rattle.host_world.specs.declared.whole.WholeEvent.{WholeEvent}
-use Rattle.host_world.specs.declared.whole.WholeEvent.TheVariants.{Take, Want, Hold, Call}
-use Rattle.host_world.specs.declared.whole.WholeEvent.TheVariants.{Free, Run, Keep, Accept}
-use Rattle.host_world.specs.declared.whole.WholeEvent.TheVariants.{Give, Stop, Recover}
-use Rattle.host_world.specs.declared.whole.WholeState.{WholeState}
+use Rattle.host_world.specs.declared.whole.Event.{Event}
+use Rattle.host_world.specs.declared.whole.Event.TheVariants.{Take, Want, Hold, Call}
+use Rattle.host_world.specs.declared.whole.Event.TheVariants.{Free, Run, Keep, Accept}
+use Rattle.host_world.specs.declared.whole.Event.TheVariants.{Give, Stop, Recover}
+use Rattle.host_world.specs.declared.whole.HostState.{HostState}
 use Rattle.host_world.proofs.Lists.{get_else, get_here, map_at, some_same}
 use Rattle.host_world.proofs.WholeRows.{Grows}
 
@@ -89,7 +89,7 @@ module _ (stories : List Story) where
 
   -- ---- an event, to all files
 
-  module _ (w : WholeState) where
+  module _ (w : HostState) where
     abbrev pub x_of : ℕ → StoreState → SessionState
     x_of s x = session_in_rows w.host.rows s x
 
@@ -142,7 +142,7 @@ module _ (stories : List Story) where
     )
     stopped_of (u ∷ stores) (image ∷ images) s (suc t) y is = stopped_of stores images s t y is
 
-    pub files_of : (event : WholeEvent) → IsOwnPut stories w event → (s : ℕ) (y : StoreState)
+    pub files_of : (event : Event) → IsOwnPut stories w event → (s : ℕ) (y : StoreState)
         → slice_get (to_files stories w event) s ≡ Some y → FileOf s y
     files_of (Take t pass line) own s y at = as_it_is s y at
     files_of (Want t) own s y at = as_it_is s y at

@@ -26,14 +26,14 @@ use Rattle.host_world.specs.Whole.{to_files, to_host, whole_after, whole_run}
 use Rattle.host_world.specs.WholeHeadline.{EachInAgreement, FilesAgree, LivesAsHost}
 use Rattle.host_world.specs.WholeHeadline.{NoneAreMissed, NoneIsMissed, NothingIsLostInAll}
 use Rattle.host_world.specs.WholeHeadline.{SessionWarmsInSixteen}
-use Rattle.host_world.specs.declared.event.Event.{Event}
-use Rattle.host_world.specs.declared.event.Event.TheVariants as journal
-use Rattle.host_world.specs.declared.state.HostState.{HostState}
-use Rattle.host_world.specs.declared.whole.WholeEvent.{WholeEvent}
-use Rattle.host_world.specs.declared.whole.WholeEvent.TheVariants.{Take, Want, Hold, Call}
-use Rattle.host_world.specs.declared.whole.WholeEvent.TheVariants.{Free, Run, Keep, Accept}
-use Rattle.host_world.specs.declared.whole.WholeEvent.TheVariants.{Give, Stop, Recover}
-use Rattle.host_world.specs.declared.whole.WholeState.{WholeState}
+use Rattle.host_world.specs.declared.event.JournalEvent.{JournalEvent}
+use Rattle.host_world.specs.declared.event.JournalEvent.TheVariants as journal
+use Rattle.host_world.specs.declared.state.JournalHost.{JournalHost}
+use Rattle.host_world.specs.declared.whole.Event.{Event}
+use Rattle.host_world.specs.declared.whole.Event.TheVariants.{Take, Want, Hold, Call}
+use Rattle.host_world.specs.declared.whole.Event.TheVariants.{Free, Run, Keep, Accept}
+use Rattle.host_world.specs.declared.whole.Event.TheVariants.{Give, Stop, Recover}
+use Rattle.host_world.specs.declared.whole.HostState.{HostState}
 use Rattle.gate_journal.proofs.RowLemmas.{spells_shut}
 use Rattle.host_world.specs.Reading.{rows_in}
 use Rattle.host_world.specs.Starts.{rows_or_none}
@@ -52,18 +52,18 @@ use Rattle.host_world.proofs.WholeRows.{Grows, after_rows, recover_rows, stop_ro
 module _ (stories : List Story) where
   -- ---- an event, to the rows
 
-  module _ (budget : ℕ) (premise : AreGiven stories budget) (w : WholeState)
+  module _ (budget : ℕ) (premise : AreGiven stories budget) (w : HostState)
       (first : ℕ → List Entry) (past : ℕ → List Happening)
       (sound : Sound stories budget first past w.host) where
     -- it leaves the rows, or adds one and leaves all files
-    abbrev WholeStep : WholeEvent → List Event → Type 0
+    abbrev WholeStep : Event → List JournalEvent → Type 0
     WholeStep event events =
         ((run stories budget w.host events).rows ≡ w.host.rows)
         ⊎ ((r : Row) × IsNext w.host.rows r
         × ((run stories budget w.host events).rows ≡ w.host.rows ++ r ∷ [])
         × (to_files stories w event ≡ w.stores))
 
-    by_one : (event : WholeEvent) (one : Event)
+    by_one : (event : Event) (one : JournalEvent)
         → (to_files stories w event ≡ w.stores)
         → WholeStep event (one ∷ [])
     by_one event one same = of (after_rows stories budget premise first past w.host sound one)
@@ -73,7 +73,7 @@ module _ (stories : List Story) where
         of (inl is) = inl is
         of (inr (r, next, is)) = inr (r, next, is, same)
 
-    if_one : (event : WholeEvent) (one : Event) (b : Bool)
+    if_one : (event : Event) (one : JournalEvent) (b : Bool)
         → (to_files stories w event ≡ w.stores)
         → WholeStep event (if b then one ∷ [] else [])
     if_one event one true same = by_one event one same
@@ -99,7 +99,7 @@ module _ (stories : List Story) where
         recover_rows v v.up ∙ stop_rows w.host (w.host.disk.seen ∷ [])
     reopened_rows false false = recover_rows w.host w.host.up
 
-    whole_step : (event : WholeEvent) → WholeStep event (to_host w event)
+    whole_step : (event : Event) → WholeStep event (to_host w event)
     whole_step (Take s pass line) =
         if_one (Take s pass line) (journal.Take s pass line) (is_up w) refl
     whole_step (Want s) = by_one (Want s) (journal.Want s) refl
@@ -127,7 +127,7 @@ module _ (stories : List Story) where
 
     -- ---- an event, to a session
 
-    rows_grow : (event : WholeEvent)
+    rows_grow : (event : Event)
         → Grows w.host.rows (run stories budget w.host (to_host w event)).rows
     rows_grow event = of (whole_step event)
       where
@@ -136,7 +136,7 @@ module _ (stories : List Story) where
         of (inl same) = inl same
         of (inr (r, next, is, files_same)) = inr (r, next, is)
 
-    pub each_agrees : (event : WholeEvent) → IsOwnPut stories w event
+    pub each_agrees : (event : Event) → IsOwnPut stories w event
         → EachInAgreement stories budget w
         → EachInAgreement stories budget (whole_after stories budget w event)
     each_agrees event own all s y at =
@@ -146,7 +146,7 @@ module _ (stories : List Story) where
         (step_agrees stories (session_in_rows w.host.rows s found.0) y found.2
         (all s found.0 found.1))
 
-    session_dates : (event : WholeEvent) → IsOwnPut stories w event → (s : ℕ)
+    session_dates : (event : Event) → IsOwnPut stories w event → (s : ℕ)
         → EachInAgreement stories budget w
         → NoneIsMissed stories budget s w event
         → ((x : StoreState) → slice_get w.stores s ≡ Some x
@@ -169,7 +169,7 @@ module _ (stories : List Story) where
   -- ---- a list of events
 
   module _ (budget : ℕ) (premise : AreGiven stories budget) where
-    all_agree : (events : List WholeEvent) (w : WholeState) (first : ℕ → List Entry)
+    all_agree : (events : List Event) (w : HostState) (first : ℕ → List Entry)
         (past : ℕ → List Happening) → Sound stories budget first past w.host
         → EachInAgreement stories budget w → AreOwnPuts stories budget w events
         → EachInAgreement stories budget (whole_run stories budget w events)
@@ -181,7 +181,7 @@ module _ (stories : List Story) where
         (each_agrees budget premise w first past sound event own.0 all) own.1
 
     -- the file of a session, behind the events
-    all_date : (events : List WholeEvent) (w : WholeState) (first : ℕ → List Entry)
+    all_date : (events : List Event) (w : HostState) (first : ℕ → List Entry)
         (past : ℕ → List Happening) → Sound stories budget first past w.host
         → EachInAgreement stories budget w → AreOwnPuts stories budget w events
         → (s : ℕ) → ((x : StoreState) → slice_get w.stores s ≡ Some x
@@ -198,7 +198,7 @@ module _ (stories : List Story) where
         (session_dates budget premise w first past sound event own.0 s all none.0 date)
         none.1 y at
 
-  pub lives_as_host : (budget : ℕ) (w : WholeState) (events : List WholeEvent)
+  pub lives_as_host : (budget : ℕ) (w : HostState) (events : List Event)
       → LivesAsHost stories budget w events (whole_run stories budget w events)
   lives_as_host budget w [] = refl
   lives_as_host budget w (event ∷ events) =
@@ -206,7 +206,7 @@ module _ (stories : List Story) where
       ∙ sym (run-append stories budget (to_host w event)
       (all_to_host stories budget (whole_after stories budget w event) events) w.host)
 
-  pub files_agree : (budget : ℕ) (w : WholeState) (events : List WholeEvent)
+  pub files_agree : (budget : ℕ) (w : HostState) (events : List Event)
       → AreOwnPuts stories budget w events
       → FilesAgree stories budget w events (whole_run stories budget w events)
   files_agree budget w events own premise start all =
@@ -222,14 +222,14 @@ module _ (stories : List Story) where
 
   -- ---- up to some point of it, and behind that
 
-  whole-append : (budget : ℕ) (earlier later : List WholeEvent) (w : WholeState)
+  whole-append : (budget : ℕ) (earlier later : List Event) (w : HostState)
       → whole_run stories budget w (earlier ++ later)
       ≡ whole_run stories budget (whole_run stories budget w earlier) later
   whole-append budget [] later w = refl
   whole-append budget (e ∷ earlier) later w =
       whole-append budget earlier later (whole_after stories budget w e)
 
-  own_parts : (budget : ℕ) (earlier later : List WholeEvent) (w : WholeState)
+  own_parts : (budget : ℕ) (earlier later : List Event) (w : HostState)
       → AreOwnPuts stories budget w (earlier ++ later)
       → AreOwnPuts stories budget w earlier
       × AreOwnPuts stories budget (whole_run stories budget w earlier) later
@@ -240,21 +240,21 @@ module _ (stories : List Story) where
         parts.1,
       )
 
-  module _ (budget : ℕ) (w : WholeState) (events earlier later : List WholeEvent)
+  module _ (budget : ℕ) (w : HostState) (events earlier later : List Event)
       (split : events ≡ earlier ++ later) where
     behind : whole_run stories budget w events
         ≡ whole_run stories budget (whole_run stories budget w earlier) later
     behind =
-        ap (λ (l : List WholeEvent). whole_run stories budget w l) split
+        ap (λ (l : List Event). whole_run stories budget w l) split
         ∙ whole-append budget earlier later w
 
     host_behind : (whole_run stories budget w events).host
         ≡ run stories budget (run stories budget w.host (all_to_host stories budget w earlier))
         (all_to_host stories budget (whole_run stories budget w earlier) later)
     host_behind =
-        ap (λ (u : WholeState). u.host) behind
+        ap (λ (u : HostState). u.host) behind
         ∙ lives_as_host budget (whole_run stories budget w earlier) later
-        ∙ ap (λ (h : HostState). run stories budget h
+        ∙ ap (λ (h : JournalHost). run stories budget h
         (all_to_host stories budget (whole_run stories budget w earlier) later))
         (lives_as_host budget w earlier)
 
@@ -263,24 +263,24 @@ module _ (stories : List Story) where
         (λ t. all_told stories budget t w.host (all_to_host stories budget w earlier))
         (whole_run stories budget w earlier).host
     sound_between premise start =
-        subst (λ (h : HostState). Sound stories budget (first_of stories budget premise w.host)
+        subst (λ (h : JournalHost). Sound stories budget (first_of stories budget premise w.host)
         (λ t. all_told stories budget t w.host (all_to_host stories budget w earlier)) h)
         (sym (lives_as_host budget w earlier))
         (run_well stories budget premise (all_to_host stories budget w earlier)
         (first_of stories budget premise w.host) (λ t. []) w.host
         (start_well stories budget premise w.host start))
 
-  pub none_lost_in_all : (budget : ℕ) (w : WholeState) (events : List WholeEvent)
+  pub none_lost_in_all : (budget : ℕ) (w : HostState) (events : List Event)
       → NothingIsLostInAll stories budget w events (whole_run stories budget w events)
   none_lost_in_all budget w events premise start earlier later split s x y at free_ at_later =
       nothing_lost stories budget premise w.host (all_to_host stories budget w earlier)
       (all_to_host stories budget (whole_run stories budget w earlier) later) start s x y
-      (ap (λ (h : HostState). slice_get h.sessions s) (sym (lives_as_host budget w earlier)) ∙ at)
+      (ap (λ (h : JournalHost). slice_get h.sessions s) (sym (lives_as_host budget w earlier)) ∙ at)
       free_
-      (ap (λ (h : HostState). slice_get h.sessions s)
+      (ap (λ (h : JournalHost). slice_get h.sessions s)
       (sym (host_behind budget w events earlier later split)) ∙ at_later)
 
-  pub session_warms : (budget : ℕ) (w : WholeState) (events : List WholeEvent)
+  pub session_warms : (budget : ℕ) (w : HostState) (events : List Event)
       → AreOwnPuts stories budget w events
       → SessionWarmsInSixteen stories budget w events (whole_run stories budget w events)
   session_warms budget w events own premise start all earlier later split s then_ last at date none
@@ -289,7 +289,7 @@ module _ (stories : List Story) where
       let m = whole_run stories budget w earlier in
       let parts =
       own_parts budget earlier later w
-      (subst (λ (l : List WholeEvent). AreOwnPuts stories budget w l) split own) in
+      (subst (λ (l : List Event). AreOwnPuts stories budget w l) split own) in
       let to_end = behind budget w events earlier later split in
       let agree = (files_agree budget w events own premise start all).0 in
       let up =
@@ -300,39 +300,39 @@ module _ (stories : List Story) where
       (start_well stories budget premise w.host start) all parts.0) parts.1 s
       (λ x here. subst (λ (z : StoreState). IsUpToDate (session_in_rows m.host.rows s z))
       (some_same then_ x (sym at ∙ here)) date) none last
-      (ap (λ (u : WholeState). slice_get u.stores s) (sym to_end) ∙ there) in
+      (ap (λ (u : HostState). slice_get u.stores s) (sym to_end) ∙ there) in
       (warms_in_sixteen stories).warms (session_in_rows v.host.rows s last) place image
       (agree s last there)
-      (subst (λ (u : WholeState). IsUpToDate (session_in_rows u.host.rows s last)) (sym to_end) up)
+      (subst (λ (u : HostState). IsUpToDate (session_in_rows u.host.rows s last)) (sym to_end) up)
       row is
 
   -- ---- one by one
 
-  pub whole_next : (budget : ℕ) (events : List WholeEvent) (i : ℕ) (event : WholeEvent)
-      (w v : WholeState) → i < length events
+  pub whole_next : (budget : ℕ) (events : List Event) (i : ℕ) (event : Event)
+      (w v : HostState) → i < length events
       → event ≡ get_or events i event → v ≡ whole_after stories budget w event
       → whole_run stories budget v (drop (i + 1) events)
       ≡ whole_run stories budget w (drop i events)
   whole_next budget events i event w v lt here is =
       rw (is, drop_more events i event lt, sym here) refl
 
-  pub whole_end : (budget : ℕ) (events : List WholeEvent) (i : ℕ) (w : WholeState)
+  pub whole_end : (budget : ℕ) (events : List Event) (i : ℕ) (w : HostState)
       → length events ≤ i → whole_run stories budget w (drop i events) ≡ w
   whole_end budget events i w le =
-      at_drop_all (λ (l : List WholeEvent). whole_run stories budget w l) events i le
+      at_drop_all (λ (l : List Event). whole_run stories budget w l) events i le
 
   -- ---- own puts, one by one
 
-  pub own_next : (budget : ℕ) (events : List WholeEvent) (i : ℕ) (event : WholeEvent)
-      (w v : WholeState) → i < length events
+  pub own_next : (budget : ℕ) (events : List Event) (i : ℕ) (event : Event)
+      (w v : HostState) → i < length events
       → event ≡ get_or events i event → v ≡ whole_after stories budget w event
       → IsOwnPut stories w event → AreOwnPuts stories budget v (drop (i + 1) events)
       → AreOwnPuts stories budget w (drop i events)
   own_next budget events i event w v lt here is own more =
       rw (drop_more events i event lt, sym here)
-      (own, subst (λ (u : WholeState). AreOwnPuts stories budget u (drop (i + 1) events)) is more)
+      (own, subst (λ (u : HostState). AreOwnPuts stories budget u (drop (i + 1) events)) is more)
 
-  pub own_end : (budget : ℕ) (events : List WholeEvent) (i : ℕ) (w : WholeState)
+  pub own_end : (budget : ℕ) (events : List Event) (i : ℕ) (w : HostState)
       → length events ≤ i → AreOwnPuts stories budget w (drop i events)
   own_end budget events i w le = rw (drop_all i events le) tt
 

@@ -20,10 +20,10 @@ use Rattle.host_world.specs.Journal.{next_call, onward, with_disk, with_fault}
 use Rattle.host_world.specs.Reading.{rows_in}
 use Rattle.host_world.specs.Sessions.{ready_reply, phase_of}
 use Rattle.store_events.specs.declared.disk.DiskCall.{DiskCall}
-use Rattle.host_world.specs.declared.event.Event.{Event}
-use Rattle.host_world.specs.declared.event.Event.TheVariants.{Accept, Call, Free, Give, Hold}
-use Rattle.host_world.specs.declared.event.Event.TheVariants.{Recover, Run, Stop, Take, Want}
-use Rattle.host_world.specs.declared.state.HostState.{HostState}
+use Rattle.host_world.specs.declared.event.JournalEvent.{JournalEvent}
+use Rattle.host_world.specs.declared.event.JournalEvent.TheVariants.{Accept, Call, Free, Give, Hold}
+use Rattle.host_world.specs.declared.event.JournalEvent.TheVariants.{Recover, Run, Stop, Take, Want}
+use Rattle.host_world.specs.declared.state.JournalHost.{JournalHost}
 use Rattle.host_world.specs.declared.state.Step.{Step}
 use Rattle.host_world.specs.declared.state.Step.TheVariants.{AskSize, CloseSync, CloseWrite}
 use Rattle.host_world.specs.declared.state.Step.TheVariants.{FirstSync, GateSync, GateWrite, Idle}
@@ -45,7 +45,7 @@ Grows rows new = (new ≡ rows) ⊎ ((r : Row) × IsNext rows r × (new ≡ rows
 
 -- ---- events that make no call
 
-want_rows : (w : HostState) (s : ℕ) (o : Option Phase) → (want w s o).rows ≡ w.rows
+want_rows : (w : JournalHost) (s : ℕ) (o : Option Phase) → (want w s o).rows ≡ w.rows
 want_rows w s None = refl
 want_rows w s (Some Asked) = refl
 want_rows w s (Some Begun) = refl
@@ -56,7 +56,7 @@ want_rows w s (Some (Ready outcome)) = refl
 want_rows w s (Some (Taken outcome reply)) = refl
 want_rows w s (Some (Plain outcome reply)) = refl
 
-hold_rows : (w : HostState) (s : ℕ) (o : Option Phase) (holder : Option ℕ)
+hold_rows : (w : JournalHost) (s : ℕ) (o : Option Phase) (holder : Option ℕ)
     → (hold w s o holder).rows ≡ w.rows
 hold_rows w s None holder = refl
 hold_rows w s (Some Asked) None = refl
@@ -69,7 +69,7 @@ hold_rows w s (Some (Ready outcome)) holder = refl
 hold_rows w s (Some (Taken outcome reply)) holder = refl
 hold_rows w s (Some (Plain outcome reply)) holder = refl
 
-free_rows : (w : HostState) (s : ℕ) (o : Option Phase) → (free w s o).rows ≡ w.rows
+free_rows : (w : JournalHost) (s : ℕ) (o : Option Phase) → (free w s o).rows ≡ w.rows
 free_rows w s None = refl
 free_rows w s (Some Asked) = refl
 free_rows w s (Some Begun) = refl
@@ -80,7 +80,7 @@ free_rows w s (Some (Ready outcome)) = refl
 free_rows w s (Some (Taken outcome reply)) = refl
 free_rows w s (Some (Plain outcome reply)) = refl
 
-run_rows : (w : HostState) (s : ℕ) (found : Bool) (o : Option Phase)
+run_rows : (w : JournalHost) (s : ℕ) (found : Bool) (o : Option Phase)
     → (run_turn w s found o).rows ≡ w.rows
 run_rows w s found None = refl
 run_rows w s found (Some Asked) = refl
@@ -92,36 +92,36 @@ run_rows w s found (Some (Ready outcome)) = refl
 run_rows w s found (Some (Taken outcome reply)) = refl
 run_rows w s found (Some (Plain outcome reply)) = refl
 
-give_rows : (w : HostState) (s : ℕ) (o : Option Reply) → (gives_reply w s o).rows ≡ w.rows
+give_rows : (w : JournalHost) (s : ℕ) (o : Option Reply) → (gives_reply w s o).rows ≡ w.rows
 give_rows w s None = refl
 give_rows w s (Some reply) = refl
 
-if_rows : (w v : HostState) (b : Bool) → v.rows ≡ w.rows → (if b then v else w).rows ≡ w.rows
+if_rows : (w v : JournalHost) (b : Bool) → v.rows ≡ w.rows → (if b then v else w).rows ≡ w.rows
 if_rows w v true is = is
 if_rows w v false is = refl
 
-pub stop_rows : (w : HostState) (images : List (List ℕ)) → (stop w images).rows ≡ w.rows
+pub stop_rows : (w : JournalHost) (images : List (List ℕ)) → (stop w images).rows ≡ w.rows
 stop_rows w [] = refl
 stop_rows w (image ∷ []) = if_rows w (stopped w image) (is_image w.disk image) refl
 stop_rows w (image ∷ other ∷ more) = refl
 
-pub recover_rows : (w : HostState) (b : Bool)
+pub recover_rows : (w : JournalHost) (b : Bool)
     → (if b then w else record w { step = FirstSync }).rows ≡ w.rows
 recover_rows w true = refl
 recover_rows w false = refl
 
 module _ (stories : List Story) (budget : ℕ) where
-  take_rows : (w : HostState) (s pass : ℕ) (line : List ℕ) (x : Session) (o : Option Turn)
+  take_rows : (w : JournalHost) (s pass : ℕ) (line : List ℕ) (x : Session) (o : Option Turn)
       → (take_turn stories budget w s pass line x o).rows ≡ w.rows
   take_rows w s pass line x None = refl
   take_rows w s pass line x (Some t) = refl
 
-  takes_rows : (w : HostState) (s pass : ℕ) (line : List ℕ) (o : Option Session)
+  takes_rows : (w : JournalHost) (s pass : ℕ) (line : List ℕ) (o : Option Session)
       → (takes_at stories budget w s pass line o).rows ≡ w.rows
   takes_rows w s pass line None = refl
   takes_rows w s pass line (Some x) = take_rows w s pass line x x.turn
 
-  accept_rows : (w : HostState) (s : ℕ) (x : Session) (t : Turn) (phase : Phase)
+  accept_rows : (w : JournalHost) (s : ℕ) (x : Session) (t : Turn) (phase : Phase)
       → (accept stories budget w s x t phase).rows ≡ w.rows
   accept_rows w s x t Asked = refl
   accept_rows w s x t Begun = refl
@@ -132,12 +132,12 @@ module _ (stories : List Story) (budget : ℕ) where
   accept_rows w s x t (Taken outcome reply) = refl
   accept_rows w s x t (Plain outcome reply) = refl
 
-  accepted_rows : (w : HostState) (s : ℕ) (x : Session) (o : Option Turn)
+  accepted_rows : (w : JournalHost) (s : ℕ) (x : Session) (o : Option Turn)
       → (accept_turn stories budget w s x o).rows ≡ w.rows
   accepted_rows w s x None = refl
   accepted_rows w s x (Some t) = accept_rows w s x t t.phase
 
-  accepts_rows : (w : HostState) (s : ℕ) (o : Option Session)
+  accepts_rows : (w : JournalHost) (s : ℕ) (o : Option Session)
       → (accept_at stories budget w s o).rows ≡ w.rows
   accepts_rows w s None = refl
   accepts_rows w s (Some x) = accepted_rows w s x x.turn
@@ -145,10 +145,10 @@ module _ (stories : List Story) (budget : ℕ) where
   -- ---- a call
 
   -- it adds the next row, or the host comes up
-  abbrev GrowsOrRises : HostState → HostState → Type 0
+  abbrev GrowsOrRises : JournalHost → JournalHost → Type 0
   GrowsOrRises v new = Grows v.rows new.rows ⊎ ((new.up ≡ true) × (v.up ≡ false))
 
-  closed_rows : (v : HostState) (rows : List Row) → v.up ≡ false
+  closed_rows : (v : JournalHost) (rows : List Row) → v.up ≡ false
       → GrowsOrRises v (gate_closed v rows)
   closed_rows v rows down = of (version_byte v.disk.seen == 1)
     where
@@ -157,7 +157,7 @@ module _ (stories : List Story) (budget : ℕ) where
       of true = inr (refl, down)
       of false = inl (inl refl)
 
-  looked_rows : (v : HostState) (o : Option (List Row)) → v.up ≡ false → GrowsOrRises v (looked v o)
+  looked_rows : (v : JournalHost) (o : Option (List Row)) → v.up ≡ false → GrowsOrRises v (looked v o)
   looked_rows v None down = inl (inl refl)
   looked_rows v (Some rows) down =
       of (slice_index v.disk.seen (length (journal_bytes rows)) == 0)
@@ -167,7 +167,7 @@ module _ (stories : List Story) (budget : ℕ) where
       of true = closed_rows v rows down
       of false = inl (inl refl)
 
-  onward_rows : (v : HostState) (step : Step) → StepFact stories budget v step → (call : DiskCall)
+  onward_rows : (v : JournalHost) (step : Step) → StepFact stories budget v step → (call : DiskCall)
       → (reads : List ℕ) → GrowsOrRises v (onward (with_disk v call true reads) step)
   onward_rows v Idle fact call reads = inl (inl refl)
   onward_rows v (RepairWrite r n) fact call reads = inl (inl refl)
@@ -187,7 +187,7 @@ module _ (stories : List Story) (budget : ℕ) where
   onward_rows v (VersionWrite rows) fact call reads = inl (inl refl)
   onward_rows v (VersionSync rows) fact call reads = inr (refl, fact.0)
 
-  failed_rows : (v : HostState) (step : Step) → (failed v step).rows ≡ v.rows
+  failed_rows : (v : JournalHost) (step : Step) → (failed v step).rows ≡ v.rows
   failed_rows v Idle = refl
   failed_rows v (RepairWrite r n) = refl
   failed_rows v (RepairSync r n) = refl
@@ -203,7 +203,7 @@ module _ (stories : List Story) (budget : ℕ) where
   failed_rows v (VersionWrite rows) = refl
   failed_rows v (VersionSync rows) = refl
 
-  called_rows : (w v : HostState) → w.rows ≡ v.rows → (good : Bool) (reads : List ℕ) (step : Step)
+  called_rows : (w v : JournalHost) → w.rows ≡ v.rows → (good : Bool) (reads : List ℕ) (step : Step)
       → StepFact stories budget v step → (call : Option DiskCall)
       → GrowsOrRises v (host_called w v good reads step call)
   called_rows w v same good reads step fact None = inl (inl same)
@@ -221,7 +221,7 @@ module _ (stories : List Story) (budget : ℕ) where
       of false = inl (inl same)
 
   module _ (premise : AreGiven stories budget) (first : ℕ → List Entry)
-      (past : ℕ → List Happening) (w : HostState) (sound : Sound stories budget first past w) where
+      (past : ℕ → List Happening) (w : JournalHost) (sound : Sound stories budget first past w) where
     uncertain_next : (u : Row) → w.uncertain ≡ Some u → IsNext w.rows u
     uncertain_next u is = subst (λ (o : Option Row). IfSome o (IsNext w.rows)) is sound.next
 
@@ -264,7 +264,7 @@ module _ (stories : List Story) (budget : ℕ) where
         of false is = inl refl
 
     -- whatever happens
-    pub after_rows : (event : Event) → Grows w.rows (after stories budget w event).rows
+    pub after_rows : (event : JournalEvent) → Grows w.rows (after stories budget w event).rows
     after_rows (Take s pass line) =
         inl (if_rows w (takes_at stories budget w s pass line (slice_get w.sessions s)) w.up
         (takes_rows w s pass line (slice_get w.sessions s)))

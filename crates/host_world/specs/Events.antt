@@ -21,10 +21,10 @@ use Rattle.host_world.specs.declared.turn.Session.{Session}
 use Rattle.host_world.specs.declared.state.Step.{Step}
 use Rattle.host_world.specs.declared.state.Step.TheVariants.{Idle, RepairWrite, RowWrite}
 use Rattle.host_world.specs.declared.state.Step.TheVariants.{FirstSync}
-use Rattle.host_world.specs.declared.state.HostState.{HostState}
-use Rattle.host_world.specs.declared.event.Event.{Event}
-use Rattle.host_world.specs.declared.event.Event.TheVariants.{Take, Want, Hold, Call, Free, Run}
-use Rattle.host_world.specs.declared.event.Event.TheVariants.{Accept, Give, Stop, Recover}
+use Rattle.host_world.specs.declared.state.JournalHost.{JournalHost}
+use Rattle.host_world.specs.declared.event.JournalEvent.{JournalEvent}
+use Rattle.host_world.specs.declared.event.JournalEvent.TheVariants.{Take, Want, Hold, Call, Free, Run}
+use Rattle.host_world.specs.declared.event.JournalEvent.TheVariants.{Accept, Give, Stop, Recover}
 use Rattle.disk_model.specs.Plain.{is_image}
 use Rattle.host_world.specs.Journal.{next_call, sessions_with, host_called}
 use Rattle.host_world.specs.Sessions.{phase_of, asking, taking, without_turn, in_phase}
@@ -35,47 +35,47 @@ abbrev pub held_by : Option ℕ → ℕ → Bool
 held_by None s = false
 held_by (Some t) s = t == s
 
-abbrev pub holds_journal : HostState → ℕ → Bool
+abbrev pub holds_journal : JournalHost → ℕ → Bool
 holds_journal w s = held_by w.holder s
 
 -- who holds the journal where this session gives it back
-abbrev pub freed_by : HostState → ℕ → Option ℕ
+abbrev pub freed_by : JournalHost → ℕ → Option ℕ
 freed_by w s = if holds_journal w s then None else w.holder
 
 -- the turn of a session goes on to this phase
-abbrev pub goes_to : HostState → ℕ → Phase → Option ℕ → HostState
+abbrev pub goes_to : JournalHost → ℕ → Phase → Option ℕ → JournalHost
 goes_to w s phase holder = record w { sessions = sessions_with w s phase; holder = holder }
 
 -- Want: `NO 12` is ready. So it may be in place of another reply that has no entry.
-abbrev pub want : HostState → ℕ → Option Phase → HostState
+abbrev pub want : JournalHost → ℕ → Option Phase → JournalHost
 want w s (Some Asked) = goes_to w s (Plain OutOfMemory (No NoMemory)) (freed_by w s)
 want w s (Some (Plain outcome reply)) =
     goes_to w s (Plain OutOfMemory (No NoMemory)) w.holder
 want w s other = w
 
 -- Hold, where nobody holds the journal
-abbrev pub hold : HostState → ℕ → Option Phase → Option ℕ → HostState
+abbrev pub hold : JournalHost → ℕ → Option Phase → Option ℕ → JournalHost
 hold w s (Some Asked) None = record w { holder = Some s }
 hold w s other holder = w
 
 -- Free: after a failure the reply is ready, with the disk's counts
-abbrev pub free : HostState → ℕ → Option Phase → HostState
+abbrev pub free : JournalHost → ℕ → Option Phase → JournalHost
 free w s (Some Kept) = goes_to w s Freed None
 free w s (Some (Broken from to)) = goes_to w s (Ready (DiskFailed from to)) None
 free w s other = w
 
 -- Run: the reply is ready
-abbrev pub run_turn : HostState → ℕ → Bool → Option Phase → HostState
+abbrev pub run_turn : JournalHost → ℕ → Bool → Option Phase → JournalHost
 run_turn w s found (Some Freed) =
     goes_to w s (Ready (if found then Answered else Forgotten)) w.holder
 run_turn w s found other = w
 
 -- a session is this from now on, and these replies are given
-abbrev pub with_session : HostState → ℕ → Session → HostState
+abbrev pub with_session : JournalHost → ℕ → Session → JournalHost
 with_session w s x = record w { sessions = set w.sessions s x }
 
 -- Give: the reply that is ready is given, and the turn is over
-abbrev pub gives_reply : HostState → ℕ → Option Reply → HostState
+abbrev pub gives_reply : JournalHost → ℕ → Option Reply → JournalHost
 gives_reply w s None = w
 gives_reply w s (Some reply) =
     record w {
@@ -89,7 +89,7 @@ first_step None r from = RowWrite r from
 first_step (Some u) r from = RepairWrite r from
 
 -- the append of this row begins
-abbrev pub begun_with : HostState → Row → HostState
+abbrev pub begun_with : JournalHost → Row → JournalHost
 begun_with w r =
     record w {
       sessions = sessions_with w r.session Begun;
@@ -97,7 +97,7 @@ begun_with w r =
     }
 
 -- Stop: the disk holds the image, the host is down, and no turn stands
-abbrev pub stopped : HostState → List ℕ → HostState
+abbrev pub stopped : JournalHost → List ℕ → JournalHost
 stopped w image =
     record w {
       up = false;
@@ -107,44 +107,44 @@ stopped w image =
       step = Idle;
     }
 
-abbrev pub stop : HostState → List (List ℕ) → HostState
+abbrev pub stop : JournalHost → List (List ℕ) → JournalHost
 stop w (image ∷ []) = if is_image w.disk image then stopped w image else w
 stop w images = w
 
 -- Call: the next call of the journal's disk
-abbrev pub call_next : HostState → HostState → Bool → List ℕ → HostState
+abbrev pub call_next : JournalHost → JournalHost → Bool → List ℕ → JournalHost
 call_next w new good reads = host_called w new good reads new.step (next_call new.rows new.step)
 
 -- by the stories that the host was handed and the budget of its turns
 module _ (stories : List Story) (budget : ℕ) where
   -- Take, where the session has no turn
-  abbrev pub take_turn : HostState → ℕ → ℕ → List ℕ → Session → Option Turn → HostState
+  abbrev pub take_turn : JournalHost → ℕ → ℕ → List ℕ → Session → Option Turn → JournalHost
   take_turn w s pass line x (Some t) = w
   take_turn w s pass line x None =
       with_session w s
       (asking x pass line (decision_on stories budget (commands_in x.history) line))
 
-  abbrev pub takes_at : HostState → ℕ → ℕ → List ℕ → Option Session → HostState
+  abbrev pub takes_at : JournalHost → ℕ → ℕ → List ℕ → Option Session → JournalHost
   takes_at w s pass line None = w
   takes_at w s pass line (Some x) = take_turn w s pass line x x.turn
 
   -- Accept: the history takes the entry
-  abbrev pub accept : HostState → ℕ → Session → Turn → Phase → HostState
+  abbrev pub accept : JournalHost → ℕ → Session → Turn → Phase → JournalHost
   accept w s x t (Ready outcome) =
       with_session w s
       (taking t outcome (turn_of stories budget x.history t.pass t.line outcome))
   accept w s x t phase = w
 
-  abbrev pub accept_turn : HostState → ℕ → Session → Option Turn → HostState
+  abbrev pub accept_turn : JournalHost → ℕ → Session → Option Turn → JournalHost
   accept_turn w s x None = w
   accept_turn w s x (Some t) = accept w s x t t.phase
 
-  abbrev pub accept_at : HostState → ℕ → Option Session → HostState
+  abbrev pub accept_at : JournalHost → ℕ → Option Session → JournalHost
   accept_at w s None = w
   accept_at w s (Some x) = accept_turn w s x x.turn
 
   -- the append of who holds the journal begins with the first call
-  abbrev pub begin_append : HostState → ℕ → Session → Turn → Phase → Option Command → HostState
+  abbrev pub begin_append : JournalHost → ℕ → Session → Turn → Phase → Option Command → JournalHost
   begin_append w s x t Asked (Some command) =
       record w {
         sessions = set w.sessions s (in_phase x t Begun);
@@ -152,25 +152,25 @@ module _ (stories : List Story) (budget : ℕ) where
       }
   begin_append w s x t phase accepted = w
 
-  abbrev pub begin_session_turn : HostState → ℕ → Session → Option Turn → HostState
+  abbrev pub begin_session_turn : JournalHost → ℕ → Session → Option Turn → JournalHost
   begin_session_turn w s x None = w
   begin_session_turn w s x (Some t) =
       begin_append w s x t t.phase
       (decision_on stories budget (commands_in x.history) t.line).accepted
 
-  abbrev pub begin_session : HostState → ℕ → Option Session → HostState
+  abbrev pub begin_session : JournalHost → ℕ → Option Session → JournalHost
   begin_session w s None = w
   begin_session w s (Some x) = begin_session_turn w s x x.turn
 
-  abbrev pub begin_held : HostState → Step → Option ℕ → HostState
+  abbrev pub begin_held : JournalHost → Step → Option ℕ → JournalHost
   begin_held w Idle (Some s) = begin_session w s (slice_get w.sessions s)
   begin_held w step holder = w
 
-  abbrev pub begun : HostState → HostState
+  abbrev pub begun : JournalHost → JournalHost
   begun w = begin_held w w.step w.holder
 
   -- the host after an event; one that isn't enabled leaves it
-  abbrev pub after : HostState → Event → HostState
+  abbrev pub after : JournalHost → JournalEvent → JournalHost
   after w (Take s pass line) =
       if w.up then takes_at w s pass line (slice_get w.sessions s) else w
   after w (Want s) = want w s (phase_of (slice_get w.sessions s))
@@ -184,6 +184,6 @@ module _ (stories : List Story) (budget : ℕ) where
   after w Recover = if w.up then w else record w { step = FirstSync }
 
   -- the host after these events, one after the other
-  abbrev pub run : HostState → List Event → HostState
+  abbrev pub run : JournalHost → List JournalEvent → JournalHost
   run w [] = w
   run w (event ∷ events) = run (after w event) events

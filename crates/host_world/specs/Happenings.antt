@@ -14,9 +14,9 @@ use Rattle.host_world.specs.declared.turn.Phase.TheVariants.{Taken, Plain}
 use Rattle.host_world.specs.declared.turn.Turn.{Turn}
 use Rattle.host_world.specs.declared.turn.Session.{Session}
 use Rattle.host_world.specs.declared.state.Given.{Given}
-use Rattle.host_world.specs.declared.state.HostState.{HostState}
-use Rattle.host_world.specs.declared.event.Event.{Event}
-use Rattle.host_world.specs.declared.event.Event.TheVariants.{Call, Give, Stop}
+use Rattle.host_world.specs.declared.state.JournalHost.{JournalHost}
+use Rattle.host_world.specs.declared.event.JournalEvent.{JournalEvent}
+use Rattle.host_world.specs.declared.event.JournalEvent.TheVariants.{Call, Give, Stop}
 use Rattle.disk_model.specs.Plain.{is_image}
 use Rattle.host_world.specs.Sessions.{history_found}
 use Rattle.host_world.specs.Events.{after}
@@ -62,14 +62,14 @@ further None commands = commands
 further (Some x) commands = drop (length (commands_in x.history)) commands
 
 -- the host has come up: an opening ended well
-abbrev pub news : ℕ → HostState → HostState → List Happening
+abbrev pub news : ℕ → JournalHost → JournalHost → List Happening
 news s old new =
     if not old.up && new.up
     then Opened (further (slice_get old.sessions s) (commands_of new.rows s)) ∷ []
     else []
 
 -- a stop cuts off the turn of a session
-abbrev pub lost : ℕ → HostState → List (List ℕ) → List Happening
+abbrev pub lost : ℕ → JournalHost → List (List ℕ) → List Happening
 lost s w (image ∷ []) =
     if is_image w.disk image then cut_in (slice_get w.sessions s) else []
 lost s w images = []
@@ -82,14 +82,14 @@ given_replies s (given ∷ more) =
 
 module _ (stories : List Story) (budget : ℕ) where
   -- what an event tells of a session
-  abbrev pub told : ℕ → HostState → Event → List Happening
+  abbrev pub told : ℕ → JournalHost → JournalEvent → List Happening
   told s w (Give t) = if t == s then ended_in (slice_get w.sessions t) else []
   told s w (Call disk good reads) = news s w (after stories budget w (Call disk good reads))
   told s w (Stop images) = lost s w images
   told s w event = []
 
   -- what events tell of it, one after the other
-  abbrev pub all_told : ℕ → HostState → List Event → List Happening
+  abbrev pub all_told : ℕ → JournalHost → List JournalEvent → List Happening
   all_told s w [] = []
   all_told s w (event ∷ events) =
       told s w event ++ all_told s (after stories budget w event) events

@@ -15,9 +15,9 @@ use Rattle.session_core.specs.declared.entry.Outcome.{Outcome}
 use Rattle.session_core.specs.declared.entry.Outcome.TheVariants.{DiskFailed}
 use Rattle.session_core.specs.Turning.{commands_in}
 use Rattle.host_world.specs.declared.turn.Session.{Session}
-use Rattle.host_world.specs.declared.state.HostState.{HostState}
-use Rattle.host_world.specs.declared.event.Event.{Event}
-use Rattle.host_world.specs.declared.event.Event.TheVariants.{Call}
+use Rattle.host_world.specs.declared.state.JournalHost.{JournalHost}
+use Rattle.host_world.specs.declared.event.JournalEvent.{JournalEvent}
+use Rattle.host_world.specs.declared.event.JournalEvent.TheVariants.{Call}
 use Rattle.host_world.specs.Events.{after, run}
 use Rattle.host_world.specs.Happenings.{Happening, Ended, Cut, Opened, cut_at, all_told}
 use Rattle.host_world.specs.Happenings.{history_left, replies_of, given_replies}
@@ -59,7 +59,7 @@ pub record Lives
     (budget s : ℕ)
     (x : Session)
     (past : List Happening)
-    (w : HostState)
+    (w : JournalHost)
     (y : Session) : Type 0 where
   -- its history is the fold of its turns
   pub history : y.history ≡ history_left stories budget x.history (past ++ cut_at y.turn)
@@ -78,8 +78,8 @@ pub record Lives
       × (w.up ≡ true → KeepsCommands stories budget s w y rows)
 
 -- From a host w that is opened or down these events lead to the host v.
-module _ (stories : List Story) (budget : ℕ) (w : HostState) (events : List Event)
-    (v : HostState) where
+module _ (stories : List Story) (budget : ℕ) (w : JournalHost) (events : List JournalEvent)
+    (v : JournalHost) where
   -- each session lives so
   abbrev pub EachLives : Type 0
   EachLives = AreGiven stories budget → IsStart w → (s : ℕ) (x y : Session)
@@ -89,7 +89,7 @@ module _ (stories : List Story) (budget : ℕ) (w : HostState) (events : List Ev
   -- The call with which an opening ends well finds the rows of before, or these and the one behind
   -- the gate of which nothing was known.
   abbrev pub OpeningsFindRows : Type 0
-  OpeningsFindRows = AreGiven stories budget → IsStart w → (earlier later : List Event)
+  OpeningsFindRows = AreGiven stories budget → IsStart w → (earlier later : List JournalEvent)
       → (disk : ℕ) (good : Bool) (reads : List ℕ)
       → events ≡ earlier ++ Call disk good reads ∷ later
       → (run stories budget w earlier).up ≡ false
@@ -100,7 +100,7 @@ module _ (stories : List Story) (budget : ℕ) (w : HostState) (events : List Ev
   -- What a session had accepted at some event when it had no turn under way, so all that was
   -- acknowledged, it keeps in its order, whatever comes.
   abbrev pub NothingIsLost : Type 0
-  NothingIsLost = AreGiven stories budget → IsStart w → (earlier later : List Event)
+  NothingIsLost = AreGiven stories budget → IsStart w → (earlier later : List JournalEvent)
       → events ≡ earlier ++ later → (s : ℕ) (x y : Session)
       → slice_get (run stories budget w earlier).sessions s ≡ Some x → x.turn ≡ None
       → slice_get v.sessions s ≡ Some y
@@ -110,7 +110,7 @@ module _ (stories : List Story) (budget : ℕ) (w : HostState) (events : List Ev
   -- counts of faults, whatever else it holds.
   abbrev pub EventsAreIsolated : Type 0
   EventsAreIsolated =
-      AreGiven stories budget → IsStart w → (other : HostState) (others : List Event)
+      AreGiven stories budget → IsStart w → (other : JournalHost) (others : List JournalEvent)
       → IsStart other → (s : ℕ) (x y : Session)
       → slice_get w.sessions s ≡ Some x → slice_get other.sessions s ≡ Some y
       → commands_in x.history ≡ commands_in y.history

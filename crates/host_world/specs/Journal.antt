@@ -15,7 +15,7 @@ use Rattle.host_world.specs.declared.state.Step.TheVariants.{RowWrite, RowSync, 
 use Rattle.host_world.specs.declared.state.Step.TheVariants.{FirstSync, AskSize, ReadAll}
 use Rattle.host_world.specs.declared.state.Step.TheVariants.{CloseWrite, CloseSync}
 use Rattle.host_world.specs.declared.state.Step.TheVariants.{VersionWrite, VersionSync}
-use Rattle.host_world.specs.declared.state.HostState.{HostState}
+use Rattle.host_world.specs.declared.state.JournalHost.{JournalHost}
 use Rattle.disk_model.specs.Plain.{is_image}
 use Rattle.store_events.specs.Disk.{disk_after, may_work, fault_counted}
 use Rattle.host_world.specs.Reading.{rows_in}
@@ -43,11 +43,11 @@ next_call rows (VersionWrite found) = Some (Write 8 (1 ∷ []))
 next_call rows (VersionSync found) = Some Sync
 
 -- the sessions, where the turn of one goes on to this phase
-abbrev pub sessions_with : HostState → ℕ → Phase → List Session
+abbrev pub sessions_with : JournalHost → ℕ → Phase → List Session
 sessions_with w s phase = phase_set w.sessions s phase (slice_get w.sessions s)
 
 -- an opening has ended well: the histories are those of the rows
-abbrev pub comes_up : HostState → List Row → HostState
+abbrev pub comes_up : JournalHost → List Row → JournalHost
 comes_up w rows =
     record w {
       up = true;
@@ -59,13 +59,13 @@ comes_up w rows =
     }
 
 -- the closing gate is 0: a journal of version 1 is made one of version 2
-abbrev pub gate_closed : HostState → List Row → HostState
+abbrev pub gate_closed : JournalHost → List Row → JournalHost
 gate_closed w rows =
     if version_byte w.disk.seen == 1 then comes_up w rows
     else record w { step = VersionWrite rows }
 
 -- an opening has read all bytes: they spell these rows, if they spell some
-abbrev pub looked : HostState → Option (List Row) → HostState
+abbrev pub looked : JournalHost → Option (List Row) → JournalHost
 looked w (Some rows) =
     if slice_index w.disk.seen (length (journal_bytes rows)) == 0 then gate_closed w rows
     else record w { step = CloseWrite rows }
@@ -87,7 +87,7 @@ is_append (GateSync r from) = true
 is_append step = false
 
 -- after a good call of this step. From the gate's write on the row may be found by an opening.
-abbrev pub onward : HostState → Step → HostState
+abbrev pub onward : JournalHost → Step → JournalHost
 onward w Idle = w
 onward w (RepairWrite r from) = record w { step = RepairSync r from }
 onward w (RepairSync r from) = record w { uncertain = None; step = RowWrite r from }
@@ -110,12 +110,12 @@ onward w (VersionWrite found) = record w { step = VersionSync found }
 onward w (VersionSync found) = comes_up w found
 
 -- the append of a row has failed, the count of faults having been this as it began
-abbrev pub broken : HostState → Row → ℕ → HostState
+abbrev pub broken : JournalHost → Row → ℕ → JournalHost
 broken w r from =
     record w { sessions = sessions_with w r.session (Broken from w.faults); step = Idle }
 
 -- after a call of this step that isn't good: the operation ends
-abbrev pub failed : HostState → Step → HostState
+abbrev pub failed : JournalHost → Step → JournalHost
 failed w (RepairWrite r from) = broken w r from
 failed w (RepairSync r from) = broken w r from
 failed w (RowWrite r from) = broken w r from
@@ -125,21 +125,21 @@ failed w (GateSync r from) = broken w r from
 failed w step = record w { step = Idle }
 
 -- after a call of this step
-abbrev pub call_ended : HostState → Bool → Step → HostState
+abbrev pub call_ended : JournalHost → Bool → Step → JournalHost
 call_ended w true step = onward w step
 call_ended w false step = failed (record w { faults = fault_counted w.faults }) step
 
 -- the host, where its disk was called
-abbrev pub with_disk : HostState → DiskCall → Bool → List ℕ → HostState
+abbrev pub with_disk : JournalHost → DiskCall → Bool → List ℕ → JournalHost
 with_disk w call good reads = record w { disk = disk_after call good reads w.disk }
 
-abbrev pub with_fault : HostState → DiskCall → List ℕ → HostState
+abbrev pub with_fault : JournalHost → DiskCall → List ℕ → JournalHost
 with_fault w call reads =
     record w { disk = disk_after call false reads w.disk; faults = fault_counted w.faults }
 
 -- The call that a step makes, by whether it is good and by what the disk then reads as. A write
 -- past the room isn't good, and a disk reads as one of its images.
-abbrev pub host_called : HostState → HostState → Bool → List ℕ → Step → Option DiskCall → HostState
+abbrev pub host_called : JournalHost → JournalHost → Bool → List ℕ → Step → Option DiskCall → JournalHost
 host_called old w good reads step None = old
 host_called old w true reads step (Some call) =
     if may_work call then onward (with_disk w call true reads) step else old

@@ -11,7 +11,7 @@ use Rattle.host_world.specs.declared.turn.Phase.{Phase}
 use Rattle.host_world.specs.declared.turn.Phase.TheVariants.{Kept, Freed, Ready}
 use Rattle.host_world.specs.declared.turn.Turn.{Turn}
 use Rattle.host_world.specs.declared.turn.Session.{Session}
-use Rattle.host_world.specs.declared.state.HostState.{HostState}
+use Rattle.host_world.specs.declared.state.JournalHost.{JournalHost}
 
 -- these commands, or these and one more
 abbrev pub OneMore : List Command → List Command → Type 0
@@ -19,13 +19,13 @@ OneMore commands found =
     (more : List Command) × (length more ≤ 1) × (found ≡ commands ++ more)
 
 -- the rows of a host's journal, or these and the one behind the gate of which nothing is known
-abbrev pub RowsOrOneMore : HostState → List Row → Type 0
+abbrev pub RowsOrOneMore : JournalHost → List Row → Type 0
 RowsOrOneMore w found =
     (found ≡ w.rows)
     ⊎ ((r : Row) × (w.uncertain ≡ Some r) × (found ≡ w.rows ++ r ∷ []))
 
 -- a command stands behind the gate of which nothing is known, as one of this session
-abbrev pub IsUncertain : ℕ → HostState → Command → Type 0
+abbrev pub IsUncertain : ℕ → JournalHost → Command → Type 0
 IsUncertain s w command =
     (r : Row) × (w.uncertain ≡ Some r) × (r.session ≡ s) × (command ≡ r.command)
 
@@ -54,7 +54,7 @@ module _ (stories : List Story) (budget : ℕ) where
 
   -- these rows have a session's commands, or these and the pending one, or these and the one behind
   -- the gate
-  abbrev pub KeepsCommands : ℕ → HostState → Session → List Row → Type 0
+  abbrev pub KeepsCommands : ℕ → JournalHost → Session → List Row → Type 0
   KeepsCommands s w x rows =
       (commands_of rows s ≡ commands_in x.history)
       ⊎ (commands_of rows s ≡ commands_in x.history ++ pending x)

@@ -10,12 +10,12 @@ use Rattle.gate_journal.specs.Log.{StandsInEither}
 use Rattle.session_core.specs.Turning.{commands_in}
 use Rattle.host_world.specs.declared.turn.Session.{Session}
 use Rattle.host_world.specs.declared.state.Step.TheVariants.{Idle}
-use Rattle.host_world.specs.declared.state.HostState.{HostState}
+use Rattle.host_world.specs.declared.state.JournalHost.{JournalHost}
 use Rattle.host_world.specs.Sessions.{found_sessions}
 
 -- nothing is under way, no reply was given, and the commands of each of 64 sessions are its rows,
 -- which a journal may have
-pub record IsQuietHost (w : HostState) : Type 0 where
+pub record IsQuietHost (w : JournalHost) : Type 0 where
   pub journal : IsJournal w.rows
   pub reads : IsDiskImage w.disk w.disk.seen
   pub idle : w.step ≡ Idle
@@ -26,7 +26,7 @@ pub record IsQuietHost (w : HostState) : Type 0 where
       → (x.turn ≡ None) × (commands_of w.rows s ≡ commands_in x.history)
 
 -- an opened host: each image of its disk has its rows and a closed gate
-pub record IsOpenedState (w : HostState) : Type 0 where
+pub record IsOpenedState (w : JournalHost) : Type 0 where
   pub up : w.up ≡ true
   pub quiet : IsQuietHost w
   pub certain : w.uncertain ≡ None
@@ -35,13 +35,13 @@ pub record IsOpenedState (w : HostState) : Type 0 where
 
 -- a host that is down: each image, of either version, has its rows, and a closed gate or one of
 -- which nothing is known before a row that may stand there
-pub record IsDown (w : HostState) : Type 0 where
+pub record IsDown (w : JournalHost) : Type 0 where
   pub down : w.up ≡ false
   pub quiet : IsQuietHost w
   pub next : IfSome w.uncertain (IsNext w.rows)
   pub stands : (c : List ℕ) → IsDiskImage w.disk c → StandsInEither w.rows w.uncertain c
 
-abbrev pub IsStart : HostState → Type 0
+abbrev pub IsStart : JournalHost → Type 0
 IsStart w = IsOpenedState w ⊎ IsDown w
 
 -- the rows that bytes spell, or none where they spell none
@@ -50,7 +50,7 @@ rows_or_none None = []
 rows_or_none (Some rows) = rows
 
 -- a host that is down over these bytes, with nothing pending in its disk
-abbrev pub down_over : List ℕ → List Row → Option Row → HostState
+abbrev pub down_over : List ℕ → List Row → Option Row → JournalHost
 down_over bytes rows uncertain =
     record {
       up = false;

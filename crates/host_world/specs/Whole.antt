@@ -9,15 +9,15 @@ use Rattle.store_events.specs.declared.state.StoreState.{StoreState}
 use Rattle.store_events.specs.Events.{is_opening, is_putting, begins_opening}
 use Rattle.store_events.specs.Events.{file_after}
 use Rattle.store_events.specs.Events.{store_down_over as file_down}
-use Rattle.host_world.specs.declared.event.Event.{Event}
-use Rattle.host_world.specs.declared.event.Event.TheVariants as journal
+use Rattle.host_world.specs.declared.event.JournalEvent.{JournalEvent}
+use Rattle.host_world.specs.declared.event.JournalEvent.TheVariants as journal
 use Rattle.host_world.specs.declared.keeping.Snapshot.{Snapshot}
-use Rattle.host_world.specs.declared.state.HostState.{HostState}
-use Rattle.host_world.specs.declared.whole.WholeEvent.{WholeEvent}
-use Rattle.host_world.specs.declared.whole.WholeEvent.TheVariants.{Take, Want, Hold, Call}
-use Rattle.host_world.specs.declared.whole.WholeEvent.TheVariants.{Free, Run, Keep, Accept}
-use Rattle.host_world.specs.declared.whole.WholeEvent.TheVariants.{Give, Stop, Recover}
-use Rattle.host_world.specs.declared.whole.WholeState.{WholeState}
+use Rattle.host_world.specs.declared.state.JournalHost.{JournalHost}
+use Rattle.host_world.specs.declared.whole.Event.{Event}
+use Rattle.host_world.specs.declared.whole.Event.TheVariants.{Take, Want, Hold, Call}
+use Rattle.host_world.specs.declared.whole.Event.TheVariants.{Free, Run, Keep, Accept}
+use Rattle.host_world.specs.declared.whole.Event.TheVariants.{Give, Stop, Recover}
+use Rattle.host_world.specs.declared.whole.HostState.{HostState}
 use Rattle.host_world.specs.Events.{holds_journal, run}
 use Rattle.host_world.specs.Keeping.{due_snapshot, put_begun, with_event}
 use Rattle.host_world.specs.Reading.{rows_in}
@@ -28,7 +28,7 @@ abbrev pub all_up : List StoreState → Bool
 all_up [] = true
 all_up (x ∷ stores) = x.up && all_up stores
 
-abbrev pub is_up : WholeState → Bool
+abbrev pub is_up : HostState → Bool
 is_up w = w.host.up && all_up w.stores
 
 -- a stop may leave these images of the files
@@ -53,11 +53,11 @@ fails_at (Some x) good reads = fails x (file_after x (files.Call good reads))
 
 -- The host, of which a file can't be opened, is down again: nothing is pending in its journal, so
 -- it stays as it reads.
-abbrev pub closes_host : HostState → List Event
+abbrev pub closes_host : JournalHost → List JournalEvent
 closes_host w = journal.Stop (w.disk.seen ∷ []) ∷ []
 
 -- What an event is to the host with its journal alone: nothing where it isn't enabled.
-abbrev pub to_host : WholeState → WholeEvent → List Event
+abbrev pub to_host : HostState → Event → List JournalEvent
 to_host w (Take s pass line) = if is_up w then journal.Take s pass line ∷ [] else []
 to_host w (Want s) = journal.Want s ∷ []
 to_host w (Hold s) = journal.Hold s ∷ []
@@ -87,25 +87,25 @@ stopped_files (x ∷ stores) (image ∷ images) =
     file_after x (files.Stop image) ∷ stopped_files stores images
 
 -- with another host, or other files
-abbrev pub with_host : WholeState → HostState → WholeState
+abbrev pub with_host : HostState → JournalHost → HostState
 with_host w host = record { host = host; stores = w.stores }
 
-abbrev pub with_files : WholeState → List StoreState → WholeState
+abbrev pub with_files : HostState → List StoreState → HostState
 with_files w stores = record { host = w.host; stores = stores }
 
 module _ (stories : List Story) where
   -- The snapshot of a session that is due: by its synced rows, where the host is up and the turn of
   -- the session doesn't hold the journal.
-  abbrev pub put_in : WholeState → ℕ → Option StoreState → Option Snapshot
+  abbrev pub put_in : HostState → ℕ → Option StoreState → Option Snapshot
   put_in w s None = None
   put_in w s (Some x) =
       if is_up w && not (holds_journal w.host s) then due_snapshot stories w.host.rows s x else None
 
-  abbrev pub put_of : WholeState → ℕ → Option Snapshot
+  abbrev pub put_of : HostState → ℕ → Option Snapshot
   put_of w s = put_in w s (slice_get w.stores s)
 
   -- What an event is to the files. A file is called once the journal is open.
-  abbrev pub to_files : WholeState → WholeEvent → List StoreState
+  abbrev pub to_files : HostState → Event → List StoreState
   to_files w (Take s pass line) = w.stores
   to_files w (Want s) = w.stores
   to_files w (Hold s) = w.stores
@@ -127,19 +127,19 @@ module _ (stories : List Story) where
 
 module _ (stories : List Story) (budget : ℕ) where
   -- the host and its files after an event, and after these, one after the other
-  abbrev pub whole_after : WholeState → WholeEvent → WholeState
+  abbrev pub whole_after : HostState → Event → HostState
   whole_after w event =
       record {
         host = run stories budget w.host (to_host w event);
         stores = to_files stories w event;
       }
 
-  abbrev pub whole_run : WholeState → List WholeEvent → WholeState
+  abbrev pub whole_run : HostState → List Event → HostState
   whole_run w [] = w
   whole_run w (event ∷ events) = whole_run (whole_after w event) events
 
   -- what the host with its journal alone lives through
-  abbrev pub all_to_host : WholeState → List WholeEvent → List Event
+  abbrev pub all_to_host : HostState → List Event → List JournalEvent
   all_to_host w [] = []
   all_to_host w (event ∷ events) = to_host w event ++ all_to_host (whole_after w event) events
 
@@ -147,7 +147,7 @@ module _ (stories : List Story) (budget : ℕ) where
 abbrev pub file_over : List ℕ → StoreState
 file_over bytes = file_down bytes
 
-abbrev pub whole_down : List ℕ → List (List ℕ) → WholeState
+abbrev pub whole_down : List ℕ → List (List ℕ) → HostState
 whole_down bytes files =
     record {
       host = down_over bytes (rows_or_none (rows_in bytes)) None;

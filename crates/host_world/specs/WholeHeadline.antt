@@ -20,19 +20,19 @@ use Rattle.host_world.specs.Events.{run}
 use Rattle.host_world.specs.Headline.{AreGiven}
 use Rattle.host_world.specs.Starts.{IsStart}
 use Rattle.host_world.specs.declared.turn.Session.{Session}
-use Rattle.host_world.specs.declared.whole.WholeEvent.{WholeEvent}
-use Rattle.host_world.specs.declared.whole.WholeState.{WholeState}
+use Rattle.host_world.specs.declared.whole.Event.{Event}
+use Rattle.host_world.specs.declared.whole.HostState.{HostState}
 use Rattle.host_world.specs.Whole.{all_to_host, whole_after, whole_run}
 
 module _ (stories : List Story) (budget : ℕ) where
   -- each session's file is in agreement with its rows and its commands
-  abbrev pub EachInAgreement : WholeState → Type 0
+  abbrev pub EachInAgreement : HostState → Type 0
   EachInAgreement w =
       (s : ℕ) (x : StoreState) → slice_get w.stores s ≡ Some x
       → IsInAgreement stories (session_in_rows w.host.rows s x)
 
   -- From a host that is opened or down these events lead to the host v.
-  module _ (w : WholeState) (events : List WholeEvent) (v : WholeState) where
+  module _ (w : HostState) (events : List Event) (v : HostState) where
     -- What the host lived through with its journal alone, to which its theorems apply.
     abbrev pub LivesAsHost : Type 0
     LivesAsHost = v.host ≡ run stories budget w.host (all_to_host stories budget w events)
@@ -41,7 +41,7 @@ module _ (stories : List Story) (budget : ℕ) where
     -- acknowledged, it keeps in its order, whatever comes.
     abbrev pub NothingIsLostInAll : Type 0
     NothingIsLostInAll =
-        AreGiven stories budget → IsStart w.host → (earlier later : List WholeEvent)
+        AreGiven stories budget → IsStart w.host → (earlier later : List Event)
         → events ≡ earlier ++ later → (s : ℕ) (x y : Session)
         → slice_get (whole_run stories budget w earlier).host.sessions s ≡ Some x
         → x.turn ≡ None → slice_get v.host.sessions s ≡ Some y
@@ -57,13 +57,13 @@ module _ (stories : List Story) (budget : ℕ) where
         → IsAgreedFile stories (opens_of v.host.rows s) (game_of (commands_of v.host.rows s)) image)
 
   -- Where this event adds a row of the session with an input, no snapshot of it is due.
-  abbrev pub NoneIsMissed : ℕ → WholeState → WholeEvent → Type 0
+  abbrev pub NoneIsMissed : ℕ → HostState → Event → Type 0
   NoneIsMissed s w event =
       (x : StoreState) (r : Row) → slice_get w.stores s ≡ Some x
       → (whole_after stories budget w event).host.rows ≡ w.host.rows ++ r ∷ []
       → EachMissesNone (session_in_rows w.host.rows s x) (told_of r s)
 
-  abbrev pub NoneAreMissed : ℕ → WholeState → List WholeEvent → Type 0
+  abbrev pub NoneAreMissed : ℕ → HostState → List Event → Type 0
   NoneAreMissed s w [] = Unit {0}
   NoneAreMissed s w (event ∷ events) =
       NoneIsMissed s w event × NoneAreMissed s (whole_after stories budget w event) events
@@ -71,10 +71,10 @@ module _ (stories : List Story) (budget : ℕ) where
   -- A session of which no due snapshot was missed since it was up to date, at some point of the
   -- events, warms in at most 16 turns. So it is from the beginning, from the moment at which its last
   -- due snapshot is kept, and from the OPEN of its next game.
-  abbrev pub SessionWarmsInSixteen : WholeState → List WholeEvent → WholeState → Type 0
+  abbrev pub SessionWarmsInSixteen : HostState → List Event → HostState → Type 0
   SessionWarmsInSixteen w events v =
       AreGiven stories budget → IsStart w.host → EachInAgreement w
-      → (earlier later : List WholeEvent) → events ≡ earlier ++ later
+      → (earlier later : List Event) → events ≡ earlier ++ later
       → (s : ℕ) (then_ last : StoreState)
       → slice_get (whole_run stories budget w earlier).stores s ≡ Some then_
       → IsUpToDate (session_in_rows (whole_run stories budget w earlier).host.rows s then_)
@@ -88,7 +88,7 @@ module _ (stories : List Story) (budget : ℕ) where
 
 -- Over a journal whose closing gate is closed, and files that agree with its rows, a list of events
 -- may begin at this host.
-abbrev pub MayBegin : List ℕ → List (List ℕ) → WholeState → Type 0
+abbrev pub MayBegin : List ℕ → List (List ℕ) → HostState → Type 0
 MayBegin journal files w =
     (rows : List Row) → IsJournal rows → StandsInEither rows None journal
     → IsStart w.host

@@ -7,11 +7,11 @@ ghost use Rattle.session_core.specs.Turning.{commands_in, decision_on, turn_met}
 ghost use Rattle.session_core.specs.declared.entry.Entry.{Entry};
 ghost use Rattle.host_world.specs.Sessions.{first_phase, session_turn_begun, with_entry, taken_in};
 ghost use Rattle.host_world.specs.Events.{after};
-ghost use Rattle.host_world.specs.declared.event.Event.TheVariants as Event;
+ghost use Rattle.host_world.specs.declared.event.JournalEvent.TheVariants as JournalEvent;
 ghost use Rattle.host_world.specs.declared.turn.Session.{Session};
 ghost use Rattle.host_world.specs.declared.turn.Turn.{Turn};
 
-use crate::state::HostState;
+use crate::state::JournalHost;
 use crate::turn::{Phase, Session, Turn};
 use gate_journal::Command;
 use line_words::{LineFault, No, Reply, read_request};
@@ -117,7 +117,7 @@ fn begin_turn(sessions: &mut Vec<Session>, s: u8, turn: Turn)
     }
 }
 
-impl HostState {
+impl JournalHost {
     /// A session without a turn begins one, by the pass of this number with this line, given
     /// without its LF. Where memory runs out nothing has changed.
     pub(crate) fn take(
@@ -130,7 +130,7 @@ impl HostState {
         line: &Bytes,
     ) -> Result<(), AllocError>
         ensures ok { OnOk result (self.new
-            ≡ after stories.now budget self.old (Event.Take s pass line.now)) }
+            ≡ after stories.now budget self.old (JournalEvent.Take s pass line.now)) }
         ensures err { OnErr result (self.new ≡ self.old) }
     {
         if !self.up {
@@ -172,7 +172,7 @@ impl HostState {
         budget: u64,
         s: u8,
     ) -> Result<(), AllocError>
-        ensures { OnOk result (self.new ≡ after stories.now budget self.old (Event.Accept s)) }
+        ensures { OnOk result (self.new ≡ after stories.now budget self.old (JournalEvent.Accept s)) }
     {
         let Some(session) = self.sessions.list.get(s as usize) else {
             return Ok(());

@@ -6,7 +6,7 @@ use crate::items::Items;
 use std::marker::Model;
 use story_text::Bytes;
 
-/// The bytes that a stop leaves on each disk: the journal's.
+/// The bytes that a stop leaves on each disk: the journal's, and then those of the files by session.
 #[derive(Drop)]
 pub struct Images {
     list: Items<Bytes>,
@@ -36,10 +36,10 @@ impl Images {
     }
 }
 
-/// An event. One that isn't enabled changes nothing; so one that names no session below 64, no disk
-/// (the journal's is 0), or another number of images than one.
+/// An event of a host with its journal alone. One that isn't enabled changes nothing; so one that
+/// names no session below 64, no disk (the journal's is 0), or another number of images than one.
 #[derive(Drop)]
-pub enum Event {
+pub enum JournalEvent {
     /// The session `s` begins a turn by the pass of this number, with this line, given without LF.
     Take { s: u8, pass: u64, line: Bytes },
     /// Memory runs out in its turn before an append has begun.

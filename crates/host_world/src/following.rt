@@ -11,39 +11,39 @@ ghost use Rattle.host_world.specs.Whole.{all_to_host, whole_run};
 ghost use Rattle.host_world.specs.WholeHeadline.{FilesAgree, LivesAsHost, NothingIsLostInAll};
 ghost use Rattle.host_world.specs.WholeHeadline.{SessionWarmsInSixteen};
 
-use crate::event::Event;
-use crate::state::HostState;
-use crate::whole::{WholeEvent, WholeState};
+use crate::event::JournalEvent;
+use crate::state::JournalHost;
+use crate::whole::{Event, HostState};
 use std::alloc::{AllocError, Global};
 use story_run::Story;
 
-impl HostState {
+impl JournalHost {
     // An event happens; one that isn't enabled changes nothing.
     fn happen(
         &mut self,
         alloc: Global,
         stories: &[Story],
         budget: u64,
-        event: &Event,
+        event: &JournalEvent,
     ) -> Result<(), AllocError>
         requires { IsBudget budget }
         ensures { OnOk result (self.new ≡ after stories.now budget self.old event.now) }
     {
         match event {
-            Event::Take { s, pass, line } => {
+            JournalEvent::Take { s, pass, line } => {
                 return self.take(alloc, stories, budget, *s, *pass, line);
             }
-            Event::Want { s } => self.want(*s),
-            Event::Hold { s } => self.hold(*s),
-            Event::Call { disk, good, reads } => {
+            JournalEvent::Want { s } => self.want(*s),
+            JournalEvent::Hold { s } => self.hold(*s),
+            JournalEvent::Call { disk, good, reads } => {
                 return self.call(alloc, stories, budget, *disk, *good, reads);
             }
-            Event::Free { s } => self.free(*s),
-            Event::Run { s, found } => self.run_turn(*s, *found),
-            Event::Accept { s } => return self.accept(alloc, stories, budget, *s),
-            Event::Give { s } => return self.give(*s),
-            Event::Stop { images } => return self.stop(alloc, images),
-            Event::Recover => self.recover(),
+            JournalEvent::Free { s } => self.free(*s),
+            JournalEvent::Run { s, found } => self.run_turn(*s, *found),
+            JournalEvent::Accept { s } => return self.accept(alloc, stories, budget, *s),
+            JournalEvent::Give { s } => return self.give(*s),
+            JournalEvent::Stop { images } => return self.stop(alloc, images),
+            JournalEvent::Recover => self.recover(),
         }
         Ok(())
     }
@@ -55,13 +55,13 @@ impl HostState {
 /// Whatever happens in whatever order: each session's history and replies are the fold of its own
 /// turns; a stop leaves what it accepted, or that and one command more; and what happens to other
 /// sessions changes no reply. An error is want of memory.
-pub fn follow(
+pub fn follow_journal(
     alloc: Global,
     stories: &[Story],
     budget: u64,
-    mut state: HostState,
-    events: &[Event],
-) -> Result<HostState, AllocError>
+    mut state: JournalHost,
+    events: &[JournalEvent],
+) -> Result<JournalHost, AllocError>
     requires { IsBudget budget }
     ensures value { IfOk result (λ w. w ≡ run stories.now budget state events.now) }
     // Of hosts that are opened or down:
@@ -86,13 +86,13 @@ pub fn follow(
 /// session's own snapshot; each image of a session's file agrees with its rows and its commands; and
 /// a session of which no due snapshot was missed warms in at most 16 turns. An error is want of
 /// memory.
-pub fn follow_all(
+pub fn follow(
     alloc: Global,
     stories: &[Story],
     budget: u64,
-    mut state: WholeState,
-    events: &[WholeEvent],
-) -> Result<WholeState, AllocError>
+    mut state: HostState,
+    events: &[Event],
+) -> Result<HostState, AllocError>
     requires { IsBudget budget }
     ensures value { IfOk result (λ w. w ≡ whole_run stories.now budget state events.now) }
     ensures own { IfOk result (λ _. AreOwnPuts stories.now budget state events.now) }

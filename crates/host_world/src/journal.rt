@@ -6,14 +6,14 @@ ghost use Rattle.host_world.specs.Journal.{next_call, onward, failed, call_ended
 ghost use Rattle.host_world.specs.Journal.{is_append, is_idle};
 ghost use Rattle.host_world.specs.Journal.{sessions_with};
 ghost use Rattle.host_world.specs.Events.{after, begun, begun_with, call_next, first_step};
-ghost use Rattle.host_world.specs.declared.event.Event.TheVariants as Event;
+ghost use Rattle.host_world.specs.declared.event.JournalEvent.TheVariants as JournalEvent;
 ghost use Rattle.host_world.specs.declared.state.Step.TheVariants as Steps;
 ghost use Rattle.host_world.specs.declared.turn.Phase.TheVariants as Phases;
 
 use crate::deciding::decision_on;
 use crate::rows::{JournalRows, NewRow};
 use crate::sessions::set_phase;
-use crate::state::{HostState, Step, set_step};
+use crate::state::{JournalHost, Step, set_step};
 use crate::turn::Phase;
 use session_core::Decision;
 use std::alloc::{AllocError, Global};
@@ -85,7 +85,7 @@ fn is_append(step: &Step) -> bool
     )
 }
 
-impl HostState {
+impl JournalHost {
     // The row of the append that begins with the next call, if one does.
     #[tactic(auto, using(crate::proofs::CallCode::busy_begins, crate::proofs::CallCode::idle_is))]
     fn row_begun(
@@ -332,7 +332,7 @@ impl HostState {
     ) -> Result<(), AllocError>
         requires { IsBudget budget }
         ensures { OnOk result
-            (self.new ≡ after stories.now budget self.old (Event.Call disk good reads.now)) }
+            (self.new ≡ after stories.now budget self.old (JournalEvent.Call disk good reads.now)) }
     {
         if disk != 0 {
             return Ok(());

@@ -18,10 +18,10 @@ mod steps;
 mod turn;
 mod whole;
 
-pub use event::{Event, Images};
-pub use following::{follow, follow_all};
+pub use event::{Images, JournalEvent};
+pub use following::{follow, follow_journal};
 pub use items::Items;
 pub use law::definitions;
-pub use state::{Given, HostState, Step};
+pub use state::{Given, JournalHost, Step};
 pub use turn::{Phase, Session, Turn};
-pub use whole::{WholeEvent, WholeState};
+pub use whole::{Event, HostState};

@@ -12,7 +12,7 @@ ghost use Rattle.host_world.specs.Starts.{down_over, rows_or_none, IsStart};
 use crate::history::History;
 use crate::items::Items;
 use crate::rows::JournalRows;
-use crate::state::{HostState, Step, set_step};
+use crate::state::{JournalHost, Step, set_step};
 use crate::turn::Session;
 use disk_model::PlainDisk;
 use gate_journal::{JournalFault, Rows, read_rows};
@@ -73,10 +73,10 @@ fn rows_or_none(alloc: Global, rows: Option<Rows>) -> Rows
     }
 }
 
-impl HostState {
+impl JournalHost {
     /// A host that is down over a disk that holds these bytes, with nothing pending and a count of 0,
     /// and that gave no replies.
-    pub fn down(alloc: Global, journal: &Bytes) -> Result<HostState, AllocError>
+    pub fn down(alloc: Global, journal: &Bytes) -> Result<JournalHost, AllocError>
         ensures value { IfOk result
             (λ w. w ≡ down_over journal.now (rows_or_none (rows_in journal.now)) None) }
         // Over a journal of either version whose closing gate is closed a list of events may begin
@@ -85,7 +85,7 @@ impl HostState {
             → StandsInEither rows None journal.now → IsStart w) }
     {
         let rows = rows_or_none(alloc, rows_in(alloc, journal.as_slice())?);
-        Ok(HostState {
+        Ok(JournalHost {
             up: false,
             sessions: Items::of(found_sessions(alloc, &rows)?),
             given: Items::of(Vec::new(alloc)),

@@ -50,9 +50,9 @@ pub struct Given {
     pub reply: Reply,
 }
 
-/// A host: its sessions, the replies that it gave, and its journal.
+/// A host with its journal alone: its sessions, the replies that it gave, and its journal.
 #[derive(Drop)]
-pub struct HostState {
+pub struct JournalHost {
     pub(crate) up: bool,
     pub(crate) sessions: Items<Session>,
     pub(crate) given: Items<Given>,
@@ -67,7 +67,7 @@ pub struct HostState {
     pub(crate) step: Step,
 }
 
-impl HostState {
+impl JournalHost {
     /// The replies, in the order in which they were given.
     pub fn replies(&self) -> &[Given]
         ensures { result.now ≡ self.now.given }

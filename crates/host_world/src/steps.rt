@@ -3,11 +3,11 @@
 ghost use Rattle.std.specs.Prelude.{◌≡◌, ℕ, List, OnOk, OnErr};
 ghost use Rattle.story_run.specs.declared.story.Story.{Story};
 ghost use Rattle.host_world.specs.Events.{after, held_by};
-ghost use Rattle.host_world.specs.declared.event.Event.TheVariants as Event;
+ghost use Rattle.host_world.specs.declared.event.JournalEvent.TheVariants as JournalEvent;
 
 use crate::event::Images;
 use crate::sessions::{end_turn, end_turns, has_answer, phase_of, set_phase};
-use crate::state::{Given, HostState, Step, set_step};
+use crate::state::{Given, JournalHost, Step, set_step};
 use crate::turn::Phase;
 use disk_model::PlainDisk;
 use line_words::{No, Reply};
@@ -24,11 +24,11 @@ pub fn holds(holder: Option<u8>, s: u8) -> bool
     }
 }
 
-impl HostState {
+impl JournalHost {
     /// Memory runs out in a turn of which no append has begun: `NO 12` is its reply.
     pub(crate) fn want(&mut self, s: u8)
         ensures { (stories : List Story) (budget : ℕ)
-            → self.new ≡ after stories budget self.old (Event.Want s) }
+            → self.new ≡ after stories budget self.old (JournalEvent.Want s) }
     {
         match phase_of(self.sessions.as_slice(), s) {
             Some(Phase::Asked) => {
@@ -49,7 +49,7 @@ impl HostState {
     /// A turn takes the journal, where nobody holds it.
     pub(crate) fn hold(&mut self, s: u8)
         ensures { (stories : List Story) (budget : ℕ)
-            → self.new ≡ after stories budget self.old (Event.Hold s) }
+            → self.new ≡ after stories budget self.old (JournalEvent.Hold s) }
     {
         if let Some(Phase::Asked) = phase_of(self.sessions.as_slice(), s) {
             if self.holder.is_none() {
@@ -61,7 +61,7 @@ impl HostState {
     /// It gives the journal back, once its append has ended.
     pub(crate) fn free(&mut self, s: u8)
         ensures { (stories : List Story) (budget : ℕ)
-            → self.new ≡ after stories budget self.old (Event.Free s) }
+            → self.new ≡ after stories budget self.old (JournalEvent.Free s) }
     {
         if !holds(self.holder, s) {
             return;
@@ -86,7 +86,7 @@ impl HostState {
     /// It answers; `found` says whether memory for the reply was found.
     pub(crate) fn run_turn(&mut self, s: u8, found: bool)
         ensures { (stories : List Story) (budget : ℕ)
-            → self.new ≡ after stories budget self.old (Event.Run s found) }
+            → self.new ≡ after stories budget self.old (JournalEvent.Run s found) }
     {
         if let Some(Phase::Freed) = phase_of(self.sessions.as_slice(), s) {
             let outcome = if found {
@@ -102,7 +102,7 @@ impl HostState {
     /// changed.
     pub(crate) fn give(&mut self, s: u8) -> Result<(), AllocError>
         ensures ok { (stories : List Story) (budget : ℕ)
-            → OnOk result (self.new ≡ after stories budget self.old (Event.Give s)) }
+            → OnOk result (self.new ≡ after stories budget self.old (JournalEvent.Give s)) }
         ensures err { OnErr result (self.new ≡ self.old) }
     {
         if !has_answer(self.sessions.as_slice(), s) {
@@ -119,7 +119,7 @@ impl HostState {
     /// out nothing has changed.
     pub(crate) fn stop(&mut self, alloc: Global, images: &Images) -> Result<(), AllocError>
         ensures ok { (stories : List Story) (budget : ℕ)
-            → OnOk result (self.new ≡ after stories budget self.old (Event.Stop images.now)) }
+            → OnOk result (self.new ≡ after stories budget self.old (JournalEvent.Stop images.now)) }
         ensures err { OnErr result (self.new ≡ self.old) }
     {
         let [image] = images.as_slice() else {
@@ -139,7 +139,7 @@ impl HostState {
     /// An opening begins, where the host is down.
     pub(crate) fn recover(&mut self)
         ensures { (stories : List Story) (budget : ℕ)
-            → self.new ≡ after stories budget self.old Event.Recover }
+            → self.new ≡ after stories budget self.old JournalEvent.Recover }
     {
         if !self.up {
             set_step(&mut self.step, Step::FirstSync);

@@ -1,7 +1,7 @@
 //! A host with the snapshot files of its sessions, and every order of events that may happen to it
 //! (own).
 
-ghost use Rattle.std.specs.Prelude.{◌≡◌, IfOk, IfSome, OnOk, List, [], ◌∷◌, ℕ, map, Some};
+ghost use Rattle.std.specs.Prelude.{◌≡◌, IfOk, IfSome, OnOk, List, [], ◌∷◌, ℕ, length, map, Some};
 ghost use Rattle.std.specs.Prelude.{if◌then◌else◌};
 ghost use Rattle.std.specs.List.{slice_get};
 ghost use Rattle.story_run.specs.declared.story.Story.{Story};
@@ -17,8 +17,8 @@ ghost use Rattle.host_world.specs.Whole.{are_images, closes_host, fails_at, is_u
 ghost use Rattle.host_world.specs.Whole.{stopped_files, whole_after, whole_down};
 ghost use Rattle.host_world.specs.Whole.{with_files, with_host};
 ghost use Rattle.host_world.specs.WholeHeadline.{MayBegin};
-ghost use Rattle.host_world.specs.declared.event.Event.TheVariants as HostEvent;
-ghost use Rattle.host_world.specs.declared.whole.WholeEvent.TheVariants as Event;
+ghost use Rattle.host_world.specs.declared.event.JournalEvent.TheVariants as JournalEvent;
+ghost use Rattle.host_world.specs.declared.whole.Event.TheVariants as Event;
 
 use crate::event::Images;
 use crate::files::{
@@ -26,7 +26,7 @@ use crate::files::{
 };
 use crate::items::Items;
 use crate::keeping::{Snapshot, due_snapshot};
-use crate::state::HostState;
+use crate::state::{Given, JournalHost};
 use crate::steps::holds;
 use std::alloc::{AllocError, Global};
 use store_events::StoreState;
@@ -35,15 +35,15 @@ use story_text::Bytes;
 
 /// A host with its journal, and the snapshot file of each of its sessions.
 #[derive(Drop)]
-pub struct WholeState {
-    pub(crate) host: HostState,
+pub struct HostState {
+    pub(crate) host: JournalHost,
     pub(crate) stores: Items<StoreState>,
 }
 
 /// An event. One that isn't enabled changes nothing. Disk 0 is the journal's, and disk `s` + 1 the
 /// file of session `s`; a stop leaves an image of each.
 #[derive(Drop)]
-pub enum WholeEvent {
+pub enum Event {
     /// The session `s` begins a turn by the pass of this number, with this line, given without LF.
     Take { s: u8, pass: u64, line: Bytes },
     /// Memory runs out in its turn before an append has begun.
@@ -77,9 +77,9 @@ fn one_image(alloc: Global, bytes: &[u8]) -> Result<Images, AllocError>
     Ok(Images::of(list))
 }
 
-impl WholeState {
+impl HostState {
     /// The host with its journal.
-    pub fn host(&self) -> &HostState
+    pub fn host(&self) -> &JournalHost
         ensures { result.now ≡ self.now.host }
     {
         &self.host
@@ -92,19 +92,27 @@ impl WholeState {
         self.stores.as_slice()
     }
 
-    /// A host that is down over a journal and files that hold these bytes, with nothing pending and
-    /// counts of 0, and that gave no replies.
-    pub fn down(alloc: Global, journal: &Bytes, files: &[Bytes]) -> Result<WholeState, AllocError>
-        ensures value { IfOk result (λ w. w ≡ whole_down journal.now files.now) }
+    /// The replies, in the order in which they were given.
+    pub fn replies(&self) -> &[Given]
+        ensures { result.now ≡ self.now.host.given }
+    {
+        self.host.replies()
+    }
+
+    /// A host that is down over disks that hold these bytes, with nothing pending and counts of 0, and
+    /// that gave no replies: the journal's, and the snapshot file of each session, by its number.
+    pub fn down(alloc: Global, journal: Bytes, stores: Vec<Bytes>) -> Result<HostState, AllocError>
+        requires { length stores.items ≡ 64 }
+        ensures value { IfOk result (λ w. w ≡ whole_down journal stores.items) }
         // Over a journal whose closing gate is closed, and files that agree with its rows, a list
         // of events may begin at it.
-        ensures start { IfOk result (MayBegin journal.now files.now) }
+        ensures start { IfOk result (MayBegin journal stores.items) }
     {
-        let host = HostState::down(alloc, journal)?;
-        let stores = files_over(alloc, files)?;
-        Ok(WholeState {
+        let host = JournalHost::down(alloc, &journal)?;
+        let files = files_over(alloc, stores.as_slice())?;
+        Ok(HostState {
             host,
-            stores: Items::of(stores),
+            stores: Items::of(files),
         })
     }
 
@@ -251,7 +259,7 @@ impl WholeState {
     fn stop_host(&mut self, alloc: Global, image: &Bytes) -> Result<(), AllocError>
         ensures { (stories : List Story) (budget : ℕ) → OnOk result (self.new
             ≡ with_host self.old
-            (after stories budget self.old.host (HostEvent.Stop (image.now ∷ [])))) }
+            (after stories budget self.old.host (JournalEvent.Stop (image.now ∷ [])))) }
     {
         let images = one_image(alloc, image.as_slice())?;
         self.host.stop(alloc, &images)
@@ -308,7 +316,7 @@ impl WholeState {
     // The opening of the journal begins.
     fn recover_host(&mut self)
         ensures { (stories : List Story) (budget : ℕ) → self.new
-            ≡ with_host self.old (after stories budget self.old.host HostEvent.Recover) }
+            ≡ with_host self.old (after stories budget self.old.host JournalEvent.Recover) }
     {
         self.host.recover();
     }
@@ -340,7 +348,7 @@ impl WholeState {
         alloc: Global,
         stories: &[Story],
         budget: u64,
-        event: &WholeEvent,
+        event: &Event,
     ) -> Result<(), AllocError>
         requires { IsBudget budget }
         ensures value { OnOk result (self.new
@@ -348,21 +356,21 @@ impl WholeState {
         ensures own { OnOk result (IsOwnPut stories.now self.old event.now) }
     {
         match event {
-            WholeEvent::Take { s, pass, line } => {
+            Event::Take { s, pass, line } => {
                 return self.take(alloc, stories, budget, *s, *pass, line);
             }
-            WholeEvent::Want { s } => self.host.want(*s),
-            WholeEvent::Hold { s } => self.host.hold(*s),
-            WholeEvent::Call { disk, good, reads } => {
+            Event::Want { s } => self.host.want(*s),
+            Event::Hold { s } => self.host.hold(*s),
+            Event::Call { disk, good, reads } => {
                 return self.call(alloc, stories, budget, *disk, *good, reads);
             }
-            WholeEvent::Free { s } => self.host.free(*s),
-            WholeEvent::Run { s, found } => self.host.run_turn(*s, *found),
-            WholeEvent::Keep { s } => return self.keep(alloc, stories, *s),
-            WholeEvent::Accept { s } => return self.host.accept(alloc, stories, budget, *s),
-            WholeEvent::Give { s } => return self.give(*s),
-            WholeEvent::Stop { images } => return self.stop(alloc, images),
-            WholeEvent::Recover => return self.recover(alloc),
+            Event::Free { s } => self.host.free(*s),
+            Event::Run { s, found } => self.host.run_turn(*s, *found),
+            Event::Keep { s } => return self.keep(alloc, stories, *s),
+            Event::Accept { s } => return self.host.accept(alloc, stories, budget, *s),
+            Event::Give { s } => return self.give(*s),
+            Event::Stop { images } => return self.stop(alloc, images),
+            Event::Recover => return self.recover(alloc),
         }
         Ok(())
     }

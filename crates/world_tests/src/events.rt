@@ -1,7 +1,7 @@
 use disk_model::MemDisk;
 use gate_journal::init;
 use host_top::{MemoryOutside, top};
-use host_world::{Event, HostState, follow};
+use host_world::{JournalEvent, JournalHost, follow_journal};
 use line_talk::{MemorySink, MemorySource};
 use line_words::write_reply;
 use session_core::Sessions;
@@ -50,8 +50,8 @@ fn script_lines(alloc: Global) -> Result<Vec<Vec<u8>>, Fail> {
 }
 
 // A call of the journal's disk that is good.
-fn good_call(alloc: Global) -> Result<Event, Fail> {
-    Ok(Event::Call {
+fn good_call(alloc: Global) -> Result<JournalEvent, Fail> {
+    Ok(JournalEvent::Call {
         disk: 0,
         good: true,
         reads: bytes(alloc, b"")?,
@@ -59,33 +59,33 @@ fn good_call(alloc: Global) -> Result<Event, Fail> {
 }
 
 // An event of an opening of a journal with a closed gate: it syncs, asks the size and reads.
-fn opening_event(alloc: Global, at: u8) -> Result<Event, Fail> {
+fn opening_event(alloc: Global, at: u8) -> Result<JournalEvent, Fail> {
     match at {
-        0 => Ok(Event::Recover),
+        0 => Ok(JournalEvent::Recover),
         _ => good_call(alloc),
     }
 }
 
 // An event of a line's turn, in which nothing goes wrong. Where the line makes the session accept
 // nothing, the events between the first and the last aren't enabled.
-fn turn_event(alloc: Global, s: u8, line: &[u8], at: u8) -> Result<Event, Fail> {
+fn turn_event(alloc: Global, s: u8, line: &[u8], at: u8) -> Result<JournalEvent, Fail> {
     match at {
-        0 => Ok(Event::Take {
+        0 => Ok(JournalEvent::Take {
             s,
             pass: 1,
             line: bytes(alloc, line)?,
         }),
-        1 => Ok(Event::Hold { s }),
-        6 => Ok(Event::Free { s }),
-        7 => Ok(Event::Run { s, found: true }),
-        8 => Ok(Event::Accept { s }),
-        9 => Ok(Event::Give { s }),
+        1 => Ok(JournalEvent::Hold { s }),
+        6 => Ok(JournalEvent::Free { s }),
+        7 => Ok(JournalEvent::Run { s, found: true }),
+        8 => Ok(JournalEvent::Accept { s }),
+        9 => Ok(JournalEvent::Give { s }),
         _ => good_call(alloc),
     }
 }
 
 // An opening, and then the turns of these lines, of the eight sessions in turn.
-fn events(alloc: Global, lines: &[Vec<u8>]) -> Result<Vec<Event>, Fail> {
+fn events(alloc: Global, lines: &[Vec<u8>]) -> Result<Vec<JournalEvent>, Fail> {
     let mut events = Vec::new(alloc);
     for at in 0..4 {
         events.push(opening_event(alloc, at)?)?;
@@ -99,9 +99,9 @@ fn events(alloc: Global, lines: &[Vec<u8>]) -> Result<Vec<Event>, Fail> {
 }
 
 // The replies that a host gives from the start, over a journal without rows.
-fn replies(alloc: Global, stories: &[Story], events: &[Event]) -> Result<Vec<u8>, Fail> {
-    let host = HostState::down(alloc, &bytes(alloc, &JOURNAL)?)?;
-    let host = follow(alloc, stories, BUDGET, host, events)?;
+fn replies(alloc: Global, stories: &[Story], events: &[JournalEvent]) -> Result<Vec<u8>, Fail> {
+    let host = JournalHost::down(alloc, &bytes(alloc, &JOURNAL)?)?;
+    let host = follow_journal(alloc, stories, BUDGET, host, events)?;
     let mut replies = Vec::new(alloc);
     for given in host.replies() {
         replies.extend_from_slice(&write_reply(alloc, &given.reply)?)?;
@@ -157,8 +157,8 @@ fn version_after(alloc: Global, calls: u8) -> Result<u8, Fail> {
     for at in 0..=calls {
         events.push(opening_event(alloc, at)?)?;
     }
-    let host = HostState::down(alloc, &bytes(alloc, &OLDER)?)?;
-    let host = follow(alloc, &[], BUDGET, host, &events)?;
+    let host = JournalHost::down(alloc, &bytes(alloc, &OLDER)?)?;
+    let host = follow_journal(alloc, &[], BUDGET, host, &events)?;
     let version = host.journal().get(8).ok_or("a header")?;
     Ok(*version)
 }

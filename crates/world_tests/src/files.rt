@@ -1,4 +1,4 @@
-use host_world::{Images, WholeEvent, WholeState, follow_all};
+use host_world::{Event, HostState, Images, follow};
 use line_words::write_reply;
 use session_core::Sessions;
 use std::alloc::Global;
@@ -30,18 +30,18 @@ fn new_file(alloc: Global) -> Result<Bytes, Fail> {
 }
 
 // A host that is down over a new journal and 64 new files.
-fn new_host(alloc: Global) -> Result<WholeState, Fail> {
+fn new_host(alloc: Global) -> Result<HostState, Fail> {
     let mut files = Vec::new(alloc);
     for _ in 0..64 {
         files.push(new_file(alloc)?)?;
     }
-    Ok(WholeState::down(alloc, &bytes(alloc, &JOURNAL)?, &files)?)
+    Ok(HostState::down(alloc, bytes(alloc, &JOURNAL)?, files)?)
 }
 
 // A disk's next calls, so many, all good.
-fn call(alloc: Global, events: &mut Vec<WholeEvent>, disk: u8, calls: u8) -> Result<(), Fail> {
+fn call(alloc: Global, events: &mut Vec<Event>, disk: u8, calls: u8) -> Result<(), Fail> {
     for _ in 0..calls {
-        events.push(WholeEvent::Call {
+        events.push(Event::Call {
             disk,
             good: true,
             reads: bytes(alloc, b"")?,
@@ -51,8 +51,8 @@ fn call(alloc: Global, events: &mut Vec<WholeEvent>, disk: u8, calls: u8) -> Res
 }
 
 // The journal is opened, and then each file.
-fn open(alloc: Global, events: &mut Vec<WholeEvent>) -> Result<(), Fail> {
-    events.push(WholeEvent::Recover)?;
+fn open(alloc: Global, events: &mut Vec<Event>) -> Result<(), Fail> {
+    events.push(Event::Recover)?;
     call(alloc, events, 0, 3)?;
     for disk in 1..=64 {
         call(alloc, events, disk, 5)?;
@@ -61,20 +61,20 @@ fn open(alloc: Global, events: &mut Vec<WholeEvent>) -> Result<(), Fail> {
 }
 
 // A line's turn of session 0, with a put where one is due.
-fn turn(alloc: Global, events: &mut Vec<WholeEvent>, line: &[u8]) -> Result<(), Fail> {
-    events.push(WholeEvent::Take {
+fn turn(alloc: Global, events: &mut Vec<Event>, line: &[u8]) -> Result<(), Fail> {
+    events.push(Event::Take {
         s: 0,
         pass: 1,
         line: bytes(alloc, line)?,
     })?;
-    events.push(WholeEvent::Hold { s: 0 })?;
+    events.push(Event::Hold { s: 0 })?;
     call(alloc, events, 0, 4)?;
-    events.push(WholeEvent::Free { s: 0 })?;
-    events.push(WholeEvent::Run { s: 0, found: true })?;
-    events.push(WholeEvent::Keep { s: 0 })?;
+    events.push(Event::Free { s: 0 })?;
+    events.push(Event::Run { s: 0, found: true })?;
+    events.push(Event::Keep { s: 0 })?;
     call(alloc, events, 1, 7)?;
-    events.push(WholeEvent::Accept { s: 0 })?;
-    events.push(WholeEvent::Give { s: 0 })?;
+    events.push(Event::Accept { s: 0 })?;
+    events.push(Event::Give { s: 0 })?;
     Ok(())
 }
 
@@ -93,9 +93,9 @@ fn line_of(alloc: Global, n: u8) -> Result<Vec<u8>, Fail> {
 }
 
 // The replies that a host has given.
-fn replies(alloc: Global, host: &WholeState) -> Result<Vec<u8>, Fail> {
+fn replies(alloc: Global, host: &HostState) -> Result<Vec<u8>, Fail> {
     let mut replies = Vec::new(alloc);
-    for given in host.host().replies() {
+    for given in host.replies() {
         replies.extend_from_slice(&write_reply(alloc, &given.reply)?)?;
     }
     Ok(replies)
@@ -113,13 +113,13 @@ fn wanted(alloc: Global, stories: &[Story], lines: u8) -> Result<Vec<u8>, Fail> 
 }
 
 // A host that was opened and has answered the line that opens a session, and 16 inputs.
-fn played(alloc: Global, stories: &[Story]) -> Result<WholeState, Fail> {
+fn played(alloc: Global, stories: &[Story]) -> Result<HostState, Fail> {
     let mut events = Vec::new(alloc);
     open(alloc, &mut events)?;
     for n in 0..17 {
         turn(alloc, &mut events, &line_of(alloc, n)?)?;
     }
-    Ok(follow_all(alloc, stories, BUDGET, new_host(alloc)?, &events)?)
+    Ok(follow(alloc, stories, BUDGET, new_host(alloc)?, &events)?)
 }
 
 // An area as the first one begins: the place of its OPEN row, and 16 inputs.
@@ -138,7 +138,7 @@ fn has_snapshot(file: Option<&StoreState>) -> bool {
 }
 
 // What its disks read as: the journal's, and then the files'.
-fn images_of(alloc: Global, host: &WholeState) -> Result<Images, Fail> {
+fn images_of(alloc: Global, host: &HostState) -> Result<Images, Fail> {
     let mut images = Vec::new(alloc);
     images.push(bytes(alloc, host.host().journal())?)?;
     for file in host.files() {
@@ -166,12 +166,12 @@ fn a_host_with_files_goes_on_behind_a_stop(rt: HostRuntime) -> Result<(), Fail> 
     let stories = [Story::of(&image).ok().ok_or("a story")?];
     let host = played(alloc, &stories)?;
     let mut events = Vec::new(alloc);
-    events.push(WholeEvent::Stop {
+    events.push(Event::Stop {
         images: images_of(alloc, &host)?,
     })?;
     open(alloc, &mut events)?;
     turn(alloc, &mut events, &line_of(alloc, 17)?)?;
-    let host = follow_all(alloc, &stories, BUDGET, host, &events)?;
+    let host = follow(alloc, &stories, BUDGET, host, &events)?;
     assert!(rt; replies(alloc, &host)? == wanted(alloc, &stories, 18)?);
     Ok(())
 }
