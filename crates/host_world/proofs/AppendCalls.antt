@@ -23,7 +23,8 @@ use Rattle.disk_model.specs.Plain.{is_image}
 use Rattle.store_events.specs.Disk.{fault_counted, disk_after, may_work}
 use Rattle.host_world.specs.Happenings.{Happening, history_left}
 use Rattle.host_world.specs.Headline.{AreGiven}
-use Rattle.host_world.specs.Journal.{broken, next_call, onward, past_gate, with_fault}
+use Rattle.host_world.specs.Journal.{broken, next_call, onward, with_fault}
+use Rattle.host_world.specs.Reading.{past_gate}
 use Rattle.host_world.specs.Pending.{command_listed, pending}
 use Rattle.host_world.specs.Sessions.{in_phase, phase_set}
 use Rattle.store_events.specs.declared.disk.DiskCall.{DiskCall}

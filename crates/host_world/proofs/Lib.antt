@@ -5,6 +5,7 @@ pub mod AppendCalls
 pub mod Appends
 pub mod CallCode
 pub mod Folds
+pub mod GateLemmas
 pub mod FollowLemmas
 pub mod Giving
 pub mod ImageLemmas

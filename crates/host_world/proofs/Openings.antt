@@ -31,7 +31,8 @@ use Rattle.host_world.specs.Events.{after, begun, call_next}
 use Rattle.host_world.specs.Happenings.{Happening, Opened, further, history_left, news, replies_of}
 use Rattle.host_world.specs.Headline.{AreGiven}
 use Rattle.host_world.specs.Journal.{broken, gate_closed, host_called, comes_up}
-use Rattle.host_world.specs.Journal.{looked, next_call, onward, past_gate, with_disk, with_fault}
+use Rattle.host_world.specs.Journal.{looked, next_call, onward, with_disk, with_fault}
+use Rattle.host_world.specs.Reading.{past_gate}
 use Rattle.host_world.specs.Reading.{rows_in}
 use Rattle.host_world.specs.Sessions.{history_found, found_session, found_sessions}
 use Rattle.store_events.specs.declared.disk.DiskCall.{DiskCall}

@@ -8,8 +8,7 @@ use Rattle.std.proofs.lemmas.Bool.Decides.{nat_tests}
 use Rattle.std.proofs.lemmas.List.{append-nil, drop_all}
 use Rattle.std.specs.Prelude.{if◌then◌else◌, slice_index}
 use Rattle.disk_model.proofs.Torn.{holds_front}
-use Rattle.gate_journal.proofs.RowLemmas.{length-body, never_both, spelled-push, spells_shut}
-use Rattle.gate_journal.specs.Log.{StandsInEither}
+use Rattle.gate_journal.proofs.RowLemmas.{length-body, never_both, spelled-push}
 use Rattle.gate_journal.specs.Rows.{EachNext, HasNoHeader, IsCorrupt, IsJournal}
 use Rattle.gate_journal.specs.Rows.{SpellsRows, row_body, commands_of, header_with, version_byte}
 use Rattle.gate_journal.specs.Rows.{rows_behind_open_gates, payload_of, journal_bytes}
@@ -22,10 +21,8 @@ use Rattle.host_world.specs.Reading.{rows_in}
 use Rattle.host_world.specs.Sessions.{history_found}
 use Rattle.host_world.specs.declared.state.JournalHost.{JournalHost}
 use Rattle.host_world.specs.declared.state.Step.TheVariants.{CloseWrite, Idle, VersionWrite}
-use Rattle.host_world.specs.Starts.{IsStart, down_over, rows_or_none}
-use Rattle.host_world.proofs.ReadingLemmas.{found_rows, reads_rows}
+use Rattle.host_world.proofs.ReadingLemmas.{found_rows}
 use Rattle.host_world.proofs.RowsOf.{commands-found, rows-here, rows-other}
-use Rattle.host_world.proofs.Runs.{down_well}
 
 none_of : (bytes : List ℕ) (o : Option (List Row)) → rows_in bytes ≡ o
     → ((rows : List Row) → SpellsRows bytes rows → ⊥) → rows_in bytes ≡ None
@@ -129,12 +126,3 @@ spelled_more found_rows added now r is =
       length-append (journal_bytes (found_rows ++ added)) (1 ∷ row_body r),
       length-body r,
     )
-
--- over a journal whose closing gate is closed a list of events may begin
-pub down_starts : (bytes : List ℕ) (rows : List Row) → IsJournal rows
-    → StandsInEither rows None bytes
-    → IsStart (down_over bytes (rows_or_none (rows_in bytes)) None)
-down_starts bytes rows all shut =
-    subst (λ (l : List Row). IsStart (down_over bytes l None))
-    (sym (ap rows_or_none (reads_rows bytes rows (spells_shut rows bytes all shut))))
-    (inr (down_well bytes rows None all tt shut))

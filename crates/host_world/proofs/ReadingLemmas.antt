@@ -176,7 +176,7 @@ stand_told rows s c is =
     lt_of m n test = grind (arith, nat_tests)
 
 -- the row that stands behind a gate is found
-row_is : (rows : List Row) (r : Row) (rest past : List ℕ)
+pub row_is : (rows : List Row) (r : Row) (rest past : List ℕ)
     → IsNext rows r → past ≡ row_body r ++ rest
     → row_at rows past ≡ r
 row_is rows r rest past next is =
@@ -198,17 +198,46 @@ row_is rows r rest past next is =
     ∙ ap (λ (k : ℕ). record { place = r.place; session = r.session; by = k; command = r.command })
     (sym next.by)
 
-front_test : (front rest past : List ℕ) → past ≡ front ++ rest → begins_with past front ≡ true
+pub front_test : (front rest past : List ℕ) → past ≡ front ++ rest → begins_with past front ≡ true
 front_test front rest past is =
     (bytes_eq-Decides (take (length front) past) front).1
     (ap (λ (l : List ℕ). take (length front) l) is ∙ take_at front rest (length front) refl)
 
-front_told : (front past : List ℕ) → begins_with past front ≡ true
+pub front_told : (front past : List ℕ) → begins_with past front ≡ true
     → past ≡ front ++ drop (length front) past
 front_told front past is =
     sym (take-append-drop (length front) past)
     ∙ ap (λ (l : List ℕ). l ++ drop (length front) past)
     ((bytes_eq-Decides (take (length front) past) front).0 is)
+
+-- a row that stands behind a gate passes the test
+pub has_found : (v : ℕ) (rows : List Row) (r : Row) (rest past : List ℕ)
+    → IsNext rows r → IsInVersion v r.command → past ≡ row_body r ++ rest
+    → has_row v rows past r ≡ true
+has_found v rows r rest past next in_version is =
+    and_from (is_in_version v r.command && may_stand rows r.session r.command)
+    (begins_with past (row_body r))
+    (and_from (is_in_version v r.command) (may_stand rows r.session r.command)
+    (version_test v r.command in_version) (stand_test rows r.session r.command next.stands))
+    (front_test (row_body r) rest past is)
+
+-- and one that passes it stands there
+pub has_told : (v : ℕ) (rows : List Row) (past : List ℕ) (r : Row) → r ≡ row_at rows past
+    → has_row v rows past r ≡ true → BeginsWithRow v rows past r
+has_told v rows past r is test =
+    let both =
+    and_parts (is_in_version v r.command && may_stand rows r.session r.command)
+    (begins_with past (row_body r)) test in
+    let fits = and_parts (is_in_version v r.command) (may_stand rows r.session r.command) both.0 in
+    record {
+      next = record {
+        place = ap (λ (q : Row). q.place) is;
+        by = ap (λ (q : Row). q.by) is ∙ sym (ap (λ (q : Row). q.session + 1) is);
+        stands = stand_told rows r.session r.command fits.1;
+      };
+      in_version = version_told v r.command fits.0;
+      bytes = front_told (row_body r) past both.1;
+    }
 
 -- what an opened row leaves to be read
 pub rows_on : (v n : ℕ) (rows : List Row) (r : Row) (rest : List ℕ)
@@ -220,11 +249,7 @@ rows_on v n rows r rest next in_version =
     (row_is rows r rest (row_body r ++ rest) next refl)
     ∙ ap (λ (b : Bool). if b then rows_from v n (rows ++ r ∷ [])
     (drop (length (row_body r)) (row_body r ++ rest)) else None)
-    (and_from (is_in_version v r.command && may_stand rows r.session r.command)
-    (begins_with (row_body r ++ rest) (row_body r))
-    (and_from (is_in_version v r.command) (may_stand rows r.session r.command)
-    (version_test v r.command in_version) (stand_test rows r.session r.command next.stands))
-    (front_test (row_body r) rest (row_body r ++ rest) refl))
+    (has_found v rows r rest (row_body r ++ rest) next in_version refl)
     ∙ ap (λ (l : List ℕ). rows_from v n (rows ++ r ∷ []) l)
     (drop_at (row_body r) rest (length (row_body r)) refl)
 
@@ -321,31 +346,13 @@ one_more :
 one_more v c those n rows gate past r is later journal are split is_open false test said =
     absurd (none-some those said)
 one_more v c those n rows gate past r is later journal are split is_open true test said =
-    let both =
-    and_parts (is_in_version v r.command && may_stand rows r.session r.command)
-    (begins_with past (row_body r)) test in
-    let fits = and_parts (is_in_version v r.command) (may_stand rows r.session r.command) both.0 in
-    let next : IsNext rows r =
-    record {
-      place = ap (λ (q : Row). q.place) is;
-      by = ap (λ (q : Row). q.by) is
-          ∙ sym (ap (λ (q : Row). q.session + 1) is);
-      stands =
-          stand_told rows r.session r.command fits.1;
-    } in
     let size : suc (length (row_body r)) ≡ 5 + length (payload_of r.command) =
     omega (arith, length-body r) in
-    let first : BeginsWithRow v rows past r =
-    record {
-      next = next;
-      in_version = version_told v r.command fits.0;
-      bytes = front_told (row_body r) past both.1;
-    } in
     let step =
     parse_step v c (gate ∷ past) (drop (length (row_body r)) past) rows (rows ++ r ∷ []) r
     (length (journal_bytes rows)) (length (journal_bytes rows) +
     (5 + length (payload_of r.command))) split journal are refl (grind (arith, nat_tests))
-    (omega arith) first refl refl
+    (omega arith) (has_told v rows past r is test) refl refl
     (ap (λ (k : ℕ). drop k (gate ∷ past)) size) in
     later (rows ++ r ∷ []) (drop (length (row_body r)) past) said step.1 step.2 step.0
 

@@ -34,15 +34,13 @@ use Rattle.host_world.specs.declared.whole.Event.TheVariants.{Take, Want, Hold, 
 use Rattle.host_world.specs.declared.whole.Event.TheVariants.{Free, Run, Keep, Accept}
 use Rattle.host_world.specs.declared.whole.Event.TheVariants.{Give, Stop, Recover}
 use Rattle.host_world.specs.declared.whole.HostState.{HostState}
-use Rattle.gate_journal.proofs.RowLemmas.{spells_shut}
 use Rattle.host_world.specs.Reading.{rows_in}
 use Rattle.host_world.specs.Starts.{rows_or_none}
 use Rattle.host_world.specs.Whole.{file_over, whole_down}
 use Rattle.host_world.specs.WholeHeadline.{MayBegin}
 use Rattle.host_world.proofs.Apart.{nothing_lost}
 use Rattle.host_world.proofs.FollowLemmas.{run-append}
-use Rattle.host_world.proofs.ReadCode.{down_starts}
-use Rattle.host_world.proofs.ReadingLemmas.{reads_rows}
+use Rattle.host_world.proofs.GateLemmas.{down_starts, read_journal}
 use Rattle.host_world.proofs.Runs.{first_of, run_well, start_well}
 use Rattle.host_world.proofs.Sound.{Sound}
 use Rattle.host_world.proofs.Lists.{map_at, some_same}
@@ -340,13 +338,11 @@ module _ (stories : List Story) where
 
 pub may_begin : (journal : List ℕ) (files : List (List ℕ))
     → MayBegin journal files (whole_down journal files)
-may_begin journal files rows all shut =
-    let read : rows_in journal ≡ Some rows =
-    reads_rows journal rows (spells_shut rows journal all shut) in
-    let same : rows_or_none (rows_in journal) ≡ rows = ap rows_or_none read in (
-      down_starts journal rows all shut,
-      (λ stories budget agreed s x at.
-          let found = map_at file_over files s x at in
-          rw (same, found.2)
-          (begins_by_rows stories rows s found.0 all (agreed s found.0 found.1))),
-    )
+may_begin journal files rows all may = (
+  down_starts journal rows all may,
+  (λ stories budget agreed s x at.
+      let found = map_at file_over files s x at in
+      rw found.2
+      (begins_by_rows stories (rows_or_none (rows_in journal)) s found.0 (read_journal journal)
+      (agreed s found.0 found.1))),
+)

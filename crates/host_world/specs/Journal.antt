@@ -3,7 +3,7 @@ use Rattle.std.specs.Prelude.{ℕ, ◌+◌, ◌==◌, if◌then◌else◌, Bool,
 use Rattle.std.specs.Prelude.{◌++◌, length, slice_index, Option, Some, None}
 use Rattle.std.specs.List.{slice_get}
 use Rattle.gate_journal.specs.declared.row.Row.{Row}
-use Rattle.gate_journal.specs.Rows.{row_body, journal_bytes, version_byte}
+use Rattle.gate_journal.specs.Rows.{journal_bytes, version_byte}
 use Rattle.store_events.specs.declared.disk.DiskCall.{DiskCall}
 use Rattle.store_events.specs.declared.disk.DiskCall.TheVariants.{Write, Sync, Look}
 use Rattle.host_world.specs.declared.turn.Phase.{Phase}
@@ -18,12 +18,8 @@ use Rattle.host_world.specs.declared.state.Step.TheVariants.{VersionWrite, Versi
 use Rattle.host_world.specs.declared.state.JournalHost.{JournalHost}
 use Rattle.disk_model.specs.Plain.{is_image}
 use Rattle.store_events.specs.Disk.{disk_after, may_work, fault_counted}
-use Rattle.host_world.specs.Reading.{rows_in}
+use Rattle.host_world.specs.Reading.{past_gate, rows_in}
 use Rattle.host_world.specs.Sessions.{phase_set, found_sessions}
-
--- what an append writes past its gate: the row, and the next gate closed
-abbrev pub past_gate : Row → List ℕ
-past_gate r = row_body r ++ 0 ∷ []
 
 -- the device call that a step makes
 abbrev pub next_call : List Row → Step → Option DiskCall

@@ -11,7 +11,8 @@ use Rattle.gate_journal.specs.declared.command.Command.{Command}
 use Rattle.gate_journal.specs.declared.command.Command.TheVariants.{Open, Line, Char, File, Close}
 use Rattle.gate_journal.specs.declared.command.Command.TheVariants.{Size}
 use Rattle.gate_journal.specs.declared.row.Row.{Row}
-use Rattle.gate_journal.specs.Rows.{header_with, row_body, version_byte, commands_of, may_follow}
+use Rattle.gate_journal.specs.Rows.{header_with, journal_bytes, row_body, version_byte}
+use Rattle.gate_journal.specs.Rows.{commands_of, may_follow}
 use Rattle.gate_journal.specs.Log.{next_row}
 use Rattle.gate_journal.specs.Payload.{open_in, line_in, char_in, file_in, screen_in}
 
@@ -92,3 +93,23 @@ rows_in bytes =
     if begins_with bytes (header_with (version_byte bytes))
     then rows_from (version_byte bytes) (length bytes) [] (drop 16 bytes)
     else None
+
+-- what an append writes past its gate: the row, and the next gate closed
+abbrev pub past_gate : Row → List ℕ
+past_gate r = row_body r ++ 0 ∷ []
+
+-- The row behind a closing gate of which nothing is known, in bytes that begin with that gate: it
+-- isn't 0, and a row of this version that may stand there, and a closed gate, stand behind it.
+abbrev pub unsure_row : ℕ → List Row → List ℕ → Option Row
+unsure_row version rows [] = None
+unsure_row version rows (gate ∷ past) =
+    if gate == 0 then None
+    else if has_row version rows past (row_at rows past)
+    && begins_with past (past_gate (row_at rows past)) then Some (row_at rows past)
+    else None
+
+-- the same of bytes that spell these rows
+abbrev pub row_behind_gate : List ℕ → Option (List Row) → Option Row
+row_behind_gate bytes None = None
+row_behind_gate bytes (Some rows) =
+    unsure_row (version_byte bytes) rows (drop (length (journal_bytes rows)) bytes)

@@ -20,7 +20,7 @@ use Rattle.host_world.specs.declared.whole.Event.TheVariants.{Give, Stop, Recove
 use Rattle.host_world.specs.declared.whole.HostState.{HostState}
 use Rattle.host_world.specs.Events.{holds_journal, run}
 use Rattle.host_world.specs.Keeping.{due_snapshot, put_begun, with_event}
-use Rattle.host_world.specs.Reading.{rows_in}
+use Rattle.host_world.specs.Reading.{row_behind_gate, rows_in}
 use Rattle.host_world.specs.Starts.{down_over, rows_or_none}
 
 -- the journal and each file are opened
@@ -150,6 +150,7 @@ file_over bytes = file_down bytes
 abbrev pub whole_down : List ℕ → List (List ℕ) → HostState
 whole_down bytes files =
     record {
-      host = down_over bytes (rows_or_none (rows_in bytes)) None;
+      host = down_over bytes (rows_or_none (rows_in bytes))
+          (row_behind_gate bytes (rows_in bytes));
       stores = map file_over files;
     }

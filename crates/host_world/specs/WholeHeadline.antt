@@ -4,7 +4,7 @@ use Rattle.std.specs.List.{slice_get}
 use Rattle.disk_model.specs.DiskState.{IsDiskImage}
 use Rattle.gate_journal.specs.declared.command.Command.{Command}
 use Rattle.gate_journal.specs.declared.row.Row.{Row}
-use Rattle.gate_journal.specs.Log.{StandsInEither}
+use Rattle.gate_journal.specs.Log.{MayOpen}
 use Rattle.gate_journal.specs.Rows.{IsJournal, commands_of}
 use Rattle.story_run.specs.declared.story.Story.{Story}
 use Rattle.session_core.specs.History.{game_of}
@@ -86,13 +86,13 @@ module _ (stories : List Story) (budget : ℕ) where
       (count_in (area_given (newest_area place
       (length (inputs_of (game_of (commands_of v.host.rows s)))) image))) ≤ 16
 
--- Over a journal whose closing gate is closed, and files that agree with its rows, a list of events
--- may begin at this host.
+-- Over a journal that an opening may meet, and files that agree with the rows that are read in it, a
+-- list of events may begin at this host.
 abbrev pub MayBegin : List ℕ → List (List ℕ) → HostState → Type 0
 MayBegin journal files w =
-    (rows : List Row) → IsJournal rows → StandsInEither rows None journal
+    (rows : List Row) → IsJournal rows → MayOpen rows journal
     → IsStart w.host
     × ((stories : List Story) (budget : ℕ)
     → ((s : ℕ) (bytes : List ℕ) → slice_get files s ≡ Some bytes
-    → IsAgreedFile stories (opens_of rows s) (game_of (commands_of rows s)) bytes)
+    → IsAgreedFile stories (opens_of w.host.rows s) (game_of (commands_of w.host.rows s)) bytes)
     → EachInAgreement stories budget w)

@@ -1,21 +1,22 @@
 //! What an opening finds (own).
 
-ghost use Rattle.std.specs.Prelude.{◌≡◌, ◌==◌, ◌<◌, List, length, None, IfOk, IfSome, OnOk};
+ghost use Rattle.std.specs.Prelude.{◌≡◌, ◌==◌, ◌<◌, List, length, None, Some, IfOk, IfSome, OnOk};
+ghost use Rattle.std.specs.Prelude.{if◌then◌else◌};
 ghost use Rattle.gate_journal.specs.Rows.{journal_bytes, version_byte, IsJournal};
-ghost use Rattle.gate_journal.specs.Log.{StandsInEither};
+ghost use Rattle.gate_journal.specs.Log.{MayOpen};
 ghost use Rattle.gate_journal.specs.declared.row.Row.{Row};
 ghost use Rattle.host_world.specs.Journal.{comes_up, gate_closed, looked};
-ghost use Rattle.host_world.specs.Reading.{rows_in};
+ghost use Rattle.host_world.specs.Reading.{begins_with, past_gate, row_behind_gate, rows_in, unsure_row};
 ghost use Rattle.host_world.specs.Sessions.{found_sessions};
 ghost use Rattle.host_world.specs.Starts.{down_over, rows_or_none, IsStart};
 
 use crate::history::History;
 use crate::items::Items;
-use crate::rows::JournalRows;
+use crate::rows::{JournalRows, NewRow};
 use crate::state::{JournalHost, Step, set_step};
 use crate::turn::Session;
 use disk_model::PlainDisk;
-use gate_journal::{JournalFault, Rows, read_rows};
+use gate_journal::{JournalFault, Rows, read_rows, row_behind};
 use std::alloc::{AllocError, Global};
 use story_text::Bytes;
 
@@ -63,6 +64,56 @@ fn is_second(bytes: &[u8]) -> bool
     }
 }
 
+// The row, where these bytes behind a gate begin with it and a closed gate.
+fn before_gate(alloc: Global, row: NewRow, past: &[u8]) -> Result<Option<NewRow>, AllocError>
+    ensures { IfOk result
+        (λ found. found ≡ (if begins_with past.now (past_gate row) then Some row else None)) }
+{
+    let written = row.past_gate(alloc)?;
+    if past.starts_with(written.as_slice()) {
+        Ok(Some(row))
+    } else {
+        Ok(None)
+    }
+}
+
+// The row behind a gate of which nothing is known, with which these bytes begin.
+#[tactic(auto, using(crate::proofs::GateLemmas::unsure_none, crate::proofs::GateLemmas::unsure_found))]
+fn unsure_row(
+    alloc: Global,
+    version: u8,
+    rows: &Rows,
+    bytes: &[u8],
+) -> Result<Option<NewRow>, AllocError>
+    ensures { IfOk result (λ found. found ≡ unsure_row version rows.now bytes.now) }
+{
+    let [gate, past @ ..] = bytes else {
+        return Ok(None);
+    };
+    if *gate == 0 {
+        return Ok(None);
+    }
+    let Some(row) = row_behind(alloc, version, rows, past)? else {
+        return Ok(None);
+    };
+    before_gate(alloc, NewRow::of(row), past)
+}
+
+// The row behind the closing gate of a journal, where nothing is known of that.
+fn row_behind_gate(
+    alloc: Global,
+    bytes: &[u8],
+    rows: &Option<Rows>,
+) -> Result<Option<NewRow>, AllocError>
+    requires { IfSome rows.now (λ r. length (journal_bytes r) < length bytes.now) }
+    ensures { IfOk result (λ found. found ≡ row_behind_gate bytes.now rows.now) }
+{
+    let Some(rows) = rows else {
+        return Ok(None);
+    };
+    unsure_row(alloc, bytes[8], rows, &bytes[rows.end() as usize..])
+}
+
 // These rows, or none.
 fn rows_or_none(alloc: Global, rows: Option<Rows>) -> Rows
     ensures { result ≡ rows_or_none rows }
@@ -75,16 +126,19 @@ fn rows_or_none(alloc: Global, rows: Option<Rows>) -> Rows
 
 impl JournalHost {
     /// A host that is down over a disk that holds these bytes, with nothing pending and a count of 0,
-    /// and that gave no replies.
+    /// and that gave no replies. Where a row stands behind a gate that isn't closed, nothing is known
+    /// of that gate.
     pub fn down(alloc: Global, journal: &Bytes) -> Result<JournalHost, AllocError>
         ensures value { IfOk result
-            (λ w. w ≡ down_over journal.now (rows_or_none (rows_in journal.now)) None) }
-        // Over a journal of either version whose closing gate is closed a list of events may begin
-        // at it.
+            (λ w. w ≡ down_over journal.now (rows_or_none (rows_in journal.now))
+            (row_behind_gate journal.now (rows_in journal.now))) }
+        // Over a journal that an opening may meet a list of events may begin at it.
         ensures start { IfOk result (λ w. (rows : List Row) → IsJournal rows
-            → StandsInEither rows None journal.now → IsStart w) }
+            → MayOpen rows journal.now → IsStart w) }
     {
-        let rows = rows_or_none(alloc, rows_in(alloc, journal.as_slice())?);
+        let found = rows_in(alloc, journal.as_slice())?;
+        let uncertain = row_behind_gate(alloc, journal.as_slice(), &found)?;
+        let rows = rows_or_none(alloc, found);
         Ok(JournalHost {
             up: false,
             sessions: Items::of(found_sessions(alloc, &rows)?),
@@ -92,7 +146,7 @@ impl JournalHost {
             disk: PlainDisk::settled(alloc, journal.as_slice())?,
             faults: 0,
             rows: JournalRows::of(alloc, rows),
-            uncertain: None,
+            uncertain,
             holder: None,
             step: Step::Idle,
         })

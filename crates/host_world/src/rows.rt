@@ -1,13 +1,13 @@
 //! The rows of a host's journal (own).
 
-ghost use Rattle.std.specs.Prelude.{◌≡◌, ◌<◌, ◌^◌, ◌++◌, ◌∷◌, [], length, IfOk, OnOk};
+ghost use Rattle.std.specs.Prelude.{◌≡◌, ◌+◌, ◌<◌, ◌^◌, ◌++◌, ◌∷◌, [], length, IfOk, OnOk};
 ghost use Rattle.gate_journal.specs.Command.{IsCommand};
 ghost use Rattle.gate_journal.specs.Log.{next_row};
 ghost use Rattle.gate_journal.specs.Rows.{commands_of, journal_bytes};
 ghost use Rattle.session_saves.specs.Agreement.{last_row, opens_of};
-ghost use Rattle.host_world.specs.Journal.{past_gate};
+ghost use Rattle.host_world.specs.Reading.{past_gate};
 
-use gate_journal::{Command, Rows, row_bytes};
+use gate_journal::{Command, Row, Rows, row_bytes};
 use session_core::is_open;
 use std::alloc::{AllocError, Global};
 use std::marker::Model;
@@ -40,6 +40,19 @@ impl Model for NewRow {
 }
 
 impl NewRow {
+    /// The row that was read.
+    pub fn of(row: Row) -> NewRow
+        requires by { row.by ≡ row.session + 1 }
+        requires ranges { IsCommand row.command }
+        ensures { result ≡ row }
+    {
+        NewRow {
+            place: u128::from(row.place),
+            session: row.session,
+            command: row.command,
+        }
+    }
+
     /// The session that accepted its command.
     pub fn session(&self) -> u8
         ensures { result ≡ self.now.session }

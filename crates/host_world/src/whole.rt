@@ -104,8 +104,8 @@ impl HostState {
     pub fn down(alloc: Global, journal: Bytes, stores: Vec<Bytes>) -> Result<HostState, AllocError>
         requires { length stores.items ≡ 64 }
         ensures value { IfOk result (λ w. w ≡ whole_down journal stores.items) }
-        // Over a journal whose closing gate is closed, and files that agree with its rows, a list
-        // of events may begin at it.
+        // Over a journal that an opening may meet, and files that agree with its rows, a list of
+        // events may begin at it.
         ensures start { IfOk result (MayBegin journal stores.items) }
     {
         let host = JournalHost::down(alloc, &journal)?;
