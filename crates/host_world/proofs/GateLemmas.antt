@@ -1,10 +1,10 @@
 -- What is known of the closing gate of a journal that is read.
 use Rattle.std.proofs.Common.{Bool, List, None, Option, Some, [], ap, append_assoc, arith, drop, false}
-use Rattle.std.proofs.Common.{get_or, inl, inr, length, length-append, refl, subst, suc, sym, true}
+use Rattle.std.proofs.Common.{get_or, inl, inr, length, refl, subst, suc, sym, true}
 use Rattle.std.proofs.Common.{zero, ℕ, ◌++◌, ◌+◌, ◌<◌, ◌==◌, ◌∙◌, ◌∷◌, ◌≡◌, ◌≢◌, ◌≤◌}
-use Rattle.std.proofs.lemmas.Bool.{and_from, and_parts, cases_eq}
+use Rattle.std.proofs.lemmas.Bool.{cases_eq}
 use Rattle.std.proofs.lemmas.Bool.Decides.{nat_tests}
-use Rattle.std.proofs.lemmas.List.{drop_more, length-drop}
+use Rattle.std.proofs.lemmas.List.{drop_more}
 use Rattle.std.specs.Prelude.{if◌then◌else◌, ◌&&◌, IfSome}
 use Rattle.disk_model.proofs.Torn.{holds_both}
 use Rattle.disk_model.specs.Disk.{Holds}
@@ -13,7 +13,7 @@ use Rattle.gate_journal.proofs.RowLemmas.{spells_not_open, spells_shut}
 use Rattle.gate_journal.proofs.VersionLemmas.{are_front}
 use Rattle.gate_journal.specs.Log.{MayOpen, StandsInEither}
 use Rattle.gate_journal.specs.Parsing.{BeginsWithRow, IsNoNext}
-use Rattle.gate_journal.specs.Rows.{AreInVersion, IsInVersion, IsJournal, IsNext, SpellsRows}
+use Rattle.gate_journal.specs.Rows.{IsJournal, IsNext, SpellsRows}
 use Rattle.gate_journal.specs.Rows.{journal_bytes, journal_front, row_body, version_byte}
 use Rattle.gate_journal.specs.declared.row.Row.{Row}
 use Rattle.host_world.specs.Reading.{begins_with, has_row, past_gate, row_at, row_behind_gate}
@@ -34,23 +34,47 @@ none_test v rows past none true test =
     one.in_version one.bytes)
 none_test v rows past none false test = refl
 
-pub unsure_none : (v gate : ℕ) (rows : List Row) (past bytes : List ℕ) → bytes ≡ gate ∷ past
-    → gate ≢ 0 → IsNoNext v rows past → None ≡ unsure_row v rows bytes
-unsure_none v gate rows past bytes split some none =
+-- what the test makes of the row that stands there
+test_is : (v : ℕ) (rows : List Row) (past : List ℕ) (r : Row) → row_at rows past ≡ r
+    → has_row v rows past r ≡ true
+    → (if has_row v rows past (row_at rows past) && begins_with past (past_gate (row_at rows past))
+    then Some (row_at rows past) else None)
+    ≡ (if begins_with past (past_gate r) then Some r else None)
+test_is v rows past r at has =
+    ap (λ (q : Row). if has_row v rows past q && begins_with past (past_gate q) then Some q
+    else None) at
+    ∙ ap (λ (b : Bool). if b && begins_with past (past_gate r) then Some r else None) has
+
+-- behind a gate that isn't 0
+behind_some : (v : ℕ) (rows : List Row) (bytes : List ℕ) → 1 ≤ length bytes → get_or bytes 0 0 ≢ 0
+    → unsure_row v rows bytes
+    ≡ (if has_row v rows (drop 1 bytes) (row_at rows (drop 1 bytes))
+    && begins_with (drop 1 bytes) (past_gate (row_at rows (drop 1 bytes)))
+    then Some (row_at rows (drop 1 bytes)) else None)
+behind_some v rows [] le some = absurd (omega (arith, le))
+behind_some v rows (gate ∷ past) le some =
     let test : (gate == 0) ≡ false = grind (arith, nat_tests) in
-    rw (split, test) (none_test v rows past none (has_row v rows past (row_at rows past)) refl)
+    ap (λ (b : Bool). if b then None
+    else if has_row v rows past (row_at rows past)
+    && begins_with past (past_gate (row_at rows past)) then Some (row_at rows past) else None) test
+
+pub unsure_none : (v : ℕ) (rows : List Row) (bytes : List ℕ) → 1 ≤ length bytes
+    → get_or bytes 0 0 ≢ 0 → IsNoNext v rows (drop 1 bytes) → None ≡ unsure_row v rows bytes
+unsure_none v rows bytes le some none =
+    none_test v rows (drop 1 bytes) none
+    (has_row v rows (drop 1 bytes) (row_at rows (drop 1 bytes))) refl
+    ∙ sym (behind_some v rows bytes le some)
 
 -- and where one does, it is unsure if a closed gate stands behind it
-pub unsure_found : (v gate : ℕ) (rows : List Row) (past bytes : List ℕ) (r : Row)
-    → bytes ≡ gate ∷ past → gate ≢ 0 → BeginsWithRow v rows past r
-    → (if begins_with past (past_gate r) then Some r else None) ≡ unsure_row v rows bytes
-unsure_found v gate rows past bytes r split some row =
-    let test : (gate == 0) ≡ false = grind (arith, nat_tests) in
-    let rest = drop (length (row_body r)) past in
-    let at : row_at rows past ≡ r = row_is rows r rest past row.next row.bytes in
-    let has : has_row v rows past r ≡ true =
-    has_found v rows r rest past row.next row.in_version row.bytes in
-    rw (split, test, at, has) refl
+pub unsure_found : (v : ℕ) (rows : List Row) (bytes : List ℕ) (r : Row) → 1 ≤ length bytes
+    → get_or bytes 0 0 ≢ 0 → BeginsWithRow v rows (drop 1 bytes) r
+    → (if begins_with (drop 1 bytes) (past_gate r) then Some r else None) ≡ unsure_row v rows bytes
+unsure_found v rows bytes r le some row =
+    let past = drop 1 bytes in
+    let rest = drop (length (row_body r)) (drop 1 bytes) in
+    sym (behind_some v rows bytes le some
+    ∙ test_is v rows past r (row_is rows r rest past row.next row.bytes)
+    (has_found v rows r rest past row.next row.in_version row.bytes))
 
 -- ---- a journal that an opening may meet
 
@@ -145,9 +169,10 @@ knows_unsure bytes rows r all next stands some shut =
     (are_front v rows r stands.0).1 bodied in
     let begins : begins_with past (past_gate r) ≡ true =
     front_test (past_gate r) (drop (length (past_gate r)) past) past split in
-    let test : (get_or bytes at 0 == 0) ≡ false = grind (arith, nat_tests) in
     let found : unsure_row v rows (get_or bytes at 0 ∷ past) ≡ Some r =
-    rw (test, is, has, begins) refl in
+    behind_some v rows (get_or bytes at 0 ∷ past) (omega arith) some
+    ∙ test_is v rows past r is has
+    ∙ ap (λ (b : Bool). if b then Some r else None) begins in
     record {
       spells = spells;
       behind = sym

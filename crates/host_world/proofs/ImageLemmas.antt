@@ -10,7 +10,8 @@ use Rattle.gate_journal.specs.declared.row.Row.{Row}
 use Rattle.story_run.specs.declared.story.Story.{Story}
 use Rattle.store_events.proofs.ImageLemmas.{look_leaves, sync_leaves, write_leaves}
 use Rattle.store_events.specs.Disk.{disk_after}
-use Rattle.host_world.specs.Journal.{next_call, past_gate}
+use Rattle.host_world.specs.Journal.{next_call}
+use Rattle.host_world.specs.Reading.{past_gate}
 use Rattle.store_events.specs.declared.disk.DiskCall.{DiskCall}
 use Rattle.store_events.specs.declared.disk.DiskCall.TheVariants.{Look, Sync, Write}
 use Rattle.host_world.specs.declared.state.JournalHost.{JournalHost}

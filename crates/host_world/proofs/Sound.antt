@@ -16,7 +16,7 @@ use Rattle.session_core.specs.declared.entry.Entry.{Entry}
 use Rattle.session_core.specs.declared.entry.Outcome.{Outcome}
 use Rattle.session_core.specs.declared.entry.Outcome.TheVariants.{OutOfMemory}
 use Rattle.host_world.specs.Happenings.{Happening, history_left, replies_of, given_replies}
-use Rattle.host_world.specs.Journal.{past_gate}
+use Rattle.host_world.specs.Reading.{past_gate}
 use Rattle.host_world.specs.Pending.{OneMore, pending}
 use Rattle.host_world.specs.declared.state.JournalHost.{JournalHost}
 use Rattle.host_world.specs.declared.state.Step.{Step}
