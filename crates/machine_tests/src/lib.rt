@@ -2,6 +2,8 @@
 #![tactic(auto)]
 
 #[cfg(test)]
+mod heap;
+#[cfg(test)]
 mod memory;
 #[cfg(test)]
 mod save;
