@@ -21,7 +21,7 @@ PAGE = TOP / "docs" / "FAILURES.md"
 BEGIN, END = "<!-- refusals -->\n", "<!-- end of refusals -->\n"
 # answers that are refusals among others, and the call that answers a status
 REFUSING, BY_STATUS = {"Got", "Put", "Next", "Served", "Worked", "Ended"}, {"top"}
-TESTS = {"machine_tests", "line_tests", "disk_tests", "host_tests", "work_tests", "snap_tests", "world_tests", "top_tests",
+TESTS = {"machine_tests", "line_tests", "disk_tests", "cell_tests", "work_tests", "snap_tests", "world_tests", "top_tests",
          "disk_cases", "turn_cell_uses", "storyhost", "story_make", "host_drill"}
 GOOD = re.compile(r"\s*(IfOk|OnOk|IsOkAnd|IfSome|OnSome|IsSomeAnd|IfTook)\b")
 

@@ -422,7 +422,7 @@ def store_case(work, fails, choice):
 # journal of version 1 makes two more behind these. The opening of a
 # snapshot file makes the calls 0 to 4, a put six, or seven where the area's gate isn't known to be 0.
 BEFORE, BOTH = (1, 0), (2, 0)
-REPAIRED = (1, 1)
+REPAIRED, ADDED = (1, 1), (2, 1)
 OLD, NEW = "32 bbb, 32 bbb", "32 bbb, 48 ccc"
 NONE, FIRST, SECOND = "none, none", "16 aaa, 16 aaa", "none, 48 ccc"
 ENDS = {
@@ -438,9 +438,14 @@ ENDS = {
     ("close", (4,)): {BEFORE},
     ("migrate", ()): {BOTH},
     ("migrate", (0,)): {BOTH},
+    ("migrate", (1,)): {BOTH},
+    ("migrate", (2,)): {BOTH},
     ("migrate", (3,)): {BOTH},
     ("migrate", (4,)): {BOTH},
     ("close-migrate", ()): {BEFORE},
+    ("close-migrate", (0,)): {BEFORE},
+    ("close-migrate", (1,)): {BEFORE},
+    ("close-migrate", (2,)): {BEFORE},
     ("close-migrate", (3,)): {BEFORE},
     ("close-migrate", (4,)): {BEFORE},
     ("close-migrate", (5,)): {BEFORE},
@@ -465,6 +470,11 @@ ENDS = {
     ("append-two", (5, 7)): {BEFORE},
     ("append-two", (6, 8)): {BEFORE},
     ("append-two", (6, 9)): {BEFORE},
+    # the second of two appends fails, and the first one stands
+    ("append-two", (7,)): {BOTH},
+    ("append-two", (8,)): {BOTH},
+    ("append-two", (9,)): {BOTH, ADDED},
+    ("append-two", (10,)): {BOTH, ADDED},
     # behind a fault of an append's first two calls there is no repair: the next four calls are an append
     ("append-two", (3, 7)): {BEFORE, REPAIRED},
     ("append-two", (4, 8)): {BEFORE, REPAIRED},

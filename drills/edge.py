@@ -308,10 +308,12 @@ def post(lines):
 
 
 STRANGERS = {
+    **{f"{method} and its space": [method.encode() + b" "] for method in "PUT DELETE CONNECT TRACE PATCH PRI".split()},
     "GET": [b"GET / HTTP/1.1\r\nHost: 127.0.0.1\r\n\r\n"],
     "HEAD": [b"HEAD / HTTP/1.0\r\n\r\n"],
     "a form's POST": [post([b"POST / HTTP/1.1", b"Host: localhost", b"Content-Type: text/plain"])],
     "OPTIONS": [b"OPTIONS * HTTP/1.1\r\nHost: localhost\r\n\r\nLAST 0 k\n"],
+    "a method in small letters": [b"post / HTTP/1.1\r\n\r\n" + BODY],
     "a POST in pieces": [b"P", b"OS", b"T / HTTP/1.1\r\n", b"\r\n" + BODY],
     "a field alone": [b"hOsT: localhost\r\n" + BODY],
     "a TLS hello": [b"\x16\x03\x01\x00\x20\x01\n\n\n" + BODY],
@@ -352,6 +354,11 @@ def strangers(room, story):
         slow.socket.sendall(b"PEN 0 k 0 1 80 24\n")
         want("its next line", slow.input.readline(), b"NO 3\n")
         slow.close()
+        for line in b"GETS", b"OPTIONS", b"Host", b"P":
+            other = host.link()
+            other.socket.sendall(line + b"\n")
+            want(f"{line} as a link's first line", other.input.readline(), b"NO 1\n")
+            other.close()
         link.close()
 
 

@@ -36,3 +36,19 @@ another_story = refl
 pub another_number : story_span (container 1 (codes "GLUL") ++ replicate 256 0) ≡ Err NoExec
 unfolding container
 another_number = refl
+
+-- the first twelve bytes of a container, and the name of its index
+pub front : List ℕ
+front =
+    0x46 ∷ 0x4F ∷ 0x52 ∷ 0x4D ∷ 0x00 ∷ 0x00 ∷ 0x01 ∷ 0x24 ∷ 0x49 ∷ 0x46 ∷ 0x52 ∷ 0x53 ∷ 0x52 ∷ 0x49
+    ∷ 0x64 ∷ 0x78 ∷ []
+
+pub no_index : story_span front ≡ Err (Cut 12)
+unfolding front
+no_index = refl
+
+-- a count of entries that no file holds
+pub a_count_of_all_ones :
+    story_span (front ++ 0 ∷ 0 ∷ 0 ∷ 0x10 ∷ 0xFF ∷ 0xFF ∷ 0xFF ∷ 0xFF ∷ replicate 276 0) ≡ Err (Cut 12)
+unfolding front
+a_count_of_all_ones = refl

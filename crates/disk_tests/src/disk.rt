@@ -93,40 +93,6 @@ fn a_stop_leaves_a_write_torn_lost_kept_or_grown(rt: HostRuntime) -> Result<(), 
     Ok(())
 }
 
-// Whether the calls 1 and 3 fail, as they are told to, and one past the end of what may be.
-fn fail_as_told(disk: &mut MemDisk) -> bool {
-    write_through(disk, 0, b"ab") == Err(Failed)
-        && disk.size() == Ok(2)
-        && disk.write_at(1, b"XY") == Err(Failed)
-        && disk.sync() == Ok(())
-        && disk.write_at(1 << 40, b"x") == Err(Failed)
-        && disk.faults() == 3
-}
-
-// Whether a disk has two bytes, `ab`.
-fn has_ab(disk: &mut MemDisk) -> bool {
-    let mut image = [9; 3];
-    disk.read_at(0, &mut image) == Ok(()) && disk.size() == Ok(2) && image == *b"ab\0"
-}
-
-// Whether calls fail so, and a stop leaves what was synced.
-fn leaves_ab(alloc: Global, disk: &mut MemDisk) -> Result<bool, AllocError> {
-    disk.fail_at(1)?;
-    disk.fail_at(3)?;
-    if !fail_as_told(disk) {
-        return Ok(false);
-    }
-    let mut left = disk.after_stop(alloc, 31)?;
-    Ok(has_ab(&mut left))
-}
-
-#[test]
-fn calls_fail_where_they_are_told_to(rt: HostRuntime) -> Result<(), Fail> {
-    let mut disk = MemDisk::new(rt.alloc());
-    assert!(rt; leaves_ab(rt.alloc(), &mut disk)?);
-    Ok(())
-}
-
 // Whether a write past 16 bytes fails, and one up to there doesn't.
 fn fails_past_room(disk: &mut FlatDisk) -> bool {
     has_hello(disk)

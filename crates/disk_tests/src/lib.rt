@@ -1,11 +1,11 @@
-//! Disks, the journal and the snapshot files: what no clause says.
+//! Disks, a journal and a snapshot file: what no clause says and no case of `disk_cases` shows.
 #![tactic(auto)]
 
 #[cfg(test)]
 mod disk;
 #[cfg(test)]
-mod journal;
+mod dying;
 #[cfg(test)]
-mod pack;
+mod journal;
 #[cfg(test)]
 mod store;

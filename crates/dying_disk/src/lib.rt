@@ -2,7 +2,5 @@
 #![tactic(auto)]
 
 mod dying;
-#[cfg(test)]
-mod tests;
 
 pub use dying::Dying;

@@ -2,24 +2,12 @@
 #![tactic(auto)]
 
 #[cfg(test)]
-mod container;
-#[cfg(test)]
 mod heap;
 #[cfg(test)]
-mod input;
-#[cfg(test)]
 mod memory;
-#[cfg(test)]
-mod numbers;
 #[cfg(test)]
 mod save;
 #[cfg(test)]
 mod stack;
-#[cfg(test)]
-mod state;
-#[cfg(test)]
-mod streams;
-#[cfg(test)]
-mod undo;
 #[cfg(test)]
 mod windows;

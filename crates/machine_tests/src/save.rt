@@ -113,42 +113,6 @@ fn saves_are_read_or_refused_by_their_first_cause(rt: HostRuntime) -> Result<(),
     Ok(())
 }
 
-/// The save that is written of the state that the bytes spell.
-fn written_again(alloc: Global, bytes: &[u8], image: &Image<'_>) -> Result<Vec<u8>, Fail> {
-    match read(alloc, bytes, image) {
-        Ok(state) => {
-            if state.memory.read2(0x100) != Ok(0x676F) || state.memory.read4(0x124) != Ok(1) {
-                return Err(Fail::from("the memory of the save"));
-            }
-            Ok(write(alloc, &state, image)?)
-        }
-        Err(_) => Err(Fail::from("a state")),
-    }
-}
-
-/// The same, whatever its memory holds.
-fn written_of(alloc: Global, bytes: &[u8], image: &Image<'_>) -> Result<Vec<u8>, Fail> {
-    match read(alloc, bytes, image) {
-        Ok(state) => Ok(write(alloc, &state, image)?),
-        Err(_) => Err(Fail::from("a state")),
-    }
-}
-
-/// Blocks of 32 bytes at 0x210 and of 16 at 0x200, a heap of its own story's, out of order.
-const HEAP: &[u8; 24] = b"\0\0\x02\0\0\0\0\x02\0\0\x02\x10\0\0\0\x20\0\0\x02\0\0\0\0\x10";
-
-#[test]
-fn a_heap_is_written_by_its_addresses(rt: HostRuntime) -> Result<(), Fail> {
-    let file = story(1);
-    let image = Image::parse(&file).ok().ok_or("an image")?;
-    let parts: [Part; 3] = [(b"Stks", &STACK), (b"CMem", &[0, 0, 3, 0]), (b"MAll", HEAP)];
-    let bytes = form(rt.alloc(), &file[..128], &parts)?;
-    let written = written_of(rt.alloc(), bytes.as_slice(), &image)?;
-    let chunk = b"MAll\0\0\0\x18\0\0\x02\0\0\0\0\x02\0\0\x02\0\0\0\0\x10\0\0\x02\x10\0\0\0\x20";
-    assert!(rt; written.as_slice().ends_with(chunk));
-    Ok(())
-}
-
 /// Memory as it is: its size of 512 bytes, and a page of zeros.
 fn plain_memory(alloc: Global) -> Result<Vec<u8>, Fail> {
     let mut bytes = vec![in alloc; 0; 260]?;
@@ -167,29 +131,5 @@ fn plain_memory_is_read_beside_an_unknown_chunk(rt: HostRuntime) -> Result<(), F
     push(&mut bytes, b"UMem", &plain_memory(rt.alloc())?)?;
     push(&mut bytes, b"Stks", &STACK)?;
     assert!(rt; read(rt.alloc(), bytes.as_slice(), &image).is_ok());
-    Ok(())
-}
-
-#[test]
-fn a_state_is_written_and_read_again(rt: HostRuntime) -> Result<(), Fail> {
-    let file = story(1);
-    let image = Image::parse(&file).ok().ok_or("an image")?;
-    let parts: [Part; 2] = [(b"Stks", &STACK), (b"CMem", &CMEM)];
-    let bytes = form(rt.alloc(), &file[..128], &parts)?;
-    let written = written_again(rt.alloc(), bytes.as_slice(), &image)?;
-    let chunk = b"CMem\0\0\0\x0F\0\0\x02\0\x67\x6F\0\x20\x03\0\x02\x01\0\x02\x02\0";
-    assert!(rt; written.len() == 148 + 24 + 36);
-    assert!(rt; written[148..172] == chunk[..]);
-    assert!(rt; read(rt.alloc(), written.as_slice(), &image).is_ok());
-    let other = story(2);
-    let other = Image::parse(&other).ok().ok_or("an image")?;
-    match read(rt.alloc(), written.as_slice(), &other) {
-        Err(fault) => assert_eq!(rt; fault.number(), 3),
-        Ok(_) => assert!(rt; false),
-    }
-    match read(rt.alloc(), b"FORM\0\0\0\x04IFRS", &image) {
-        Err(fault) => assert_eq!(rt; fault.number(), 1),
-        Ok(_) => assert!(rt; false),
-    }
     Ok(())
 }

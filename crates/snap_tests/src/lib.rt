@@ -3,5 +3,3 @@
 
 #[cfg(test)]
 mod spellings;
-#[cfg(test)]
-mod states;

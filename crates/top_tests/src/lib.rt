@@ -4,12 +4,8 @@
 #[cfg(test)]
 mod faults;
 #[cfg(test)]
-mod journal;
-#[cfg(test)]
 mod runs;
 #[cfg(test)]
 mod serving;
-#[cfg(test)]
-mod session;
 #[cfg(test)]
 mod stores;

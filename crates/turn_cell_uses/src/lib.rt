@@ -12,8 +12,6 @@ mod log;
 mod notes;
 mod tallies;
 mod tally;
-#[cfg(test)]
-mod tests;
 mod two_threads;
 
 pub use answer::Answer;

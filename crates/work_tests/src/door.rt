@@ -50,14 +50,6 @@ impl<'a> Lines<'a> {
             .filter(|(why, link)| *why == Served::End && link.sink.bytes() == text)
             .count()
     }
-
-    /// Whether each link that was hung up has the replies of one of the other door's.
-    pub fn is_like<R: Wait>(&self, rt: &R, other: &Lines<'_>) -> bool {
-        let ended = self.ended.lock(rt);
-        ended
-            .iter()
-            .all(|(_, link)| other.answered(rt, link.sink.bytes()) == 1)
-    }
 }
 
 impl<'a> Door for Lines<'a> {

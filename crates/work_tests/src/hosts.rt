@@ -3,7 +3,6 @@ ghost use Rattle.std.specs.Prelude.{IfOk};
 ghost use Rattle.host_serve.specs.Holders.{holders};
 ghost use Rattle.host_serve.specs.Hosts.{AreOf};
 ghost use Rattle.host_serve.specs.Splitting.{AreRoots};
-ghost use Rattle.turn_cell.specs.History.{Each};
 
 use crate::door::Lines;
 use disk_model::MemDisk;
@@ -62,20 +61,6 @@ pub fn opened_for_two<'i>(
     let (host, mut one) = opened(alloc, stories, new_journal(alloc)?)?;
     let two = one.split(alloc, &host)?;
     Ok((host, one, two))
-}
-
-/// A host of a journal without rows, with the passes of four workers.
-pub fn opened_for_four<'i>(
-    alloc: Global,
-    stories: &'i [Story<'i>],
-) -> Result<(Host<'i, MemDisk>, [Passes<'i, MemDisk>; 4]), Fail>
-    ensures { IfOk result (λ pair. Each (AreOf pair.0) pair.1) }
-{
-    let (host, mut one) = opened(alloc, stories, new_journal(alloc)?)?;
-    let two = one.split(alloc, &host)?;
-    let three = one.split(alloc, &host)?;
-    let four = one.split(alloc, &host)?;
-    Ok((host, [one, two, three, four]))
 }
 
 /// Whether a line is answered this.

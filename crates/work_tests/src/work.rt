@@ -3,15 +3,15 @@ ghost use Rattle.host_serve.specs.Hosts.{AreOf};
 
 use crate::door::Lines;
 use crate::holds::{HeldReply, HeldTurn};
-use crate::hosts::{is_answered, opened_for_four, opened_for_two, worked};
+use crate::hosts::{is_answered, opened_for_two, worked};
 use disk_model::MemDisk;
 use host_serve::{Host, NoPause, Passes, Pause, Worked};
-use std::alloc::{AllocError, Global};
+use std::alloc::Global;
 use std::sync::Wait;
 use std::sync::atomic::Ordering;
 use std::test::{Fail, *};
 use std::thread::Threads;
-use story_make::{echo_story, script};
+use story_make::echo_story;
 use story_run::Story;
 
 const OPEN: &[u8] = b"OPEN 0 k1 0 7 80 24";
@@ -137,69 +137,5 @@ fn the_other_worker_goes_on_where_the_door_fails_for_one(rt: HostRuntime) -> Res
     let door = Lines::new(alloc, &gives);
     let shut = is_shut(&rt, alloc, &stories, &[(OPEN, OPENED)], &door, &NoPause)?;
     assert!(rt; !shut && door.answered(&rt, OPENED) == 2);
-    Ok(())
-}
-
-/// Scripts of eight sessions.
-fn scripts(alloc: Global) -> Result<Vec<Vec<u8>>, AllocError> {
-    let mut scripts = Vec::new(alloc);
-    for session in 0..8 {
-        scripts.push(script(alloc, 1, session, 100)?)?;
-    }
-    Ok(scripts)
-}
-
-/// A link for each script.
-fn links_of<'a>(
-    alloc: Global,
-    scripts: &'a [Vec<u8>],
-) -> Result<Vec<Option<&'a [u8]>>, AllocError> {
-    let mut gives: Vec<Option<&[u8]>> = Vec::new(alloc);
-    for lines in scripts {
-        gives.push(Some(lines.as_slice()))?;
-    }
-    Ok(gives)
-}
-
-/// Whether the work of four does, of a host that has answered none.
-fn is_shut_by_four<'i, R: Threads + Wait + Sync>(
-    rt: &R,
-    alloc: Global,
-    stories: &'i [Story<'i>],
-    door: &Lines<'_>,
-) -> Result<bool, Fail> {
-    let (host, mut workers) = opened_for_four(alloc, stories)?;
-    let ended = host.work(rt, alloc, door, &NoPause, &mut workers);
-    Ok(matches!(ended, Worked::Shut(())))
-}
-
-/// Whether eight links were hung up, each with replies that one of the other door's has.
-fn are_eight_like<R: Wait>(rt: &R, door: &Lines<'_>, other: &Lines<'_>) -> bool {
-    door.hung_up.load(Ordering::SeqCst) == 8 && door.is_like(rt, other)
-}
-
-/// Whether the links are answered by four workers as by two.
-fn are_answered_alike<'a, 'i, R: Threads + Wait + Sync>(
-    rt: &R,
-    alloc: Global,
-    stories: &'i [Story<'i>],
-    gives: &'a [Option<&'a [u8]>],
-) -> Result<bool, Fail> {
-    let by_two = Lines::new(alloc, gives);
-    let by_four = Lines::new(alloc, gives);
-    let shut = is_shut(rt, alloc, stories, &[], &by_two, &NoPause)?;
-    let shut_by_four = is_shut_by_four(rt, alloc, stories, &by_four)?;
-    let alike = are_eight_like(rt, &by_two, &by_four) && are_eight_like(rt, &by_four, &by_two);
-    Ok(shut && shut_by_four && alike)
-}
-
-#[test]
-fn scripts_are_answered_by_four_workers_as_by_two(rt: HostRuntime) -> Result<(), Fail> {
-    let alloc = rt.alloc();
-    let bytes = echo_story(alloc)?;
-    let stories = [Story::of(&bytes).ok().ok_or("a story")?];
-    let lines = scripts(alloc)?;
-    let gives = links_of(alloc, &lines)?;
-    assert!(rt; are_answered_alike(&rt, alloc, &stories, &gives)?);
     Ok(())
 }

@@ -4,7 +4,6 @@ use host_top::{MemoryOutside, top};
 use host_world::{JournalEvent, JournalHost, follow_journal};
 use line_talk::{MemorySink, MemorySource};
 use line_words::write_reply;
-use session_core::Sessions;
 use std::alloc::Global;
 use std::collections::BTreeMap;
 use std::sync::Wait;
@@ -22,9 +21,6 @@ const TURNS: u32 = 99;
 
 // A journal without rows.
 const JOURNAL: [u8; 17] = *b"STHJ\x00\x00\x00\x01\x01\x00\x00\x00\x00\x00\x00\x00\x00";
-
-// One of version 1.
-const OLDER: [u8; 17] = *b"STHJ\x00\x00\x00\x01\x00\x00\x00\x00\x00\x00\x00\x00\x00";
 
 fn bytes(alloc: Global, list: &[u8]) -> Result<Bytes, Fail> {
     Ok(Bytes::of(Vec::from_slice(alloc, list)?))
@@ -109,17 +105,6 @@ fn replies(alloc: Global, stories: &[Story], events: &[JournalEvent]) -> Result<
     Ok(replies)
 }
 
-// The replies of plain sessions.
-fn wanted(alloc: Global, stories: &[Story], lines: &[Vec<u8>]) -> Result<Vec<u8>, Fail> {
-    let mut sessions = Sessions::new(alloc)?;
-    let mut wanted = Vec::new(alloc);
-    for line in lines {
-        let reply = sessions.answer(alloc, stories, BUDGET, line)?;
-        wanted.extend_from_slice(&write_reply(alloc, &reply)?)?;
-    }
-    Ok(wanted)
-}
-
 // What a host of the program writes to these lines, over a journal without rows.
 fn host_replies<R: Threads + Wait + Sync>(
     rt: &R,
@@ -149,37 +134,6 @@ fn host_replies<R: Threads + Wait + Sync>(
         return Err("a host that ends otherwise".into());
     }
     Ok(output.bytes().to_vec(alloc)?)
-}
-
-// What tells the version of the older journal, behind so many calls of its opening.
-fn version_after(alloc: Global, calls: u8) -> Result<u8, Fail> {
-    let mut events = Vec::new(alloc);
-    for at in 0..=calls {
-        events.push(opening_event(alloc, at)?)?;
-    }
-    let host = JournalHost::down(alloc, &bytes(alloc, &OLDER)?)?;
-    let host = follow_journal(alloc, &[], BUDGET, host, &events)?;
-    let version = host.journal().get(8).ok_or("a header")?;
-    Ok(*version)
-}
-
-#[test]
-fn an_older_journal_is_of_version_2_behind_the_fourth_call(rt: HostRuntime) -> Result<(), Fail> {
-    for (calls, version) in [(3, 0), (4, 1), (5, 1)] {
-        assert_eq!(rt; version_after(rt.alloc(), calls)?, version);
-    }
-    Ok(())
-}
-
-#[test]
-fn eight_scripts_in_turn_are_answered_as_by_plain_sessions(rt: HostRuntime) -> Result<(), Fail> {
-    let alloc = rt.alloc();
-    let file = echo_story(alloc)?;
-    let stories = [Story::of(&file).ok().ok_or("a story")?];
-    let lines = script_lines(alloc)?;
-    let given = replies(alloc, &stories, &events(alloc, &lines)?)?;
-    assert!(rt; given == wanted(alloc, &stories, &lines)?);
-    Ok(())
 }
 
 #[test]

@@ -10,8 +10,6 @@ mod parting;
 mod patience;
 mod reading;
 mod tcp;
-#[cfg(test)]
-mod tests;
 mod trouble;
 mod waiting;
 mod writing;

@@ -1,7 +1,7 @@
-//! What no clause says: that the calls which are left are made.
+//! A disk that dies: that the calls which are left are made.
 
-use crate::Dying;
 use disk_model::{Disk, Failed, MemDisk};
+use dying_disk::Dying;
 use std::alloc::{AllocError, Global};
 use std::test::Fail;
 

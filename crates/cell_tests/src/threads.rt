@@ -1,18 +1,17 @@
-//! Numbers of passes, and turns on real threads: what no clause says, or only a run shows.
+//! Turns on real threads, and a disk that refuses a row.
 ghost use Rattle.std.specs.Prelude.{◌≡◌, ◌∷◌, [], IfOk};
 ghost use Rattle.turn_cell.specs.Passes.{pass_number, pass_numbers, seen};
 ghost use Rattle.turn_cell_uses.specs.Turns.{IsReadyPass};
 ghost use Rattle.turn_cell_uses.specs.DeskTag.{IsDeskOfBook};
 
-use crate::{
-    Answer, Book, Desk, Disk, Event, Log, Note, Tally, accept, add, add_both, add_times, end,
-    open_desk, request, serve,
-};
 use std::alloc::{AllocError, Global};
 use std::sync::Wait;
 use std::test::Fail;
 use std::thread::{Threads, join};
 use turn_cell::{Cell, Pass, Told};
+use turn_cell_uses::{
+    Answer, Book, Desk, Disk, Log, add_both, add_times, end, open_desk, request, serve,
+};
 
 fn empty_log(rt: &HostRuntime) -> Log {
     Log {
@@ -36,55 +35,6 @@ fn split_twice<T: Told + Drop>(alloc: Global, value: T) -> Result<SplitCell<T>, 
     let one = cell.split(alloc, &mut root)?;
     let two = cell.split(alloc, &mut root)?;
     Ok((cell, root, one, two))
-}
-
-// Whether these are a root and its two splits, by their numbers.
-fn are_numbered(root: &Pass<Log>, one: &Pass<Log>, two: &Pass<Log>) -> bool {
-    root.number() == 0
-        && one.number() == 1
-        && two.number() == 2
-        && root.made() == 2
-        && one.made() == 0
-        && two.made() == 0
-}
-
-// The places of a root's note, of its second split's, and of another of the root's once the first
-// split was joined into it.
-fn noted<R: Wait>(
-    rt: &R,
-    cell: &Cell<Log>,
-    root: &mut Pass<Log>,
-    one: Pass<Log>,
-    two: &mut Pass<Log>,
-) -> [Option<u64>; 3]
-    requires root { IsReadyPass cell.now root.old }
-    requires first { IsReadyPass cell.now one × (pass_number one ≡ 1) }
-    requires second { IsReadyPass cell.now two.old }
-    ensures kept { IsReadyPass cell.now root.new }
-{
-    let first = add(rt, cell, root, 9);
-    let second = add(rt, cell, two, 9);
-    cell.join(root, one);
-    let third = add(rt, cell, root, 9);
-    [first, second, third]
-}
-
-// Whether three notes stand at these places, the last two of the second split and of the root.
-fn are_three(places: &[Option<u64>; 3], notes: &[Note]) -> bool {
-    *places == [Some(0), Some(1), Some(2)]
-        && notes.len() == 3
-        && notes[1].by == 2
-        && notes[2].by == 0
-}
-
-#[test]
-fn two_splits_of_a_root_have_the_numbers_1_and_2(rt: HostRuntime) -> Result<(), Fail> {
-    let (cell, mut root, one, mut two) = split_twice(rt.alloc(), empty_log(&rt))?;
-    let numbered = are_numbered(&root, &one, &two);
-    let places = noted(&rt, &cell, &mut root, one, &mut two);
-    let log = end(&rt, cell, root);
-    assert!(rt; numbered && are_three(&places, &log.notes));
-    Ok(())
 }
 
 // Whether the notes have the first two places, and the pass that is left is the first split.
@@ -222,21 +172,5 @@ fn two_threads_turn_on_two_desks_of_one_book(rt: HostRuntime) -> Result<(), Fail
     let (book, _root, first, second) = split_twice(rt.alloc(), value)?;
     let both = both_accepted(&rt, rt.alloc(), &book, first, second)?;
     assert!(rt; both == (true, true));
-    Ok(())
-}
-
-// Whether the root's text of two bytes is all that was accepted.
-fn is_one_text_of_two_bytes(tally: &Tally) -> bool {
-    tally.events.len() == 1
-        && matches!(&tally.events[0], Event::Accepted { by: 0, text } if text.len() == 2)
-}
-
-#[test]
-fn an_event_owns_its_text(rt: HostRuntime) -> Result<(), Fail> {
-    let text = vec![in rt.alloc(); 72u8, 105]?;
-    let (cell, mut root) = Cell::new(rt.alloc(), Tally::new(rt.alloc()))?;
-    let accepted = accept(&rt, &cell, &mut root, text);
-    let tally = cell.enter(&rt, &mut root);
-    assert!(rt; accepted && is_one_text_of_two_bytes(&tally));
     Ok(())
 }
