@@ -113,8 +113,8 @@ fn write_area<D: Disk>(
     ensures ran { Ran D.tells D.steady D.room D.label D.faults D.reach
         (side_start side + 16 + length bytes.now) result disk.old disk.new }
     ensures calls { IsTrue (D.tells disk.old)
-        → MakesCalls D.fails_at D.moment D.room (side_start side + 16 + length bytes.now) (closing_calls slot + 5)
-        result disk.old disk.new }
+        → MakesCalls D.fails_at D.moment D.room (side_start side + 16 + length bytes.now)
+        (closing_calls slot + 5) result disk.old disk.new }
 {
     let Ok(()) = close_gate(disk, side, slot) else {
         return Err(slot.loosened());
@@ -163,8 +163,9 @@ pub fn replace<D: Disk>(
     ensures ran { Ran D.tells D.steady D.room D.label D.faults D.reach
         (side_start (taken_side slots.old) + 16 + length bytes.now) result disk.old disk.new }
     ensures calls { IsTrue (D.tells disk.old)
-        → MakesCalls D.fails_at D.moment D.room (side_start (taken_side slots.old) + 16 + length bytes.now) (closing_calls (slot_of slots.old (taken_side slots.old)) + 5)
-        result disk.old disk.new }
+        → MakesCalls D.fails_at D.moment D.room
+        (side_start (taken_side slots.old) + 16 + length bytes.now)
+        (closing_calls (slot_of slots.old (taken_side slots.old)) + 5) result disk.old disk.new }
 {
     let side = slots.taken();
     let slot = slots.of(side);

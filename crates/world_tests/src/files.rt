@@ -132,7 +132,7 @@ fn has_snapshot(file: Option<&StoreState>) -> bool {
     };
     let bytes = file.seen();
     match bytes.get(4096..4108) {
-        Some(head) => head == HEAD.as_slice() && bytes.get(8) == Some(&1),
+        Some(head) => head == HEAD.as_slice() && bytes.get(10) == Some(&1),
         None => false,
     }
 }
