@@ -19,7 +19,8 @@ use std::thread::Threads;
 impl<'i, D: Disk + Drop + Send + Sync> Host<'i, D> {
     /// Serves the links of a door by several workers at once, until the door is shut or fails.
     /// Each worker has passes of its own, and hangs a link up with what `serve` answered. Where
-    /// the door fails for one, the others go on. Links are numbered from 0 as they are taken.
+    /// the door fails for one, the others go on. However the work ends, the passes of each have
+    /// seen what its lines left. Links are numbered from 0 as they are taken.
     pub fn work<R: Threads + Wait + Sync, O: Door, P: Pause>(
         &self,
         rt: &R,
@@ -30,7 +31,7 @@ impl<'i, D: Disk + Drop + Send + Sync> Host<'i, D> {
     ) -> Worked<O>
         requires workers { (0 < length workers.old) × (length workers.old ≤ 16) }
         requires passes { Each (AreOf self.now) workers.old }
-        ensures { AllDid (Works O.Conn.source O.Conn.sink O.Conn.lent (O.gives door.now)
+        ensures did { AllDid (Works O.Conn.source O.Conn.sink O.Conn.lent (O.gives door.now)
             (O.shuts door.now) (O.fails door.now) (IsSound D.tells D.seen) self.now) IsDoorShut
             workers.old workers.new result }
     {

@@ -12,6 +12,7 @@ pub mod CompleteLemmas
 pub mod HasCauseLemmas
 pub mod WritesLemmas
 pub mod CallsLemmas
+pub mod LoadsLemmas
 pub mod StoodLemmas
 pub mod StopLemmas
 pub mod OutsideLemmas

@@ -69,6 +69,21 @@ kept_at : {S : Type 0} (b : Bool) (now : S) (old : Option S) → (b ≡ true →
 kept_at true now old here = sym (here refl)
 kept_at false now old here = refl
 
+kept_part : {X : Type 0} (b : Bool) (now old : X) → (b ≡ true → old ≡ now) → cond b now old ≡ old
+kept_part true now old here = sym (here refl)
+kept_part false now old here = refl
+
+-- a part of it that is what it was stays everywhere
+pub part_stays : {S X : Type 0} (f : S → Option X) (old new : List ℕ → Option S) (name : List ℕ)
+    (now : S)
+    → ((other : List ℕ) → new other ≡ update bytes_eq old name (Some now) other)
+    → option_and_then f (old name) ≡ f now
+    → (other : List ℕ) → option_and_then f (new other) ≡ option_and_then f (old other)
+part_stays f old new name now is same other =
+    part_at f old new name now is other
+    ∙ kept_part (bytes_eq name other) (f now) (option_and_then f (old other))
+    (λ e. ap (λ n. option_and_then f (old n)) (sym ((bytes_eq-Decides name other).0 e)) ∙ same)
+
 -- what stood at the name stands there
 pub same_at : {S : Type 0} (old new : List ℕ → Option S) (name : List ℕ) (now : S)
     → ((other : List ℕ) → new other ≡ update bytes_eq old name (Some now) other)

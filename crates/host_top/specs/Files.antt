@@ -113,6 +113,13 @@ abbrev pub told_at : {A : Type 0} → (List ℕ → Told A) → List ℕ → Tol
 told_at told name now other =
     if bytes_eq name other then told_now (told other) now else told other
 
+-- this stands under the name then; what stands under other names stays, and so do loans and faults
+pub record StandsThen {D : Type 0} (name : List ℕ) (now : Told D) (old new : OutsideState D)
+    : Type 0 where
+  pub disk : (other : List ℕ) → new.disk other ≡ told_at old.disk name now other
+  pub loan : (other : List ℕ) → new.loan other ≡ old.loan other
+  pub disk_faults : new.disk_faults ≡ old.disk_faults
+
 -- no disk of another name that was lent has this label
 abbrev pub HasOwnLabel : {D : Type 0} → OutsideState D → List ℕ → ℕ → Type 0
 HasOwnLabel outside name label =

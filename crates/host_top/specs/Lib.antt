@@ -20,6 +20,7 @@ pub mod Scene
 pub mod Causes
 pub mod Writes
 pub mod Calls
+pub mod Loads
 pub mod Spoken
 pub mod Plain
 pub mod Files

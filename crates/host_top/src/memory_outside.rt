@@ -1,5 +1,5 @@
 //! An outside in memory, with the calls that are to fail.
-ghost use Rattle.std.specs.Prelude.{◌≡◌, Some, None, IfSome, IfNone, IsSomeAnd, OnOk};
+ghost use Rattle.std.specs.Prelude.{◌≡◌, Some, None, IfSome, IfNone, IsSomeAnd, OnOk, OnErr};
 ghost use Rattle.std.specs.Prelude.{is_some, true, false};
 ghost use Rattle.std.specs.Prelude.{ℕ, List, option_map};
 ghost use Rattle.std.specs.BTreeMap.{get_by_text};
@@ -295,17 +295,57 @@ impl Outside for MemoryOutside {
 
 // For whoever makes such an outside, and looks at its disks afterwards.
 impl MemoryOutside {
-    /// Puts a disk under a name.
-    pub fn hold(&mut self, alloc: Global, name: &str, disk: MemDisk) -> Result<(), AllocError> {
+    ghost use Rattle.host_top.specs.Files.{KeepsDisks, KeepsDoors, KeepsFiles, StandsThen};
+
+    /// Puts a disk under a name, in the place of the one that stands there. Where memory runs out
+    /// no disk changes, and this one is gone.
+    pub fn hold(&mut self, alloc: Global, name: &str, disk: MemDisk) -> Result<(), AllocError>
+        ensures ok { OnOk result (StandsThen name.now (Told.There disk)
+            (⟦<MemoryOutside as Outside>⟧.outside self.old)
+            (⟦<MemoryOutside as Outside>⟧.outside self.new)) }
+        ensures err { OnErr result (KeepsDisks
+            (⟦<MemoryOutside as Outside>⟧.outside self.old)
+            (⟦<MemoryOutside as Outside>⟧.outside self.new)) }
+        ensures files { KeepsFiles (⟦<MemoryOutside as Outside>⟧.outside self.old)
+            (⟦<MemoryOutside as Outside>⟧.outside self.new) }
+        ensures doors { KeepsDoors (⟦<MemoryOutside as Outside>⟧.outside self.old)
+            (⟦<MemoryOutside as Outside>⟧.outside self.new) }
+        ensures others { (⟦<MemoryOutside as Outside>⟧.failing_loads self.new
+            ≡ ⟦<MemoryOutside as Outside>⟧.failing_loads self.old)
+            × (⟦<MemoryOutside as Outside>⟧.failing_loans self.new
+            ≡ ⟦<MemoryOutside as Outside>⟧.failing_loans self.old)
+            × (⟦<MemoryOutside as Outside>⟧.failing_doors self.new
+            ≡ ⟦<MemoryOutside as Outside>⟧.failing_doors self.old) }
+    {
         make_shelf(alloc, &mut self.shelves, name)?;
-        if let Some(shelf) = self.shelves.get_mut(name) {
-            shelf.disk = Some(disk);
+        match self.shelves.get_mut(name) {
+            Some(shelf) => shelf.disk = Some(disk),
+            None => unreachable!("it has a place"),
         }
         Ok(())
     }
 
-    /// Takes the disk under a name, unless it is lent or there is none.
-    pub fn release(&mut self, name: &str) -> Option<MemDisk> {
+    /// Takes the disk under a name, unless it is lent or there is none; then no disk changes.
+    pub fn release(&mut self, name: &str) -> Option<MemDisk>
+        ensures value { told_of_all result
+            ≡ (⟦<MemoryOutside as Outside>⟧.outside self.old).disk name.now }
+        ensures ok { IfSome result (λ disk. StandsThen name.now Told.Missing
+            (⟦<MemoryOutside as Outside>⟧.outside self.old)
+            (⟦<MemoryOutside as Outside>⟧.outside self.new)) }
+        ensures none { IfNone result (KeepsDisks
+            (⟦<MemoryOutside as Outside>⟧.outside self.old)
+            (⟦<MemoryOutside as Outside>⟧.outside self.new)) }
+        ensures files { KeepsFiles (⟦<MemoryOutside as Outside>⟧.outside self.old)
+            (⟦<MemoryOutside as Outside>⟧.outside self.new) }
+        ensures doors { KeepsDoors (⟦<MemoryOutside as Outside>⟧.outside self.old)
+            (⟦<MemoryOutside as Outside>⟧.outside self.new) }
+        ensures others { (⟦<MemoryOutside as Outside>⟧.failing_loads self.new
+            ≡ ⟦<MemoryOutside as Outside>⟧.failing_loads self.old)
+            × (⟦<MemoryOutside as Outside>⟧.failing_loans self.new
+            ≡ ⟦<MemoryOutside as Outside>⟧.failing_loans self.old)
+            × (⟦<MemoryOutside as Outside>⟧.failing_doors self.new
+            ≡ ⟦<MemoryOutside as Outside>⟧.failing_doors self.old) }
+    {
         match self.shelves.get_mut(name) {
             Some(shelf) => shelf.disk.take(),
             None => None,

@@ -11,6 +11,7 @@ ghost use Rattle.host_top.specs.Stories.{stories_of};
 ghost use Rattle.host_top.specs.Follows.{DoesTask, FollowsCommand, TellsCaller};
 ghost use Rattle.host_top.specs.Calls.{AreThere, DisksStand, NoneIsListed};
 ghost use Rattle.host_top.specs.Causes.{HasCause};
+ghost use Rattle.host_top.specs.Loads.{LoadsInOrder};
 ghost use Rattle.host_top.specs.Complete.{IsInOrder, NoneRose};
 ghost use Rattle.host_top.specs.Scene.{scene};
 ghost use Rattle.host_top.specs.Writes.{WritesAll};
@@ -113,6 +114,9 @@ fn follow<R: Threads + Wait + Sync, O: Outside, S: Source, K: Sink>(
         → AreThere (O.outside outside.old).file (command_asked command.entry).names
         → result ≡ Status.ReadFault
         → Rose (S.source input.old).faults (S.source input.new).faults }
+    ensures loads { IfSome (O.failing_loads outside.old) (λ calls.
+        LoadsInOrder (O.outside outside.old).file (command_asked command.entry).names calls result
+        (Rose (S.source input.old).faults (S.source input.new).faults)) }
     ensures read_fault { result ≡ Status.ReadFault
         → Rose (O.outside outside.old).faults (O.outside outside.new).faults
         ⊎ Rose (S.source input.old).faults (S.source input.new).faults }
@@ -202,6 +206,14 @@ pub fn top<R: Threads + Wait + Sync, O: Outside, S: Source, K: Sink>(
         → NoneRose (O.outside outside.old) (O.outside outside.new) (S.source input.old)
         (S.source input.new) (K.sink output.old) (K.sink output.new)
         → (result ≡ 0) ⊎ (result ≡ 7)) }
+
+    // where it is told which loads are to fail, the files are loaded in the order of their names: 4
+    // comes of the first load that was to fail, behind stories alone, or of the input; so where a
+    // story is refused, none of the loads up to it was to fail
+    ensures loads { IfSome (asked_by (map string_bytes words.now)) (λ asked.
+        IsSomeAnd (status_of result) (λ status. IfSome (O.failing_loads outside.old) (λ calls.
+        LoadsInOrder (O.outside outside.old).file asked.names calls status
+        (Rose (S.source input.old).faults (S.source input.new).faults)))) }
 
     // what was asked is done as far as the status says, in plain words for such a caller
     ensures told { IfSome (asked_by (map string_bytes words.now)) (λ asked.

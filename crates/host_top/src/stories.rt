@@ -1,8 +1,10 @@
 //! The stories that a command names.
-ghost use Rattle.std.specs.Prelude.{◌≡◌, ◌≤◌, map, Ok, IfOk, IfErr, IsErrOf};
+ghost use Rattle.std.specs.Prelude.{◌≡◌, ◌≤◌, map, length, Ok, Some, IfOk, IfErr, IsErrOf};
 ghost use Rattle.line_talk.specs.Causes.{Rose};
+ghost use Rattle.line_talk.specs.Failing.{Failing};
 ghost use Rattle.host_top.specs.Calls.{AreThere, NoneIsListed};
 ghost use Rattle.host_top.specs.Files.{KeepsDisks, KeepsDoors};
+ghost use Rattle.host_top.specs.Loads.{LoadFails, MakesLoads};
 ghost use Rattle.host_top.specs.Stories.{AreFiles, IsLoadSettled, RefusesStories, LoadStopsBehind};
 ghost use Rattle.host_top.specs.Stories.{stories_of};
 
@@ -43,6 +45,15 @@ pub fn load_files<O: Outside>(
     ensures unlisted { NoneIsListed (O.failing_loads outside.old)
         → AreThere (O.outside outside.old).file (map (λ n. n.now) names.now)
         → ¬ (IsErrOf result Fetch.Failed) }
+    // where it is told which loads are to fail, one is made for each file, and none of them was to
+    ensures loads { IfOk result (λ files. (calls : Failing)
+        → O.failing_loads outside.old ≡ Some calls
+        → MakesLoads (O.outside outside.old).file (map (λ n. n.now) names.now) calls
+        (O.failing_loads outside.new) (length files.items)) }
+    // or the first that was to fail did
+    ensures failed { IsErrOf result Fetch.Failed → (calls : Failing)
+        → O.failing_loads outside.old ≡ Some calls
+        → LoadFails (O.outside outside.old).file (map (λ n. n.now) names.now) calls }
     ensures kept { (O.outside outside.new).file ≡ (O.outside outside.old).file }
     ensures loans { O.failing_loans outside.new ≡ O.failing_loans outside.old }
     ensures disks { KeepsDisks (O.outside outside.old) (O.outside outside.new) }

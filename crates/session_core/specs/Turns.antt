@@ -1,5 +1,5 @@
 -- How many turns a game took: one for each input that its story waited for (own).
-use Rattle.std.specs.Prelude.{ℕ, ◌+◌, if◌then◌else◌, List, [], ◌∷◌, Option, Some}
+use Rattle.std.specs.Prelude.{ℕ, ◌+◌, ◌≤◌, if◌then◌else◌, List, [], ◌∷◌, Option, Some}
 use Rattle.std.specs.Prelude.{None}
 use Rattle.std.specs.List.{filter_map}
 use Rattle.glk_input.specs.declared.input.Input.{Input}
@@ -34,3 +34,7 @@ turns_of stories (Open key story digest seed cols rows budget ∷ after) =
     turns_in (story_at stories story)
     (record { seed = seed; cols = cols; rows = rows; budget = budget }) after
 turns_of stories _ = 0
+
+-- Where memory ran out a count of turns rose, if at all, by no more than these.
+abbrev pub RisesByUpTo : ℕ → ℕ → ℕ → Type 0
+RisesByUpTo turns before now = (before ≤ now) × (now ≤ before + turns)

@@ -1,10 +1,10 @@
 //! The world that a session has come to (own).
 
-ghost use Rattle.std.specs.Prelude.{◌≡◌, ◌+◌, IfOk, OnOk, None, Some, MatchOption};
+ghost use Rattle.std.specs.Prelude.{◌≡◌, ◌+◌, IfOk, OnOk, OnErr, None, Some, MatchOption};
 ghost use Rattle.std.specs.List.{filter_map};
 ghost use Rattle.story_run.specs.Solo.{opening, turned_by, world_after};
 ghost use Rattle.session_core.specs.History.{story_at, input_of, turned_on, world_of};
-ghost use Rattle.session_core.specs.Turns.{turns_on, turns_by, turns_of};
+ghost use Rattle.session_core.specs.Turns.{turns_on, turns_by, turns_of, RisesByUpTo};
 
 use crate::history::story_at;
 use gate_journal::Command;
@@ -40,7 +40,7 @@ pub fn input_of(alloc: Global, command: &Command) -> Result<Option<Input>, Alloc
 }
 
 /// The world after what a command gives the story. An input that isn't wanted leaves it; one that
-/// is takes a turn, which is one step.
+/// is takes a turn, which is one step. Where memory runs out the world is gone.
 pub fn turn_on<'i, L: Ledger>(
     alloc: Global,
     world: World<'i>,
@@ -50,6 +50,8 @@ pub fn turn_on<'i, L: Ledger>(
     ensures value { IfOk result (λ after. after ≡ turned_on world.entry (input_of command.now)) }
     ensures cost { OnOk result
         (steps.new ≡ steps.old + turns_on world.entry (input_of command.now)) }
+    ensures err { OnErr result
+        (RisesByUpTo (turns_on world.entry (input_of command.now)) steps.old steps.new) }
 {
     match input_of(alloc, command)? {
         Some(input) => {
@@ -101,6 +103,8 @@ pub fn play_on<'i, L: Ledger>(
         ≡ turned_by world.entry (filter_map input_of commands.now)) }
     ensures cost { OnOk result (steps.new
         ≡ steps.old + turns_by world.entry (filter_map input_of commands.now)) }
+    ensures err { OnErr result (RisesByUpTo
+        (turns_by world.entry (filter_map input_of commands.now)) steps.old steps.new) }
 {
     let mut after = world;
     for at in 0..commands.len() {
@@ -121,6 +125,9 @@ fn play<'i, L: Ledger>(
         ≡ world_after story.now.image setup (filter_map input_of after.now)) }
     ensures cost { OnOk result (steps.new
         ≡ steps.old + turns_by (opening story.now.image setup) (filter_map input_of after.now)) }
+    ensures err { OnErr result (RisesByUpTo
+        (turns_by (opening story.now.image setup) (filter_map input_of after.now))
+        steps.old steps.new) }
 {
     let world = World::start(alloc, story, setup)?;
     play_on(alloc, world, after, steps)
@@ -136,6 +143,8 @@ pub fn replay<'i, L: Ledger>(
 ) -> Result<Option<World<'i>>, AllocError>
     ensures value { IfOk result (λ world. world ≡ world_of stories.now game.now) }
     ensures cost { OnOk result (steps.new ≡ steps.old + turns_of stories.now game.now) }
+    ensures err { OnErr result
+        (RisesByUpTo (turns_of stories.now game.now) steps.old steps.new) }
 {
     match game {
         [

@@ -5,6 +5,8 @@ use Rattle.host_top.proofs.CauseLemmas.{failed_six, failed_nine, coded_zero, cod
 use Rattle.host_top.proofs.CauseLemmas.{coded_five, coded_seven}
 use Rattle.host_top.proofs.CompleteLemmas.{completes, completes_unlisted}
 use Rattle.host_top.proofs.CompleteLemmas.{complete_no_memory}
+use Rattle.host_top.proofs.LoadsLemmas.{loads_no_memory}
+use Rattle.line_talk.specs.Causes.{Rose}
 use Rattle.host_top.proofs.HasCauseLemmas.{cause_no_memory, has_cause}
 use Rattle.host_top.proofs.WritesLemmas.{writes_all, writes_no_memory}
 use Rattle.host_top.proofs.ToldLemmas.{tells, told_no_memory, done_no_memory}
@@ -133,3 +135,16 @@ returns-clause-unprovoked g c =
     (completes_unlisted _ _ _ _ _ _ _ _ _ _ _ _ c.follow-status.ensures.done c.code-2.ensures
     c.follow-status.ensures.unprovoked c.follow-status.ensures.stood
     c.follow-status.ensures.write_fault)
+
+pub returns-in-Err-clause-loads : goal.returns-in-Err-clause-loads
+returns-in-Err-clause-loads g c =
+    loads_no_memory (asked_by (map string_bytes c.args.words.now)) c.code-in-Err.result
+    (g.O.Outside.outside c.args.outside.now).file
+    (g.O.Outside.failing_loads c.args.outside.now)
+    (Rose (g.S.Source.source c.args.input.now).faults (g.S.Source.source c.args.input.now).faults)
+    c.code-in-Err.ensures
+
+pub returns-clause-loads : goal.returns-clause-loads
+returns-clause-loads g c =
+    let is = sym c.in-Ok-Some.ensures ∙ ap (option_map command_asked) c.in-Ok-Some.field-0-is in
+    rw (is, c.code-2.ensures) c.follow-status.ensures.loads

@@ -1,8 +1,11 @@
-use Rattle.std.proofs.Common.{◌∙◌, ap, sym, arith, rules, inr, is_ok, map, List, ℕ}
+use Rattle.std.proofs.Common.{◌≡◌, ◌+◌, ◌∙◌, ap, sym, subst, refl, arith, rules, inr, is_ok, map}
+use Rattle.std.proofs.Common.{List, ℕ, length}
 use Rattle.std.proofs.Common.{Global, Vec}
 use Rattle.std.proofs.lemmas.List.{length-map}
 use Rattle.host_top.specs.StoryFile.{story_in_file}
 use Rattle.host_top.proofs.CallsLemmas.{loads_there, no_failure, none_still}
+use Rattle.host_top.proofs.LoadsLemmas.{failed_by, fails_here, one_more}
+use Rattle.host_top.specs.Loads.{MakesLoads}
 use Rattle.host_top.proofs.LoansLemmas.{doors_then, keeps_then}
 use Rattle.host_top.proofs.StoriesLemmas.{any_error, loaded_more, loaded_last, loaded_story}
 use Rattle.host_top.proofs.stories.load_files.Goals as goal
@@ -35,6 +38,10 @@ loop-name-preserved g c = record {
   unlisted =
       λ none. none_still _ _ _ _ (c.loop-name.invariant.unlisted none)
       c.in_ok-bytes.ensures.listed;
+  loads =
+      λ calls told. one_more _ _ _ _ _ _ _ c.loop-name.name-index _ calls c.loop-name-test.true
+      c.loop-name.invariant.kept c.in_ok-bytes.ensures.listed
+      (c.loop-name.invariant.loads calls told) refl;
   loans = c.in_ok-bytes.ensures.others.0 ∙ c.loop-name.invariant.loans;
   disks = keeps_then c.loop-name.invariant.disks c.in_ok-bytes.ensures.disks;
   doors = doors_then c.loop-name.invariant.doors c.in_ok-bytes.ensures.doors;
@@ -62,3 +69,25 @@ returns-in_err-bytes-clause-unlisted g c = λ none there.
     (loads_there _ _ _ _ _ _ _ c.loop-name.name-index _ c.loop-name-test.true
     c.loop-name.invariant.kept c.in_err-bytes.ensures.listed (c.loop-name.invariant.unlisted none)
     there) (λ e. search (rules))
+
+pub returns-in_err-bytes-clause-failed : goal.returns-in_err-bytes-clause-failed
+returns-in_err-bytes-clause-failed g c = λ e calls told.
+    fails_here _ _ _ _ _ _ _ c.loop-name.name-index _ calls c.loop-name-test.true
+    c.loop-name.invariant.kept c.in_err-bytes.ensures.listed
+    (c.loop-name.invariant.loads calls told) _ _ c.loop-name.invariant.count
+    c.loop-name.invariant.are c.loop-name.invariant.stories
+    (failed_by (Vec ℕ Global) _ _ (λ e. search (rules)) e)
+
+pub returns-then-not-is_story-clause-loads : goal.returns-then-not-is_story-clause-loads
+returns-then-not-is_story-clause-loads g c = λ calls told.
+    let many : c.loop-name.name-index + 1 ≡ length c.push.new.self.items =
+    omega (arith, c.in-Ok.ensures.len, c.loop-name.invariant.count) in
+    subst (MakesLoads _ _ calls _) many
+    (one_more _ _ _ _ _ _ _ c.loop-name.name-index _ calls c.loop-name-test.true
+    c.loop-name.invariant.kept c.in_ok-bytes.ensures.listed
+    (c.loop-name.invariant.loads calls told) refl)
+
+pub returns-clause-loads : goal.returns-clause-loads
+returns-clause-loads g c = λ calls told.
+    subst (MakesLoads _ _ calls _) (sym c.loop-name.invariant.count)
+    (c.loop-name.invariant.loads calls told)

@@ -1,4 +1,4 @@
-use Rattle.std.proofs.Common.{◌≡◌, ◌+◌, drop}
+use Rattle.std.proofs.Common.{◌≡◌, ◌+◌, ◌≤◌, drop}
 use Rattle.std.specs.List.{filter_map}
 use Rattle.story_run.specs.Solo.{turned_by}
 use Rattle.session_core.specs.History.{input_of}
@@ -11,3 +11,4 @@ invariant-loop-at g l =
     ≡ turned_by l.fn.world (filter_map input_of l.fn.commands))
     × (l.steps + turns_by l.after (filter_map input_of (drop l.at l.commands))
     ≡ l.fn.steps + turns_by l.fn.world (filter_map input_of l.fn.commands))
+    × (l.fn.steps ≤ l.steps)
