@@ -2,6 +2,7 @@ pub mod Told
 pub mod FetchLemmas
 pub mod QuietLemmas
 pub mod RunLemmas
+pub mod WantLemmas
 pub mod ArgumentLemmas
 pub mod WithinLemmas
 pub mod DigitLemmas

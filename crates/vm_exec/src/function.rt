@@ -137,6 +137,7 @@ impl<'i> Machine<'i> {
 
     /// A return from the current function; that of the start function ends the story.
     #[inline(always)]
+    #[tactic(auto, using(crate::proofs::WantLemmas::no_stub_wanted))]
     pub(crate) fn give_back(&mut self, value: u32) -> Result<Done, Trap>
         ensures does { DoesAtNoCost (rules.returns self.old value) self.new result }
         ensures want { result ≡ Err NoMemory → ReturnMayWant self.old }

@@ -2,7 +2,8 @@
 //! RAMSTART. Each takes one tick, and tells nothing unless the story has quit.
 
 ghost use Rattle.std.specs.Prelude.{◌≡◌, ◌≢◌, ◌<◌, ℕ, List, Err, IfOk, OnOk, false, true};
-ghost use Rattle.vm_exec.specs.Fetch.{Fetches, IsAtHand, work_for};
+ghost use Rattle.std.specs.Prelude.{slice_index};
+ghost use Rattle.vm_exec.specs.Fetch.{Fetches, IsAtHand, loads_of, work_for};
 ghost use Rattle.vm_exec.specs.Machine.{IsFit, IsSoundMachine, KeepsImage};
 ghost use Rattle.vm_exec.specs.Run.{GoesBy, IfDid, IsQuickOpcode, RunsWithin, StaysOn, StopsAt};
 ghost use Rattle.vm_exec.specs.Run.{WorkGives, went_of};
@@ -234,7 +235,8 @@ impl<'i> Machine<'i> {
     #[tactic(auto, unfolding(crate::specs::Rows::Branch::branch_work))]
     fn branch_on(&mut self, branch: Branch, fetched: Fetched) -> Result<Went, Trap>
         ensures does { WorkGives (work_for (op.Branch branch) self.old fetched) self.new result }
-        ensures want { result ≡ Err NoMemory → IsReturn branch fetched × ReturnMayWant self.old }
+        ensures want { result ≡ Err NoMemory
+            → IsReturn branch (slice_index (loads_of fetched)) × ReturnMayWant self.old }
         ensures fit { IsFit self.old → IfOk result (λ went. StaysOn self.new went) }
     {
         let holds = branch.holds(fetched.first, fetched.second);
