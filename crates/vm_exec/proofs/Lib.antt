@@ -2,7 +2,6 @@ pub mod Told
 pub mod FetchLemmas
 pub mod QuietLemmas
 pub mod RunLemmas
-pub mod WantLemmas
 pub mod ArgumentLemmas
 pub mod WithinLemmas
 pub mod DigitLemmas

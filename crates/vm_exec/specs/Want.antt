@@ -15,7 +15,8 @@ use Rattle.vm_operand.specs.declared.opcode.Op.{Op}
 use Rattle.vm_operand.specs.declared.opcode.Op.TheVariants as op
 use Rattle.vm_operand.specs.declared.operand.Dest as d
 use Rattle.vm_operand.specs.declared.operand.Dest.TheVariants as dest
-use Rattle.vm_exec.specs.Row.{Prepared, dest_by_index, prepared}
+use Rattle.vm_exec.specs.Row.{Prepared, dest_by_index, prepared, work}
+use Rattle.vm_exec.specs.Rows.Work.{Work, IsDone}
 use Rattle.vm_exec.specs.declared.machine.Machine.{Machine}
 
 -- a store to memory, whose page may have to be copied
@@ -73,12 +74,23 @@ MayWant (op.Branch o) m l d = IsReturn o l × ReturnMayWant m
 MayWant (op.Flow o) m l d = FlowMayWant o m (l 0)
 MayWant _ m l d = ⊥
 
+-- its work comes to no fault; of a call, which may want memory before its fault is met, and of a
+-- throw nothing is said
+abbrev pub HasNoFault : Op → Work → Type 0
+HasNoFault (op.Flow Return) w = IsDone w
+HasNoFault (op.Flow o) w = Unit {0}
+HasNoFault _ w = IsDone w
+
+-- of an opcode in this machine, with these loads and stores
+abbrev pub OpcodeMayWant : Op → Machine → (ℕ → ℕ) → (ℕ → d.Dest) → Type 0
+OpcodeMayWant o m l d = MayWant o m l d × HasNoFault o (work o m l d)
+
 -- of an instruction with its loads taken
 abbrev pub InstructionMayWant : Prepared → Type 0
 InstructionMayWant p = IsSomeAnd p.op
-    (λ o. MayWant o p.machine (slice_index p.loads) (dest_by_index p.stores))
+    (λ o. OpcodeMayWant o p.machine (slice_index p.loads) (dest_by_index p.stores))
 
 -- the instruction at the PC can be read, its loads can be taken, and with these it is one that may
--- want memory
+-- want memory, and comes to no fault
 abbrev pub WantsMemory : Machine → Type 0
 WantsMemory m = IsOkAnd (prepared m) InstructionMayWant
