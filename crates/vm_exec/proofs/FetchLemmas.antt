@@ -32,8 +32,7 @@ use Rattle.vm_exec.specs.Fault.{stacked}
 use Rattle.vm_exec.proofs.KeepingLemmas.{Gives, ok-done, ok-then}
 use Rattle.vm_exec.specs.Answer.{Does}
 use Rattle.vm_exec.specs.Fetch.{Fetches, IsAtHand, IsRefused, Reads, Takes}
-use Rattle.vm_exec.specs.Row.{fetched, width_of, work_of}
-use Rattle.vm_exec.specs.Rows.Work.{Work}
+use Rattle.vm_exec.specs.Row.{Prepared, prepared, width_of}
 use Rattle.vm_exec.specs.Rules.{loaded_all, operand_loaded}
 use Rattle.vm_exec.specs.declared.fetch.Fetched.{Fetched}
 use Rattle.vm_exec.specs.declared.machine.Machine.{Machine}
@@ -42,11 +41,15 @@ same_instruction : (m n : Machine) → n.memory ≡ m.memory → n.pc ≡ m.pc
     → instruction_at n.memory n.pc ≡ instruction_at m.memory m.pc
 same_instruction m n memory pc = rw (memory, pc) refl
 
--- an opcode's work once what is left is loaded into places from i on
-abbrev loading : Machine → Op → ℕ → List ℕ → Rest → Result Work ℕ
+-- an instruction of this opcode with these loads and stores, which goes on in this machine
+abbrev made : Op → Machine → List ℕ → List d.Dest → Prepared
+made o n args to = record { op = Some o; machine = n; loads = args; stores = to }
+
+-- an instruction once what is left is loaded into places from i on
+abbrev loading : Machine → Op → ℕ → List ℕ → Rest → Result Prepared ℕ
 loading n o i args r =
     loaded_all 4 n r.loads i args
-    >>= (λ x. Ok (work_of (Some o) (record x.0 { pc = r.next }) x.1 (r.stores
+    >>= (λ x. Ok (made o (record x.0 { pc = r.next }) x.1 (r.stores
     ++ replicate (2 - length r.stores) dest.Discard)))
 
 -- a fetch under way: the loads so far led to this machine and these values, and what is left of the
@@ -57,7 +60,7 @@ pub record Begun (m n : Machine) (o : Op) (ks : List Kind) (ns : List ℕ) (at i
   pub pc : n.pc ≡ m.pc
   pub reads : (j : Instr) → instruction_at m.memory m.pc ≡ Ok j
       → (r : Rest) × (left m.memory ks ns at ≡ Ok r)
-  pub fetches : (r : Rest) → left m.memory ks ns at ≡ Ok r → fetched m ≡ loading n o i args r
+  pub fetches : (r : Rest) → left m.memory ks ns at ≡ Ok r → prepared m ≡ loading n o i args r
 
 -- a fetch of which the bytes of the modes were read, at a place
 abbrev pub Begins : Machine → Op → ℕ → List Kind → List ℕ → Type 0
@@ -119,7 +122,7 @@ taken {m} {n} {next} {o} {ks} {number} {at} {i} {value} {after} {ns} {args} b (x
 -- a fetch that is refused
 refused : {m n : Machine} {o : Op} {ks : List Kind} {at i : ℕ} {ns args : List ℕ} {P : Type 0}
     (k : ℕ) → Begun m n o ks ns at i args → IsRefused n k P
-    → ((r : Rest) → left m.memory ks ns at ≡ Ok r → P → fetched m ≡ Err k) → fetched m ≡ Err k
+    → ((r : Rest) → left m.memory ks ns at ≡ Ok r → P → prepared m ≡ Err k) → prepared m ≡ Err k
 refused {m} {n} k b why reads =
     let same = same_instruction m n b.memory b.pc in
     either (instruction_at m.memory m.pc)
@@ -144,15 +147,14 @@ stopped {m} {n} {o} {ks} {number} {at} {i} {ns} {args} next (Fault k) (Err f) b 
 
 -- all was loaded, and there is no store
 pub ended : {m n : Machine} {o : Op} {at i : ℕ} {ns args : List ℕ} → Begun m n o [] ns at i args
-    → fetched m
-    ≡ Ok (work_of (Some o) (record n { pc = at }) args (dest.Discard ∷ dest.Discard ∷ []))
+    → prepared m ≡ Ok (made o (record n { pc = at }) args (dest.Discard ∷ dest.Discard ∷ []))
 unfolding loaded_all
 ended {m} {n} {o} {at} {i} {ns} {args} b = b.fetches _ (left-none m.memory ns at)
 
 -- all was loaded, and the store was found
 pub ended_by : {m n : Machine} {o : Op} {number at i : ℕ} {ns args : List ℕ} (to : d.Dest × ℕ)
     → Begun m n o (S ∷ []) (number ∷ ns) at i args → Reads n number at (Ok to)
-    → fetched m ≡ Ok (work_of (Some o) (record n { pc = to.1 }) args (to.0 ∷ dest.Discard ∷ []))
+    → prepared m ≡ Ok (made o (record n { pc = to.1 }) args (to.0 ∷ dest.Discard ∷ []))
 unfolding loaded_all
 ended_by {m} {n} {o} {number} {at} {i} {ns} {args} to b found =
     b.fetches _ (left-store m.memory [] number ns at to _ (rw b.memory at found)

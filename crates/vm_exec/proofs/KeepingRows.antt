@@ -323,14 +323,18 @@ over-work_of (Some x) m args to k = over-work x m (slice_index args) (row.dest_b
 
 -- ---- a step
 
-over-fetched : {o : Base} (m : Machine) → Over o m → Gives (row.fetched m) (WorkOver o)
-over-fetched m k =
+over-prepared : {o : Base} (m : Machine) → Over o m
+    → Gives (row.prepared m) (λ p. Over o p.machine)
+over-prepared m k =
     ok-then (operand.operation_coded (instruction_at m.memory m.pc))
     (λ i. ok-bind
     (over-loaded_all (row.width_of (op_of i.op)) (take i.loads.count i.loads.items) m 0
     (replicate 8 0) k)
-    (λ x h. ok-done
-    (over-work_of (op_of i.op) (record x.0 { pc = i.next }) x.1 i.stores.items h)))
+    (λ x h. ok-done h))
+
+over-fetched : {o : Base} (m : Machine) → Over o m → Gives (row.fetched m) (WorkOver o)
+over-fetched m k =
+    ok-bind (over-prepared m k) (λ p h. ok-done (over-work_of p.op p.machine p.loads p.stores h))
 
 over-due : {o : Base} (m : Machine) (x : t.Text) → Over o m → Gives (row.due m x) (WorkOver o)
 over-due m text.Off k = over-fetched m k

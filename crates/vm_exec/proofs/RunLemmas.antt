@@ -1,19 +1,20 @@
 -- Quick instructions: what they do is told by their row.
-use Rattle.std.proofs.Common.{IsErrAnd, ◌≡◌, ℕ, suc, ◌+◌, Result, Ok, Err, List, refl, ap, sym, ◌∙◌}
+use Rattle.std.proofs.Common.{IsErrAnd, IsOkAnd, ◌≡◌, ℕ, suc, ◌+◌, Result, Ok, Err, List, refl, ap, sym, ◌∙◌}
 use Rattle.std.proofs.Common.{subst, add-one}
+use Rattle.vm_memory.specs.Chaining.{◌>>=◌}
 use Rattle.vm_memory.specs.declared.fault.Trap.{Trap}
 use Rattle.vm_memory.specs.declared.fault.Trap.TheVariants.{Fault, NoMemory}
-use Rattle.vm_operand.specs.Operands.{OpcodeAt}
 use Rattle.vm_operand.specs.declared.opcode.Op.{Op}
 use Rattle.vm_exec.specs.Answer.{Does}
-use Rattle.vm_exec.specs.Fetch.{Fetches, work_for}
+use Rattle.vm_exec.specs.Fetch.{Fetches, prepared_by, work_for}
 use Rattle.vm_exec.specs.Machine.{IsFit, IsSoundMachine, KeepsImage, StaysFit}
-use Rattle.vm_exec.specs.Row.{charged, due, row, step_of, step_within, work}
+use Rattle.vm_exec.specs.Row.{Prepared, charged, due, fetched, row, step_of, step_within, work}
+use Rattle.vm_exec.specs.Row.{work_of}
 use Rattle.vm_exec.specs.Rows.Work.{Work, Free, Costs, budgeted, costing}
 use Rattle.vm_exec.specs.Rules.{Rule}
 use Rattle.vm_exec.specs.Run.{GoesBy, RunsTo, StaysOn, Tells, WorkGives, went_of, IsQuickOpcode}
 use Rattle.vm_exec.specs.Start.{IsOver}
-use Rattle.vm_exec.specs.Want.{MayWant}
+use Rattle.vm_exec.specs.Want.{InstructionMayWant}
 use Rattle.vm_exec.specs.declared.fetch.Fetched.{Fetched}
 use Rattle.vm_exec.specs.declared.machine.Machine.{Machine}
 use Rattle.vm_exec.specs.declared.quick.Went.{Went}
@@ -89,19 +90,29 @@ pub works_handed : (w : Work) (n : Machine) (e : Trap) (r : Result Went Trap)
 works_handed w n e (Ok g) why same = absurd same
 works_handed w n e (Err f) why same = subst (λ (t : Trap). WorkGives w n (Err t)) (sym same) why
 
+-- the work of an instruction with its loads taken
+works_of : (m n : Machine) (o : Op) (q : Fetched) → Fetches m o n (Ok q)
+    → fetched m ≡ Ok (work_for o n q)
+works_of m n o q f =
+    ap (λ (r : Result Prepared ℕ). r >>= (λ p. Ok (work_of p.op p.machine p.loads p.stores))) f
+
+-- where memory may be wanting for an opcode with these loads and this store
+abbrev WantsFor : Op → Machine → Fetched → Type 0
+WantsFor o n q = InstructionMayWant (prepared_by o n q)
+
 -- an instruction that was fetched goes by its work
-pub goes_by : (m n new : Machine) (o : Op) (place : ℕ) (q : Fetched) (r : Result Went Trap)
-    → OpcodeAt m.memory m.pc o place → Fetches m o n (Ok q) → WorkGives (work_for o n q) new r
-    → (r ≡ Err NoMemory → MayWant n o q) → GoesBy m new r
-goes_by m n new o place q (Ok went.On) at f e want =
-    ap charged f ∙ ap (λ (x : Work). charged (Ok x)) e
-goes_by m n new o place q (Ok went.Quits) at f e want =
-    ap charged f ∙ ap (λ (x : Work). charged (Ok x)) e
-goes_by m n new o place q (Ok went.Aside) at f e want = absurd e
-goes_by m n new o place q (Err (Fault k)) at f e want =
-    ap charged f ∙ ap (λ (x : Work). charged (Ok x)) e
-goes_by m n new o place q (Err NoMemory) at f e want =
-    record { o = o; place = place; n = n; q = q; opcode = at; fetched = f; wants = want refl }
+pub goes_by : (m n new : Machine) (o : Op) (q : Fetched) (r : Result Went Trap)
+    → Fetches m o n (Ok q) → WorkGives (work_for o n q) new r
+    → (r ≡ Err NoMemory → WantsFor o n q) → GoesBy m new r
+goes_by m n new o q (Ok went.On) f e want =
+    ap charged (works_of m n o q f) ∙ ap (λ (x : Work). charged (Ok x)) e
+goes_by m n new o q (Ok went.Quits) f e want =
+    ap charged (works_of m n o q f) ∙ ap (λ (x : Work). charged (Ok x)) e
+goes_by m n new o q (Ok went.Aside) f e want = absurd e
+goes_by m n new o q (Err (Fault k)) f e want =
+    ap charged (works_of m n o q f) ∙ ap (λ (x : Work). charged (Ok x)) e
+goes_by m n new o q (Err NoMemory) f e want =
+    subst (λ (r : Result Prepared ℕ). IsOkAnd r InstructionMayWant) (sym f) (want refl)
 
 -- what is known of a machine that so many quick steps led to
 pub record GoneOn (k : ℕ) (m n : Machine) : Type 0 where

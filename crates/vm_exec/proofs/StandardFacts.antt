@@ -1,10 +1,15 @@
 -- Values that the dictionary of opcodes gives, so that a wrong rule in the specs doesn't check.
-use Rattle.std.proofs.Common.{arith, ◌≡◌, ◌%◌, refl, ◌∷◌, replicate}
-use Rattle.vm_operand.specs.Instruction.{opcode_number_at}
+use Rattle.std.proofs.Common.{arith, ◌≡◌, ◌%◌, refl, ◌∷◌, replicate, ℕ, zero, suc, Err, sym, subst}
+use Rattle.vm_memory.specs.declared.fault.Trap.TheVariants.{NoMemory}
+use Rattle.vm_operand.specs.Instruction.{dest_at, instruction_at, load_at, modes_at}
+use Rattle.vm_operand.specs.Instruction.{opcode_number_at, operand, operands}
+use Rattle.vm_operand.specs.Mode.{mode_of, modes}
 use Rattle.vm_operand.specs.Opcode.{op_of, opcodes}
 use Rattle.vm_operand.specs.declared.opcode.Branch.TheVariants.{Jump}
 use Rattle.vm_operand.specs.declared.opcode.Op.TheVariants as op
-use Rattle.vm_exec.specs.Run.{StopsAt}
+use Rattle.vm_exec.specs.Rules.{loaded_all}
+use Rattle.vm_exec.specs.Run.{RunsTo, RunsWithin, StopsAt}
+use Rattle.vm_exec.specs.Want.{WantsMemory}
 use Rattle.vm_exec.specs.declared.machine.Machine.{Machine}
 use Rattle.vm_exec.specs.declared.text.Text.TheVariants.{Off}
 use Rattle.vm_exec.specs.Rows.Array.{byte_with_bit, bit, with_bit, element}
@@ -62,3 +67,31 @@ unfolding opcode_number_at op_of opcodes
 a_run_goes_over_a_jump m stops =
     stops refl (op.Branch Jump) 1
     (record { opcode = refl; short = omega arith; below = omega arith; quick = tt })
+
+-- an addition of 1 and 2, by the number of its store's mode: 8 pushes, 9 is the local at 0
+abbrev adding : ℕ → Machine → Machine
+adding mode m = record m {
+  memory = record m.memory {
+    bytes = 0x10 ∷ 0x11 ∷ mode ∷ 0x01 ∷ 0x02 ∷ 0x00 ∷ replicate 26 0;
+    ramstart = 32;
+  };
+  pc = 0;
+  text = Off;
+}
+
+an_addition_into_a_local_wants_no_memory : (m : Machine) → WantsMemory (adding 9 m) → ⊥
+unfolding op_of opcodes mode_of modes opcode_number_at modes_at load_at dest_at operand operands
+    instruction_at loaded_all
+an_addition_into_a_local_wants_no_memory m wants = absurd wants
+
+an_addition_onto_the_stack_wants_none : (m : Machine) → WantsMemory (adding 8 m) → ⊥
+unfolding op_of opcodes mode_of modes opcode_number_at modes_at load_at dest_at operand operands
+    instruction_at loaded_all
+an_addition_onto_the_stack_wants_none m wants = absurd wants
+
+-- so a run of one step that begins there doesn't answer want of memory
+nor_does_a_run_of_it : (m n : Machine) → RunsWithin 1 (adding 8 m) n (Err NoMemory) → ⊥
+unfolding RunsTo
+nor_does_a_run_of_it m n (zero, (o, (less, (same, wants)))) =
+    an_addition_onto_the_stack_wants_none m (subst WantsMemory (sym same) wants)
+nor_does_a_run_of_it m n (suc k, (o, (less, more))) = absurd (omega (arith, less))

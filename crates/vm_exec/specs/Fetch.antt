@@ -13,7 +13,7 @@ use Rattle.vm_operand.specs.declared.opcode.Op.{Op}
 use Rattle.vm_operand.specs.declared.operand.Dest as d
 use Rattle.vm_operand.specs.declared.operand.Dest.TheVariants as dest
 use Rattle.vm_operand.specs.declared.operand.Load as l
-use Rattle.vm_exec.specs.Row.{dest_by_index, fetched, work, work_of}
+use Rattle.vm_exec.specs.Row.{Prepared, dest_by_index, prepared, work}
 use Rattle.vm_exec.specs.Rows.Work.{Work}
 use Rattle.vm_exec.specs.Rules.{operand_loaded}
 use Rattle.vm_exec.specs.declared.fetch.Fetched.{Fetched}
@@ -49,18 +49,27 @@ Reads m number at (Ok x) = dest_by m.memory number at ≡ Ok x
 Reads m number at (Err (Fault k)) = IsRefused m k (IsErr (dest_by m.memory number at))
 Reads m number at (Err NoMemory) = ⊥
 
+-- the values of the loads, with zeros up to the eighth
+abbrev pub loads_of : Fetched → List ℕ
+loads_of q = q.first ∷ q.second ∷ q.third ∷ q.fourth ∷ replicate 4 0
+
+-- an instruction of this opcode with these loads and this store, which goes on in this machine
+abbrev pub prepared_by : Op → Machine → Fetched → Prepared
+prepared_by o n q = record {
+  op = Some o;
+  machine = n;
+  loads = loads_of q;
+  stores = q.to ∷ dest.Discard ∷ [];
+}
+
 -- the instruction at the PC, which has this opcode, was fetched: its loads are these, in a machine
 -- that goes on behind it; or the fault
 abbrev pub Fetches : Machine → Op → Machine → Result Fetched Trap → Type 0
-Fetches m o n (Ok q) =
-    fetched m
-    ≡ Ok (work_of (Some o) n (q.first ∷ q.second ∷ q.third ∷ q.fourth ∷ replicate 4 0)
-    (q.to ∷ dest.Discard ∷ []))
-Fetches m o n (Err (Fault k)) = fetched m ≡ Err k
+Fetches m o n (Ok q) = prepared m ≡ Ok (prepared_by o n q)
+Fetches m o n (Err (Fault k)) = prepared m ≡ Err k
 Fetches m o n (Err NoMemory) = ⊥
 
 -- the work of an opcode that was fetched
 abbrev pub work_for : Op → Machine → Fetched → Work
 work_for o m q =
-    work o m (slice_index (q.first ∷ q.second ∷ q.third ∷ q.fourth ∷ replicate 4 0))
-    (dest_by_index (q.to ∷ dest.Discard ∷ []))
+    work o m (slice_index (loads_of q)) (dest_by_index (q.to ∷ dest.Discard ∷ []))

@@ -78,12 +78,29 @@ charged (Err n) = record { cost = 1; gives = Err n }
 charged (Ok (Free r)) = record { cost = 1; gives = r }
 charged (Ok (Costs n r)) = record { cost = n + 1; gives = r }
 
+-- an instruction with its loads taken: its opcode, the machine that goes on behind it, the values of
+-- the loads, with zeros up to the eighth, and the stores
+pub record Prepared : Type 0 where
+  pub op : Option Op
+  pub machine : Machine
+  pub loads : List ℕ
+  pub stores : List d.Dest
+
 -- the instruction at the PC with its loads taken, from left to right
-abbrev pub fetched : Machine → Result Work ℕ
-fetched m = do
+abbrev pub prepared : Machine → Result Prepared ℕ
+prepared m = do
   i ← operand.operation_coded (instruction_at m.memory m.pc)
   x ← loaded_all (width_of (op_of i.op)) m (take i.loads.count i.loads.items) 0 (replicate 8 0)
-  Ok (work_of (op_of i.op) (record x.0 { pc = i.next }) x.1 i.stores.items)
+  Ok (record {
+    op = op_of i.op;
+    machine = record x.0 { pc = i.next };
+    loads = x.1;
+    stores = i.stores.items;
+  })
+
+-- what the instruction at the PC does
+abbrev pub fetched : Machine → Result Work ℕ
+fetched m = prepared m >>= (λ p. Ok (work_of p.op p.machine p.loads p.stores))
 
 -- what is due: the next piece of the text in progress, which is taken, or else the instruction; a
 -- number at its end makes way to the instruction

@@ -1,12 +1,12 @@
 //! Array data.
 
 ghost use Rattle.std.specs.Prelude.{◌≡◌, ◌≤◌, ◌<◌, ◌+◌, ◌^◌, IfOk, OnOk};
-ghost use Rattle.std.specs.Prelude.{slice_index, Err};
+ghost use Rattle.std.specs.Prelude.{slice_index, Err, IsOk};
 ghost use Rattle.vm_exec.specs.Answer.{Does};
 ghost use Rattle.vm_exec.specs.Machine.{IsFit, StaysFit};
 ghost use Rattle.vm_exec.specs.Row.{dest_by_index};
 ghost use Rattle.vm_exec.specs.Rows.Array as rows;
-ghost use Rattle.vm_exec.specs.Rows.Work.{DoesAtNoCost, budgeted};
+ghost use Rattle.vm_exec.specs.Rows.Work.{DoesAtNoCost, IsDone, budgeted};
 ghost use Rattle.vm_exec.specs.Rules as rules;
 ghost use Rattle.vm_exec.specs.Want.{ArrayMayWant, IsInMemory};
 ghost use Rattle.vm_memory.specs.declared.fault.Trap.TheVariants.{NoMemory};
@@ -23,6 +23,8 @@ impl<'i> Machine<'i> {
             (rules.reads_to self.old to 4 (rows.element 4 from index))
             self.new result }
         ensures want { result ≡ Err NoMemory → IsInMemory to }
+        ensures done { result ≡ Err NoMemory
+            → IsOk (rules.reads_to self.old to 4 (rows.element 4 from index)) }
         ensures fit { IsFit self.old → IfOk result (λ done. StaysFit self.new done.out) }
     {
         let value = self.memory.read4(from.wrapping_add(index.wrapping_mul(4)))?;
@@ -35,6 +37,8 @@ impl<'i> Machine<'i> {
             (rules.reads_to self.old to 2 (rows.element 2 from index))
             self.new result }
         ensures want { result ≡ Err NoMemory → IsInMemory to }
+        ensures done { result ≡ Err NoMemory
+            → IsOk (rules.reads_to self.old to 2 (rows.element 2 from index)) }
         ensures fit { IsFit self.old → IfOk result (λ done. StaysFit self.new done.out) }
     {
         let value = self.memory.read2(from.wrapping_add(index.wrapping_mul(2)))?;
@@ -47,6 +51,8 @@ impl<'i> Machine<'i> {
             (rules.reads_to self.old to 1 (rules.wrap (from + index)))
             self.new result }
         ensures want { result ≡ Err NoMemory → IsInMemory to }
+        ensures done { result ≡ Err NoMemory
+            → IsOk (rules.reads_to self.old to 1 (rules.wrap (from + index))) }
         ensures fit { IsFit self.old → IfOk result (λ done. StaysFit self.new done.out) }
     {
         let value = self.memory.read1(from.wrapping_add(index))?;
@@ -57,6 +63,8 @@ impl<'i> Machine<'i> {
     fn aloadbit(&mut self, from: u32, index: u32, to: Dest) -> Result<Done, Trap>
         ensures does { DoesAtNoCost (rows.loads_bit self.old from index to) self.new result }
         ensures want { result ≡ Err NoMemory → IsInMemory to }
+        ensures done { result ≡ Err NoMemory
+            → IsOk (rows.loads_bit self.old from index to) }
         ensures fit { IsFit self.old → IfOk result (λ done. StaysFit self.new done.out) }
     {
         let byte = self.memory.read1(byte_with_bit(from, index))?;
@@ -68,6 +76,8 @@ impl<'i> Machine<'i> {
         ensures does { DoesAtNoCost
             (rules.writes self.old 4 (rows.element 4 from index) value)
             self.new result }
+        ensures done { result ≡ Err NoMemory
+            → IsOk (rules.writes self.old 4 (rows.element 4 from index) value) }
         ensures fit { IsFit self.old → IfOk result (λ done. StaysFit self.new done.out) }
     {
         self.memory
@@ -80,6 +90,8 @@ impl<'i> Machine<'i> {
         ensures does { DoesAtNoCost
             (rules.writes self.old 2 (rows.element 2 from index) value)
             self.new result }
+        ensures done { result ≡ Err NoMemory
+            → IsOk (rules.writes self.old 2 (rows.element 2 from index) value) }
         ensures fit { IsFit self.old → IfOk result (λ done. StaysFit self.new done.out) }
     {
         self.memory
@@ -92,6 +104,8 @@ impl<'i> Machine<'i> {
         ensures does { DoesAtNoCost
             (rules.writes self.old 1 (rules.wrap (from + index)) value)
             self.new result }
+        ensures done { result ≡ Err NoMemory
+            → IsOk (rules.writes self.old 1 (rules.wrap (from + index)) value) }
         ensures fit { IsFit self.old → IfOk result (λ done. StaysFit self.new done.out) }
     {
         self.memory.write1(from.wrapping_add(index), value)?;
@@ -101,6 +115,8 @@ impl<'i> Machine<'i> {
     #[inline(always)]
     fn astorebit(&mut self, from: u32, index: u32, value: u32) -> Result<Done, Trap>
         ensures does { DoesAtNoCost (rows.stores_bit self.old from index value) self.new result }
+        ensures done { result ≡ Err NoMemory
+            → IsOk (rows.stores_bit self.old from index value) }
         ensures fit { IsFit self.old → IfOk result (λ done. StaysFit self.new done.out) }
     {
         let at = byte_with_bit(from, index);
@@ -123,6 +139,8 @@ impl<'i> Machine<'i> {
             (rows.array_work op self.old (slice_index args.now) (dest_by_index to.now)))
             self.new result }
         ensures want { result ≡ Err NoMemory → ArrayMayWant op (dest_by_index to.now 0) }
+        ensures done { result ≡ Err NoMemory → IsDone
+            (rows.array_work op self.old (slice_index args.now) (dest_by_index to.now)) }
         ensures fit { IsFit self.old → IfOk result (λ done. StaysFit self.new done.out) }
         ensures within { IfOk result (λ done. done.cost ≤ left) }
     {

@@ -1,8 +1,8 @@
 //! Instructions below RAMSTART, whose bytes are at hand: each load is taken as it is decoded.
 
 ghost use Rattle.std.specs.Prelude.{◌≡◌, ◌≤◌, ◌<◌, ◌+◌, ℕ, [], ◌∷◌, IfErr, IfOk, IsErr, OnOk};
-ghost use Rattle.std.specs.Prelude.{Err, Ok, Some, replicate};
-ghost use Rattle.vm_exec.specs.Fetch.{Fetches, IsAtHand, Reads, Takes};
+ghost use Rattle.std.specs.Prelude.{Err, Ok, Some};
+ghost use Rattle.vm_exec.specs.Fetch.{Fetches, IsAtHand, Reads, Takes, loads_of};
 ghost use Rattle.vm_exec.specs.Machine.{IsFit};
 ghost use Rattle.vm_exec.specs.Row as row;
 ghost use Rattle.vm_memory.specs.Code.{IsCode};
@@ -34,8 +34,7 @@ impl Fetched {
     /// The values of the loads, and zeros up to the eighth.
     #[inline(always)]
     pub(crate) fn args(self) -> [u32; 8]
-        ensures { result
-            ≡ self.first ∷ self.second ∷ self.third ∷ self.fourth ∷ replicate 4 0 }
+        ensures { result ≡ loads_of self }
     {
         [self.first, self.second, self.third, self.fourth, 0, 0, 0, 0]
     }

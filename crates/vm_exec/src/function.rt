@@ -1,6 +1,6 @@
 //! Calls, returns, catch and throw.
 
-ghost use Rattle.std.specs.Prelude.{◌≡◌, ◌≢◌, ◌≤◌, IfOk, OnOk, slice_index, length, Ok, Err};
+ghost use Rattle.std.specs.Prelude.{◌≡◌, ◌≢◌, ◌≤◌, IfOk, IsOk, OnOk, slice_index, length, Ok, Err};
 ghost use Rattle.vm_exec.specs.Answer.{Changes, Does, MakesValue};
 ghost use Rattle.vm_exec.specs.Machine.{IsFit, StaysFit};
 ghost use Rattle.vm_exec.specs.Row.{dest_by_index};
@@ -124,6 +124,7 @@ impl<'i> Machine<'i> {
     fn resume_at(&mut self, stub: Stub, value: u32) -> Result<Done, Trap>
         ensures does { DoesAtNoCost (rules.resumes self.old stub value) self.new result }
         ensures want { result ≡ Err NoMemory → stub.kind ≡ 1 }
+        ensures done { result ≡ Err NoMemory → IsOk (rules.resumes self.old stub value) }
         ensures fit { IsFit self.old → IfOk result (λ done. StaysFit self.new done.out) }
     {
         if stub.kind > 3 {
@@ -140,6 +141,7 @@ impl<'i> Machine<'i> {
     pub(crate) fn give_back(&mut self, value: u32) -> Result<Done, Trap>
         ensures does { DoesAtNoCost (rules.returns self.old value) self.new result }
         ensures want { result ≡ Err NoMemory → ReturnMayWant self.old }
+        ensures done { result ≡ Err NoMemory → IsOk (rules.returns self.old value) }
         ensures fit { IsFit self.old → IfOk result (λ done. StaysFit self.new done.out) }
     {
         match give_back(&mut self.stack).map_err(of_flow)? {

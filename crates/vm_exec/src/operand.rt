@@ -1,7 +1,7 @@
 //! Loads and stores.
 
 ghost use Rattle.std.specs.Prelude.{◌≡◌, ◌≢◌, ◌⊎◌, ◌≤◌, ◌+◌, ◌%◌, ◌^◌};
-ghost use Rattle.std.specs.Prelude.{length, Err, OnOk};
+ghost use Rattle.std.specs.Prelude.{length, Err, IsOk, OnOk};
 ghost use Rattle.vm_memory.specs.declared.fault.Trap.TheVariants.{NoMemory};
 ghost use Rattle.vm_exec.specs.Answer.{Changes, Does, LeavesTwoValues};
 ghost use Rattle.vm_exec.specs.Machine.{IsFit};
@@ -89,6 +89,7 @@ impl<'i> Machine<'i> {
         requires { IsWidth width }
         ensures does { Changes (rules.stored_in width self.old to value) self.new result }
         ensures want { result ≡ Err NoMemory → IsInMemory to }
+        ensures done { result ≡ Err NoMemory → IsOk (rules.stored_in width self.old to value) }
         ensures fit { IsFit self.old → OnOk result (IsFit self.new) }
     {
         match to {
@@ -103,6 +104,8 @@ impl<'i> Machine<'i> {
     fn store_at(&mut self, width: u32, at: u32, value: u32) -> Result<(), Trap>
         requires { IsWidth width }
         ensures does { Changes (rules.stored_in width self.old (dest.At at) value) self.new result }
+        ensures done { result ≡ Err NoMemory
+            → IsOk (rules.stored_in width self.old (dest.At at) value) }
         ensures fit { IsFit self.old → OnOk result (IsFit self.new) }
     {
         match width {
@@ -118,6 +121,7 @@ impl<'i> Machine<'i> {
     pub(crate) fn store(&mut self, to: Dest, value: u32) -> Result<(), Trap>
         ensures does { Changes (rules.stored self.old to value) self.new result }
         ensures want { result ≡ Err NoMemory → IsInMemory to }
+        ensures done { result ≡ Err NoMemory → IsOk (rules.stored self.old to value) }
         ensures fit { IsFit self.old → OnOk result (IsFit self.new) }
     {
         self.store_in(4, to, value)

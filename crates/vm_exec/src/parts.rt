@@ -26,6 +26,7 @@ impl<'i> Machine<'i> {
     pub(crate) fn put(&mut self, to: Dest, value: u32) -> Result<Done, Trap>
         ensures does { DoesAtNoCost (rules.puts self.old to value) self.new result }
         ensures want { result ≡ Err NoMemory → IsInMemory to }
+        ensures done { result ≡ Err NoMemory → IsOk (rules.puts self.old to value) }
         ensures fit { IsFit self.old → IfOk result (λ done. StaysFit self.new done.out) }
     {
         self.store(to, value)?;

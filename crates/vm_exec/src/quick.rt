@@ -2,13 +2,14 @@
 //! RAMSTART. Each takes one tick, and tells nothing unless the story has quit.
 
 ghost use Rattle.std.specs.Prelude.{◌≡◌, ◌≢◌, ◌<◌, ℕ, List, Err, IfOk, OnOk, false, true};
-ghost use Rattle.vm_exec.specs.Fetch.{Fetches, IsAtHand, work_for};
+ghost use Rattle.std.specs.Prelude.{slice_index, IsOk};
+ghost use Rattle.vm_exec.specs.Fetch.{Fetches, IsAtHand, loads_of, work_for};
 ghost use Rattle.vm_exec.specs.Machine.{IsFit, IsSoundMachine, KeepsImage};
 ghost use Rattle.vm_exec.specs.Run.{GoesBy, IfDid, IsQuickOpcode, RunsWithin, StaysOn, StopsAt};
 ghost use Rattle.vm_exec.specs.Run.{WorkGives, went_of};
 ghost use Rattle.vm_exec.specs.Rules.{branches, calls, returns, with_arguments};
 ghost use Rattle.vm_exec.specs.Rows.Function.{tailcalls, throws};
-ghost use Rattle.vm_exec.specs.Rows.Work.{Free};
+ghost use Rattle.vm_exec.specs.Rows.Work.{Free, IsDone};
 ghost use Rattle.vm_exec.specs.Start.{IsOver};
 ghost use Rattle.vm_exec.specs.Want.{ArrayMayWant, IsInMemory, IsReturn, ReturnMayWant};
 ghost use Rattle.vm_flow.specs.Function.{IsInFront};
@@ -197,6 +198,8 @@ impl<'i> Machine<'i> {
     fn array_on(&mut self, array: Array, fetched: Fetched) -> Result<Went, Trap>
         ensures does { WorkGives (work_for (op.Array array) self.old fetched) self.new result }
         ensures want { result ≡ Err NoMemory → ArrayMayWant array fetched.to }
+        ensures done { result ≡ Err NoMemory
+            → IsDone (work_for (op.Array array) self.old fetched) }
         ensures fit { IsFit self.old → IfOk result (λ went. StaysOn self.new went) }
     {
         let args = fetched.args();
@@ -210,6 +213,8 @@ impl<'i> Machine<'i> {
     fn math_on(&mut self, math: Math, fetched: Fetched) -> Result<Went, Trap>
         ensures does { WorkGives (work_for (op.Math math) self.old fetched) self.new result }
         ensures want { result ≡ Err NoMemory → IsInMemory fetched.to }
+        ensures done { result ≡ Err NoMemory
+            → IsDone (work_for (op.Math math) self.old fetched) }
         ensures fit { IsFit self.old → IfOk result (λ went. StaysOn self.new went) }
     {
         let value = math.apply(fetched.first, fetched.second)?;
@@ -223,6 +228,8 @@ impl<'i> Machine<'i> {
     fn copy_on(&mut self, fetched: Fetched) -> Result<Went, Trap>
         ensures does { WorkGives (work_for (op.Move Copy) self.old fetched) self.new result }
         ensures want { result ≡ Err NoMemory → IsInMemory fetched.to }
+        ensures done { result ≡ Err NoMemory
+            → IsDone (work_for (op.Move Copy) self.old fetched) }
         ensures fit { IsFit self.old → IfOk result (λ went. StaysOn self.new went) }
     {
         self.store(fetched.to, fetched.first)?;
@@ -234,7 +241,10 @@ impl<'i> Machine<'i> {
     #[tactic(auto, unfolding(crate::specs::Rows::Branch::branch_work))]
     fn branch_on(&mut self, branch: Branch, fetched: Fetched) -> Result<Went, Trap>
         ensures does { WorkGives (work_for (op.Branch branch) self.old fetched) self.new result }
-        ensures want { result ≡ Err NoMemory → IsReturn branch fetched × ReturnMayWant self.old }
+        ensures want { result ≡ Err NoMemory
+            → IsReturn branch (slice_index (loads_of fetched)) × ReturnMayWant self.old }
+        ensures done { result ≡ Err NoMemory
+            → IsDone (work_for (op.Branch branch) self.old fetched) }
         ensures fit { IsFit self.old → IfOk result (λ went. StaysOn self.new went) }
     {
         let holds = branch.holds(fetched.first, fetched.second);
@@ -255,6 +265,8 @@ impl<'i> Machine<'i> {
     fn jump_on(&mut self, offset: u32) -> Result<Went, Trap>
         ensures does { WorkGives (Free (branches self.old offset)) self.new result }
         ensures want { result ≡ Err NoMemory → (offset < 2) × ReturnMayWant self.old }
+        ensures done { result ≡ Err NoMemory
+            → IsOk (branches self.old offset) }
         ensures fit { IsFit self.old → IfOk result (λ went. StaysOn self.new went) }
     {
         if offset == 0 || offset == 1 {
@@ -269,6 +281,8 @@ impl<'i> Machine<'i> {
     fn return_on(&mut self, value: u32) -> Result<Went, Trap>
         ensures does { WorkGives (Free (returns self.old value)) self.new result }
         ensures want { result ≡ Err NoMemory → ReturnMayWant self.old }
+        ensures done { result ≡ Err NoMemory
+            → IsOk (returns self.old value) }
         ensures fit { IsFit self.old → IfOk result (λ went. StaysOn self.new went) }
     {
         self.give_back_on(value)
@@ -279,6 +293,8 @@ impl<'i> Machine<'i> {
     fn give_back_on(&mut self, value: u32) -> Result<Went, Trap>
         ensures does { WorkGives (Free (returns self.old value)) self.new result }
         ensures want { result ≡ Err NoMemory → ReturnMayWant self.old }
+        ensures done { result ≡ Err NoMemory
+            → IsOk (returns self.old value) }
         ensures fit { IsFit self.old → IfOk result (λ went. StaysOn self.new went) }
     {
         let done = self.give_back(value)?;

@@ -1,11 +1,12 @@
 //! Reads and writes of numbers, most significant byte first, and of blocks.
 
 ghost use Rattle.std.specs.Prelude.{◌≡◌, ◌≤◌, ◌<◌, ◌+◌, ◌&&◌, drop, length, replicate, take};
-ghost use Rattle.std.specs.Prelude.{nat_le, OnErr, OnOk, IfOk};
+ghost use Rattle.std.specs.Prelude.{nat_le, Err, OnErr, OnOk, IfOk, IsOk};
 ghost use Rattle.vm_memory.specs.MemoryMap.{KeepsMap, number_at};
 ghost use Rattle.vm_memory.specs.OwnPages.{own_pages};
 ghost use Rattle.vm_memory.specs.Access.{LeavesMemory, copied, copied_from, read, with_bytes};
 ghost use Rattle.vm_memory.specs.Access.{written, zeroed};
+ghost use Rattle.vm_memory.specs.declared.fault.MemStop.TheVariants.{NoMemory};
 
 use crate::laid::{block_at, byte_at, four_apart, four_near, two_apart, two_near};
 use crate::pages::{clear, write};
@@ -218,6 +219,7 @@ impl<'i> Memory<'i> {
     #[tactic(auto, using(crate::proofs::OwnLemmas::own_put))]
     pub fn write1(&mut self, at: u32, value: u32) -> Result<(), MemStop>
         ensures value { LeavesMemory (written 1 self.old at value) self.new result }
+        ensures want { result ≡ Err NoMemory → IsOk (written 1 self.old at value) }
         ensures err { OnErr result (self.new ≡ self.old) }
         ensures kept { KeepsMap self.old self.new }
         ensures own { own_pages self.new ≤ own_pages self.old + 2 }
@@ -234,6 +236,7 @@ impl<'i> Memory<'i> {
     #[tactic(auto, using(crate::proofs::OwnLemmas::own_put))]
     pub fn write2(&mut self, at: u32, value: u32) -> Result<(), MemStop>
         ensures value { LeavesMemory (written 2 self.old at value) self.new result }
+        ensures want { result ≡ Err NoMemory → IsOk (written 2 self.old at value) }
         ensures err { OnErr result (self.new ≡ self.old) }
         ensures kept { KeepsMap self.old self.new }
         ensures own { own_pages self.new ≤ own_pages self.old + 2 }
@@ -250,6 +253,7 @@ impl<'i> Memory<'i> {
     #[tactic(auto, using(crate::proofs::OwnLemmas::own_put))]
     pub fn write4(&mut self, at: u32, value: u32) -> Result<(), MemStop>
         ensures value { LeavesMemory (written 4 self.old at value) self.new result }
+        ensures want { result ≡ Err NoMemory → IsOk (written 4 self.old at value) }
         ensures err { OnErr result (self.new ≡ self.old) }
         ensures kept { KeepsMap self.old self.new }
         ensures own { own_pages self.new ≤ own_pages self.old + 2 }

@@ -1,5 +1,5 @@
 -- What an opcode does, at no cost, or after an addition to the cost of its step (own).
-use Rattle.std.specs.Prelude.{ℕ, nat_lt, if◌then◌else◌, Result, Ok, Err}
+use Rattle.std.specs.Prelude.{ℕ, nat_lt, if◌then◌else◌, Result, Ok, Err, IsOk}
 use Rattle.vm_memory.specs.declared.fault.Trap.{Trap}
 use Rattle.vm_exec.specs.Answer.{Does}
 use Rattle.vm_exec.specs.Rules.{Rule}
@@ -11,6 +11,11 @@ use Rattle.vm_exec.specs.declared.step.Done.{Done}
 pub data Work : Type 0 where
   Free : Rule → Work
   Costs : ℕ → Rule → Work
+
+-- work that comes to no fault
+abbrev pub IsDone : Work → Type 0
+IsDone (Free r) = IsOk r
+IsDone (Costs n r) = IsOk r
 
 -- what a rule gives, with what it added to the cost
 abbrev pub costing : ℕ → Rule → Result (Machine × Done) ℕ
