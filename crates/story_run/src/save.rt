@@ -14,7 +14,7 @@ ghost use Rattle.vm_exec.specs.Rows.Undo.{saved_state};
 ghost use Rattle.vm_exec.specs.Start.{IsOver};
 ghost use Rattle.vm_memory.specs.MemoryMap.{KeepsMap};
 
-use glk_dispatch::{Glk, get_code, position, put_code};
+use glk_dispatch::{Glk, get_code, pass_ahead, position, put_code};
 use glulx_image::Image;
 use quetzal::{SaveFault, read, write};
 use std::alloc::Global;
@@ -135,8 +135,17 @@ pub(crate) fn restore<'i>(
     if !is_readable(glk, stream) {
         return machine.finish(alloc, 1);
     }
-    let bytes = rest_of(alloc, glk, &machine.memory, stream)?;
-    bring_back(alloc, machine, image, &bytes)
+    match glk.streams.bytes_ahead(stream) {
+        Some(bytes) => {
+            let done = bring_back(alloc, machine, image, bytes);
+            pass_ahead(glk, stream);
+            done
+        }
+        None => {
+            let bytes = rest_of(alloc, glk, &machine.memory, stream)?;
+            bring_back(alloc, machine, image, &bytes)
+        }
+    }
 }
 
 // The rest of a stream, a byte for each of its characters.
