@@ -1,7 +1,7 @@
 -- What is read of a file all at once is what is read a character at a time.
 use Rattle.std.proofs.Common.{◌≡◌, ◌<◌, ◌≤◌, ℕ, zero, suc, ◌+◌, ◌-◌, ◌%◌, ◌^◌, min, false, List, []}
 use Rattle.std.proofs.Common.{◌∷◌, ◌++◌, length, length-append, length-drop, drop, refl, sym, ap}
-use Rattle.std.proofs.Common.{◌∙◌, subst, Some, None, Ok, slice_index, arith}
+use Rattle.std.proofs.Common.{◌∙◌, subst, Some, None, Result, Ok, Err, slice_index, arith}
 use Rattle.std.proofs.lemmas.Grind.{common_steps}
 use Rattle.std.proofs.lemmas.List.{drop_more, get_or-drop}
 use mathlib.Core.List.{append_assoc, append-nil}
@@ -16,7 +16,15 @@ use Rattle.glk_streams.proofs.AheadLemmas.{reader-passed}
 use Rattle.glk_streams.proofs.ValidLemmas.{number-found}
 use Rattle.glk_dispatch.specs.Streams.{ahead_counted, ahead_read}
 use Rattle.glk_dispatch.specs.declared.glk.Glk.{Glk}
-use Rattle.story_run.specs.Saves.{rest_of_stream}
+use Rattle.glk_dispatch.specs.Answer.{Reached, within}
+use Rattle.quetzal.specs.State.{state_in}
+use Rattle.vm_exec.specs.Answer.{Changes}
+use Rattle.vm_exec.specs.declared.machine.Machine.{Machine}
+use Rattle.vm_memory.specs.Chaining.{◌>>=◌}
+use Rattle.vm_memory.specs.declared.fault.Trap.{Trap}
+use Rattle.vm_memory.specs.declared.fault.Trap.TheVariants.{Fault, NoMemory}
+use Rattle.story_run.specs.Saves.{LeavesGlkAndMachine, brought_back, rest_of_stream}
+use Rattle.story_run.specs.Saves.{rest_restored}
 
 taken-byte : (b : ℕ) → b < 256 → code_taken false b ≡ b
 taken-byte b l = grind (arith, common_steps, l)
@@ -147,3 +155,26 @@ rest-ahead g m n ahead e b l =
         sym (ap (λ xs. slice_index xs (i - place)) e) ∙ get_or-drop place bytes (i - place) 0
         ∙ ap (λ j. slice_index bytes j) at in
         subst (λ x. x < 256) same (b (i - place) (omega (arith, low, high, r)))
+
+-- a restore from what is ahead is one from the rest
+pub restored-ahead : (image : List ℕ) (g h : Glk) (m k : Machine) (n : ℕ) (ahead : List ℕ)
+    (r : Result (Unit {0}) Trap) → bytes_ahead g.streams n ≡ Some ahead → AreBytes ahead
+    → length ahead ≤ 1048576 → h ≡ ahead_read g n
+    → Changes (brought_back m (state_in image ahead)) k r
+    → LeavesGlkAndMachine (rest_restored image g m n) h k r
+restored-ahead image g h m k n ahead r e b l same does = by-result r does
+  where
+    stored : Glk → Result Machine ℕ → Reached (Glk × Machine)
+    stored g x = within g x >>= (λ k. Ok (g, k))
+
+    all : rest_restored image g m n ≡ stored h (brought_back m (state_in image ahead))
+    all = ap (λ x. x >>= (λ p. stored p.0 (brought_back m (state_in image p.1))))
+        (rest-ahead g m.memory n ahead e b l)
+        ∙ ap (λ g. stored g (brought_back m (state_in image ahead))) (sym same)
+
+    by-result : (r : Result (Unit {0}) Trap)
+        → Changes (brought_back m (state_in image ahead)) k r
+        → LeavesGlkAndMachine (rest_restored image g m n) h k r
+    by-result (Ok x) d = all ∙ ap (stored h) d
+    by-result (Err (Fault x)) d = all ∙ ap (stored h) d
+    by-result (Err NoMemory) d = tt

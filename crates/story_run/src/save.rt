@@ -135,17 +135,49 @@ pub(crate) fn restore<'i>(
     if !is_readable(glk, stream) {
         return machine.finish(alloc, 1);
     }
+    restore_rest(alloc, glk, machine, image, stream)
+}
+
+// The same from a stream that is open for reading. What a file holds is read all at once.
+fn restore_rest<'i>(
+    alloc: Global,
+    glk: &mut Glk,
+    machine: &mut Machine<'i>,
+    image: &Image<'i>,
+    stream: u32,
+) -> Result<(), Trap>
+    requires { IsWaiting image.now machine.old }
+    ensures does { LeavesGlkAndMachine (saves.rest_restored image.now glk.old machine.old stream)
+        glk.new machine.new result }
+    ensures kept { OnOk result (IsWaiting image.now machine.new) }
+    ensures seed { OnOk result (machine.new.random.seed ≡ machine.old.random.seed) }
+{
     match glk.streams.bytes_ahead(stream) {
         Some(bytes) => {
             let done = bring_back(alloc, machine, image, bytes);
             pass_ahead(glk, stream);
             done
         }
-        None => {
-            let bytes = rest_of(alloc, glk, &machine.memory, stream)?;
-            bring_back(alloc, machine, image, &bytes)
-        }
+        None => restore_by_characters(alloc, glk, machine, image, stream),
     }
+}
+
+// The same a character at a time.
+fn restore_by_characters<'i>(
+    alloc: Global,
+    glk: &mut Glk,
+    machine: &mut Machine<'i>,
+    image: &Image<'i>,
+    stream: u32,
+) -> Result<(), Trap>
+    requires { IsWaiting image.now machine.old }
+    ensures does { LeavesGlkAndMachine (saves.rest_restored image.now glk.old machine.old stream)
+        glk.new machine.new result }
+    ensures kept { OnOk result (IsWaiting image.now machine.new) }
+    ensures seed { OnOk result (machine.new.random.seed ≡ machine.old.random.seed) }
+{
+    let bytes = rest_of(alloc, glk, &machine.memory, stream)?;
+    bring_back(alloc, machine, image, &bytes)
 }
 
 // The rest of a stream, a byte for each of its characters.
