@@ -142,8 +142,10 @@ rest-ahead g m n ahead e b l =
     many m n a.usage a.name a.bytes k 4294967295 g s [] a.reader
     (number-found stream_number g.streams.streams n s a.reader.is) all (omega (arith, some, l))
     (λ i low high. byte-at a.bytes s.place i a.is_rest low high rest)
-    ∙ ap (λ (j : ℕ). Ok (ahead_counted g (with_stream g.streams n (passed_by j s), j),
-    drop s.place a.bytes)) some
+    ∙ ap (λ (j : ℕ). Ok (
+      ahead_counted g (with_stream g.streams n (passed_by j s), j),
+      drop s.place a.bytes,
+    )) some
     ∙ ap (λ p. Ok (ahead_counted g p, drop s.place a.bytes)) (sym a.passes)
     ∙ ap (λ xs. Ok (ahead_read g n, xs)) a.is_rest
   where
