@@ -1,8 +1,10 @@
 -- The bytes ahead of a stream are the characters that it gives one by one.
-use Rattle.std.proofs.Common.{◌≡◌, ◌<◌, ℕ, ◌+◌, Bool, true, false, List, length, drop, refl, sym, ap}
+use Rattle.std.proofs.Common.{◌≡◌, ◌<◌, ℕ, ◌+◌, Bool, true, false, List, [], ◌∷◌, length, drop}
+use Rattle.std.proofs.Common.{refl, sym, ap}
 use Rattle.std.proofs.Common.{◌∙◌, Option, Some, None, Ok, cond, nat_lt, slice_index, arith}
 use Rattle.std.proofs.lemmas.Grind.{common_steps}
 use Rattle.vm_memory.specs.MemoryMap.{MemoryMap}
+use Rattle.glk_numbers.specs.Numbered.{changed_at}
 use Rattle.glk_streams.specs.Files.{content_of}
 use Rattle.glk_streams.specs.Input.{ahead_passed, bytes_ahead, bytes_by, bytes_from}
 use Rattle.glk_streams.specs.Input.{bytes_in_target, got, passed, passed_by, stream_passed}
@@ -36,6 +38,19 @@ not_below a b e = grind (arith, common_steps, e)
 
 is_below : (a b : ℕ) → nat_lt a b ≡ true → a < b
 is_below a b e = grind (arith, common_steps, e)
+
+changed-again : (ss : List Stream) (n : ℕ) (v w : Stream) → v.number ≡ n
+    → changed_at stream_number (λ _. w) (changed_at stream_number (λ _. v) ss n) n
+    ≡ changed_at stream_number (λ _. w) ss n
+unfolding changed_at
+changed-again [] n v w e = refl
+changed-again (x ∷ xs) n v w e = grind (arith, common_steps, e, changed-again xs n v w e)
+
+-- a stream in its third state
+pub with-again : (t : StreamTable) (n : ℕ) (v w : Stream) → v.number ≡ n
+    → with_stream (with_stream t n v) n w ≡ with_stream t n w
+with-again t n v w e =
+    ap (λ ss. record t { streams = ss }) (changed-again t.streams n v w e)
 
 module _ (m : MemoryMap) (n usage : ℕ) (name bytes : List ℕ) where
   pub got-byte : (t : StreamTable) (s : Stream) → IsReader t n usage name bytes s

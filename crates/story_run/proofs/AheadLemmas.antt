@@ -6,13 +6,12 @@ use Rattle.std.proofs.lemmas.Grind.{common_steps}
 use Rattle.std.proofs.lemmas.List.{drop_more, get_or-drop}
 use mathlib.Core.List.{append_assoc, append-nil}
 use Rattle.vm_memory.specs.MemoryMap.{MemoryMap}
-use Rattle.glk_numbers.specs.Numbered.{changed_at}
 use Rattle.glk_input.specs.Delivery.{code_taken}
 use Rattle.glk_streams.specs.Input.{AreBytes, ahead_passed, bytes_ahead, passed, passed_by}
 use Rattle.glk_streams.specs.Streams.{StreamTable, stream_number, with_stream}
 use Rattle.glk_streams.specs.declared.stream.Stream.{Stream}
 use Rattle.glk_streams.proofs.AheadLemmas.{IsReader, ahead-rest, byte_read, got-byte, got-end}
-use Rattle.glk_streams.proofs.AheadLemmas.{reader-passed}
+use Rattle.glk_streams.proofs.AheadLemmas.{reader-passed, with-again}
 use Rattle.glk_streams.proofs.ValidLemmas.{number-found}
 use Rattle.glk_dispatch.specs.Streams.{ahead_counted, ahead_read}
 use Rattle.glk_dispatch.specs.declared.glk.Glk.{Glk}
@@ -28,13 +27,6 @@ use Rattle.story_run.specs.Saves.{rest_restored}
 
 taken-byte : (b : ℕ) → b < 256 → code_taken false b ≡ b
 taken-byte b l = grind (arith, common_steps, l)
-
-changed-again : (ss : List Stream) (n : ℕ) (v w : Stream) → v.number ≡ n
-    → changed_at stream_number (λ _. w) (changed_at stream_number (λ _. v) ss n) n
-    ≡ changed_at stream_number (λ _. w) ss n
-unfolding changed_at
-changed-again [] n v w e = refl
-changed-again (x ∷ xs) n v w e = grind (arith, common_steps, e, changed-again xs n v w e)
 
 added-again : (a k : ℕ) → ((a + 1) % 2 ^ 32 + suc k) % 2 ^ 32 ≡ (a + suc (suc k)) % 2 ^ 32
 added-again a k = omega arith
@@ -60,12 +52,12 @@ module _ (m : MemoryMap) (n usage : ℕ) (name bytes : List ℕ) where
   behind-again : (k : ℕ) (g : Glk) (s : Stream) → s.number ≡ n
       → behind (suc k) (behind 1 g s) (passed_by 1 s) ≡ behind (suc (suc k)) g s
   behind-again k g s e =
-      ap (λ (ss : List Stream). record g {
-        streams = record g.streams { streams = ss };
+      ap (λ (t : StreamTable). record g {
+        streams = t;
         chars = min (min (g.chars + 1) (2 ^ 64 - 1) + suc k) (2 ^ 64 - 1);
       })
-      (changed-again g.streams.streams n (passed_by 1 s) (passed_by (suc k) (passed_by 1 s)) e
-      ∙ ap (λ v. changed_at stream_number (λ _. v) g.streams.streams n) (passed-again s k))
+      (with-again g.streams n (passed_by 1 s) (passed_by (suc k) (passed_by 1 s)) e
+      ∙ ap (λ v. with_stream g.streams n v) (passed-again s k))
       ∙ ap (λ (c : ℕ). record g {
         streams = with_stream g.streams n (passed_by (suc (suc k)) s);
         chars = c;
