@@ -1,13 +1,13 @@
 -- What is read of a file all at once is what is read a character at a time.
 use Rattle.std.proofs.Common.{◌≡◌, ◌<◌, ◌≤◌, ℕ, zero, suc, ◌+◌, ◌-◌, ◌%◌, ◌^◌, min, false, List, []}
-use Rattle.std.proofs.Common.{◌∷◌, ◌++◌, length, length-append, length-drop, drop, refl, sym, ap}
+use Rattle.std.proofs.Common.{◌∷◌, ◌++◌, length, length-drop, drop, refl, sym, ap}
 use Rattle.std.proofs.Common.{◌∙◌, subst, Some, None, Result, Ok, Err, slice_index, arith}
 use Rattle.std.proofs.lemmas.Grind.{common_steps}
-use Rattle.std.proofs.lemmas.List.{drop_more, get_or-drop}
-use mathlib.Core.List.{append_assoc, append-nil}
+use Rattle.std.proofs.lemmas.List.{drop_more, get_or-drop, nil_from_length}
+use mathlib.Core.List.{append_assoc}
 use Rattle.vm_memory.specs.MemoryMap.{MemoryMap}
 use Rattle.glk_input.specs.Delivery.{code_taken}
-use Rattle.glk_streams.specs.Input.{AreBytes, ahead_passed, bytes_ahead, passed, passed_by}
+use Rattle.glk_streams.specs.Input.{AreBytes, bytes_ahead, passed_by}
 use Rattle.glk_streams.specs.Streams.{StreamTable, stream_number, with_stream}
 use Rattle.glk_streams.specs.declared.stream.Stream.{Stream}
 use Rattle.glk_streams.proofs.AheadLemmas.{IsReader, ahead-rest, byte_read, got-byte, got-end}
@@ -83,16 +83,12 @@ module _ (m : MemoryMap) (n usage : ℕ) (name bytes : List ℕ) where
 
   last : (s : Stream) (read : List ℕ) → s.place + 1 ≡ length bytes
       → read ++ slice_index bytes s.place ∷ [] ≡ read ++ drop s.place bytes
-  last s read e = ap (λ xs. read ++ xs)
-      (ap (λ xs. slice_index bytes s.place ∷ xs) (sym (none _ (omega (arith, e, none-left))))
+  last s read e =
+      let long = length-drop (s.place + 1) bytes in
+      let none : drop (s.place + 1) bytes ≡ [] =
+      nil_from_length (drop (s.place + 1) bytes) (omega (arith, e, long)) in
+      ap (λ xs. read ++ xs) (ap (λ xs. slice_index bytes s.place ∷ xs) (sym none)
       ∙ sym (drop_more bytes s.place 0 (omega (arith, e))))
-    where
-      none-left : length (drop (s.place + 1) bytes) ≡ length bytes - (s.place + 1)
-      none-left = length-drop (s.place + 1) bytes
-
-      none : (xs : List ℕ) → length xs ≡ 0 → xs ≡ []
-      none [] e = refl
-      none (x ∷ xs) e = absurd (omega (arith, e))
 
   more : (s : Stream) (read : List ℕ) → s.place < length bytes
       → (read ++ slice_index bytes s.place ∷ []) ++ drop (s.place + 1) bytes
