@@ -33,7 +33,7 @@ added-again a k = omega arith
 
 counted-again : (a k : ℕ)
     → min (min (a + 1) (2 ^ 64 - 1) + suc k) (2 ^ 64 - 1) ≡ min (a + suc (suc k)) (2 ^ 64 - 1)
-counted-again a k = grind (arith, common_steps)
+counted-again a k = omega arith
 
 placed-again : (a k : ℕ) → a + 1 + suc k ≡ a + suc (suc k)
 placed-again a k = omega arith
