@@ -1,5 +1,5 @@
 -- What calls answered and left keeps what the work of a call keeps.
-use Rattle.std.proofs.Common.{◌≡◌, ◌⊎◌, inl, inr, refl, subst, ℕ}
+use Rattle.std.proofs.Common.{◌≡◌, ◌⊎◌, inl, inr, refl, subst, sym, ℕ}
 use Rattle.std.proofs.Common.{Option, Result, Ok, Err, List}
 use Rattle.std.proofs.Common.{[], slice_index}
 use Rattle.std.specs.Prelude.{IfOk, OnOk}
@@ -31,6 +31,7 @@ use Rattle.glk_dispatch.proofs.KeptStory.{at-first, ok-arguments}
 use Rattle.glk_dispatch.proofs.KeptEvents.{at_rest, kept-event_answered}
 use Rattle.glk_dispatch.proofs.KeptEvents.{kept-input_echoed}
 use Rattle.glk_dispatch.proofs.KeptOutput.{kept-put_code, kept-spread_all}
+use Rattle.glk_dispatch.proofs.KeptLemmas.{ahead-valid}
 use Rattle.glk_dispatch.proofs.KeptStreams.{kept-got_code}
 use Rattle.glk_dispatch.proofs.KeptStreams.{prompted-valid}
 use Rattle.glk_dispatch.proofs.KeptCalls.{kept-taken}
@@ -190,6 +191,9 @@ got_readies g h m stream r does = under (IsReadyGlk g) (IsReadyGlk h) r (λ v.
     by-result v (Err (Fault n)) e k =
         subst (λ (y : Reached (Glk × Option ℕ)). Kept call_on (beside call_on) y) e k v
     by-result v (Err NoMemory) e k = tt
+
+pub passed_readies : (g h : Glk) (n : ℕ) → h ≡ rows.ahead_read g n → IsReadyGlk g → IsReadyGlk h
+passed_readies g h n e v = subst IsReadyGlk (sym e) (ahead-valid g n v)
 
 -- an echo leaves the requests
 pub echo_asks : (s : GlkCall) (i : Input) (g : Glk) (m : MemoryMap)

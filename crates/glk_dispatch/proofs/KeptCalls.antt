@@ -53,7 +53,8 @@ use Rattle.glk_dispatch.proofs.FoundLemmas.{part-map}
 use Rattle.glk_dispatch.proofs.LoopLemmas.{end-go, end-stop}
 use Rattle.glk_dispatch.proofs.StreamLemmas.{styled-more}
 use Rattle.glk_dispatch.proofs.PartLemmas.{kind-kept, valid-alike}
-use Rattle.glk_dispatch.proofs.KeptLemmas.{Keeps, Kept, Puts, Valid, answers, begins-puts}
+use Rattle.glk_dispatch.proofs.KeptLemmas.{Keeps, Kept, Puts, Valid, ahead-valid, answers}
+use Rattle.glk_dispatch.proofs.KeptLemmas.{begins-puts}
 use Rattle.glk_dispatch.proofs.KeptLemmas.{beside, charged-valid, kept-bind, kept-if, kept-leaves}
 use Rattle.glk_dispatch.proofs.KeptLemmas.{kept-left, kept-puts, kept-read, kept-step, laws, on}
 use Rattle.glk_dispatch.proofs.KeptLemmas.{puts, rested-valid, row, row-needs, self}
@@ -286,4 +287,5 @@ calls_keep_valid = record {
   got = λ s n v.
       reaches s (beside s) (λ p. IsReadyGlk p.0) (rows.got_code s.glk s.memory n) v (λ p k. k v)
       (kept-got_code s s.glk s.memory n (λ w. w));
+  ahead = ahead-valid;
 }

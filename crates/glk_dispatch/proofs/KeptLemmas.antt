@@ -18,6 +18,7 @@ use Rattle.glk_windows.specs.Tree.{WindowTree}
 use Rattle.glk_windows.proofs.BelowLemmas.{may_key_holds}
 use Rattle.glk_windows.proofs.ValidLemmas.{keeps_valid}
 use Rattle.glk_streams.specs.Laws as of_streams
+use Rattle.glk_streams.specs.Input.{ahead_passed}
 use Rattle.glk_streams.specs.Streams.{StreamTable}
 use Rattle.glk_streams.specs.declared.fault.StreamStop.{StreamStop}
 use Rattle.glk_streams.proofs.ValidCalls.{keeps}
@@ -28,7 +29,8 @@ use Rattle.glk_input.specs.declared.request.WindowInput.{WindowInput}
 use Rattle.glk_input.proofs.ValidLemmas.{stays_valid}
 use Rattle.glk_dispatch.specs.Answer.{GlkCall, Reached, over_glk_alone, glk_call, needs, within}
 use Rattle.glk_dispatch.specs.Fault.{streams_coded}
-use Rattle.glk_dispatch.specs.Glk.{character_charged, wait_set_back}
+use Rattle.glk_dispatch.specs.Glk.{character_charged, characters_charged, wait_set_back}
+use Rattle.glk_dispatch.specs.Streams.{ahead_read}
 use Rattle.glk_dispatch.specs.Keeping.{KeepsFrames}
 use Rattle.glk_dispatch.specs.Links.{links}
 use Rattle.glk_dispatch.specs.Valid.{AreAsked, AreValid, IsReadyGlk, IsValidGlk, IsValidWaiting}
@@ -38,6 +40,7 @@ use Rattle.glk_dispatch.specs.declared.called.Called.TheVariants.{Value}
 use Rattle.glk_dispatch.specs.declared.glk.Glk.{Glk}
 use Rattle.glk_dispatch.proofs.CloseLemmas.{ends_in, links_in}
 use Rattle.glk_dispatch.proofs.StreamLemmas.{LeavesAlone, LeavesMore, More, added-linked}
+use Rattle.glk_dispatch.proofs.StreamLemmas.{ahead-more}
 use Rattle.glk_dispatch.proofs.PartLemmas.{Alike, valid-alike}
 
 -- what the crates of windows, streams and requests promise
@@ -222,6 +225,20 @@ charged-valid g v = record {
   valid = same-parts g (character_charged g) refl refl refl refl refl v.valid;
   rests = record { event = v.rests.event; prompt = v.rests.prompt };
 }
+
+all_charged-valid : (count : ℕ) (g : Glk) → IsReadyGlk g → IsReadyGlk (characters_charged count g)
+all_charged-valid count g v = record {
+  valid = same-parts g (characters_charged count g) refl refl refl refl refl v.valid;
+  rests = record { event = v.rests.event; prompt = v.rests.prompt };
+}
+
+-- the bytes ahead of a stream read
+pub ahead-valid : (g : Glk) (n : ℕ) → IsReadyGlk g → IsReadyGlk (ahead_read g n)
+ahead-valid g n v =
+    let p = ahead_passed g.streams n in
+    all_charged-valid p.1 (record g { streams = p.0 })
+    (with-streams g p.0 v ((laws.streams g.streams v.valid.parts.streams).ahead n)
+    (ahead-more g.streams n))
 
 pub rested-valid : (g : Glk) → IsValidGlk g → IsReadyGlk (wait_set_back g)
 rested-valid g v = record {

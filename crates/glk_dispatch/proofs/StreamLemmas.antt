@@ -265,6 +265,41 @@ got-more t m n = of-stream (streams.stream_at t n) refl
     of-stream None e = tt
     of-stream (Some s) e = by-mode s (streams.is_read_mode s.mode) e
 
+-- nor has it bytes ahead
+pub ahead-more : (t : StreamTable) (n : ℕ) → More t (input.ahead_passed t n).0
+ahead-more t n = of-stream (streams.stream_at t n) refl
+  where
+    passed-end : (s : Stream) (count : ℕ) → streams.is_window_target s.target ≡ false
+        → stream_end (input.passed_by count s) ≡ stream_end s
+    passed-end s count e = grind (arith, common_steps, e)
+
+    passed-more : (s : Stream) (o : Option (List ℕ)) → streams.stream_at t n ≡ Some s
+        → streams.is_window_target s.target ≡ false → More t (input.stream_passed t n s o).0
+    passed-more s None e f = same-table t t refl
+    passed-more s (Some bytes) e f =
+        changed-more t n s (input.passed_by (length bytes) s) e refl
+        (passed-end s (length bytes) f)
+
+    by-target : (s : Stream) (x : target.Target) → s.target ≡ x → streams.stream_at t n ≡ Some s
+        → More t (input.stream_passed t n s
+        (input.bytes_in_target x s.unicode t.files s.place)).0
+    by-target s (to.Window w) h e = same-table t t refl
+    by-target s (to.Memory b l) h e = same-table t t refl
+    by-target s (to.File a c) h e =
+        passed-more s (input.bytes_in_target (to.File a c) s.unicode t.files s.place) e (rw h refl)
+
+    by-mode : (s : Stream) (b : Bool) → streams.stream_at t n ≡ Some s
+        → More t (input.stream_passed t n s
+        (cond b (input.bytes_in_target s.target s.unicode t.files s.place) None)).0
+    by-mode s true e = by-target s s.target refl e
+    by-mode s false e = same-table t t refl
+
+    of-stream : (o : Option Stream) → streams.stream_at t n ≡ o
+        → More t (streams.of_stream o (t, 0)
+        (λ s. input.stream_passed t n s (input.bytes_by t.files s))).0
+    of-stream None e = same-table t t refl
+    of-stream (Some s) e = by-mode s (streams.is_read_mode s.mode) e
+
 pub current-more : (t : StreamTable) (n : ℕ) → LeavesAlone t (refs.with_current t n)
 current-more t n = by-live (n == 0 || has streams.stream_number t.streams n)
   where

@@ -40,6 +40,10 @@ wait_set_back g = record g { event = 0; prompt = no_prompt }
 abbrev pub character_charged : Glk → Glk
 character_charged g = record g { chars = min (g.chars + 1) (2 ^ 64 - 1) }
 
+-- so many characters more, one by one or all at once
+abbrev pub characters_charged : ℕ → Glk → Glk
+characters_charged count g = record g { chars = min (g.chars + count) (2 ^ 64 - 1) }
+
 -- the windows have their rectangles
 abbrev pub with_rectangles : Glk → Glk
 with_rectangles g = record g { windows = placing.place g.windows g.cols g.rows }

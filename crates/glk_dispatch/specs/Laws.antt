@@ -15,7 +15,7 @@ use Rattle.glk_dispatch.specs.Events.{event_words, input_answered}
 use Rattle.glk_dispatch.specs.Glk.{empty_screen, screen_sized, turn_begun, wait_set_back}
 use Rattle.glk_dispatch.specs.Output.{put_code}
 use Rattle.glk_dispatch.specs.Reference.{refers_all}
-use Rattle.glk_dispatch.specs.Streams.{got_code}
+use Rattle.glk_dispatch.specs.Streams.{ahead_read, got_code}
 use Rattle.glk_dispatch.specs.Valid.{IsReadyGlk, IsValidGlk, IsValidWaiting}
 use Rattle.glk_dispatch.specs.declared.glk.Glk.{Glk}
 
@@ -26,7 +26,7 @@ Reaches Is (Err e) = IsReadyGlk e.0
 
 -- from a valid state in which calls may be made every call leaves a valid one that waits with what
 -- its answer says; from each valid one every input leaves one in which calls may be made; and so
--- does a character that is put or read
+-- does a character that is put or read, and all that is read of a file at once
 pub record CallsKeepValid : Type 0 where
   pub new : (cols rows : ℕ) → IsReadyGlk (empty_screen cols rows)
   pub begun : (g : Glk) → IsValidGlk g → IsValidGlk (turn_begun g)
@@ -38,6 +38,7 @@ pub record CallsKeepValid : Type 0 where
       → Reaches (λ p. IsReadyGlk p.0) (put_code s.glk s.memory n code)
   pub got : (s : GlkCall) (n : ℕ) → IsReadyGlk s.glk
       → Reaches (λ p. IsReadyGlk p.0) (got_code s.glk s.memory n)
+  pub ahead : (g : Glk) (n : ℕ) → IsReadyGlk g → IsReadyGlk (ahead_read g n)
 
 -- a window without its size: its rectangle, and of a grid the cells
 abbrev pub unsized_content : Content → Content

@@ -17,7 +17,8 @@ use Rattle.std.specs.Prelude.{Result}
 use Rattle.glk_input.specs.Delivery.{code_taken, width}
 use Rattle.glk_dispatch.specs.Answer.{GlkCall, Reached, CallRule, within}
 use Rattle.glk_dispatch.specs.Fault.{streams_coded}
-use Rattle.glk_dispatch.specs.Glk.{character_charged, stream, stream_or_none, stream_rock}
+use Rattle.glk_dispatch.specs.Glk.{character_charged, characters_charged, stream, stream_or_none}
+use Rattle.glk_dispatch.specs.Glk.{stream_rock}
 use Rattle.glk_dispatch.specs.Output.{code_written}
 use Rattle.glk_dispatch.specs.Reference.{gives, refers, refers_all}
 use Rattle.glk_dispatch.specs.declared.called.Called.{Called}
@@ -92,6 +93,13 @@ read_counted (Some code) g = character_charged g
 
 abbrev pub got_code : Glk → MemoryMap → ℕ → Reached (Glk × Option ℕ)
 got_code g m n = char_got g m n >>= (λ p. Ok (read_counted p.1 p.0, p.1))
+
+-- the bytes ahead of a plain stream of a file read, all of them, which are then counted
+abbrev pub ahead_counted : Glk → table.StreamTable × ℕ → Glk
+ahead_counted g p = characters_charged p.1 (record g { streams = p.0 })
+
+abbrev pub ahead_read : Glk → ℕ → Glk
+ahead_read g n = ahead_counted g (input.ahead_passed g.streams n)
 
 -- a plain read of a code above 255 gives `?`; the end is -1
 abbrev pub code_or_end : Bool → Option ℕ → ℕ

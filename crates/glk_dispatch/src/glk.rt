@@ -119,6 +119,13 @@ impl Glk {
         self.chars = self.chars.saturating_add(1);
     }
 
+    /// Counts so many characters that a call reads or writes.
+    pub(crate) fn charge_all(&mut self, count: u32)
+        ensures { self.new ≡ state.characters_charged count self.old }
+    {
+        self.chars = self.chars.saturating_add(u64::from(count));
+    }
+
     /// Whether a window has this number.
     pub(crate) fn is_window(&self, win: u32) -> bool
         ensures { result ≡ state.has_window self.now win }

@@ -33,7 +33,7 @@ pub use laws::{
 };
 pub use output::{MAX_PRINTED, OutputCall, put_code};
 pub use selector::Call;
-pub use streams::{StreamCall, get_code, position};
+pub use streams::{StreamCall, get_code, pass_ahead, position};
 pub use style::StyleCall;
 pub use waiting::answer;
 pub use windows::WindowCall;

@@ -206,6 +206,16 @@ pub fn get_code(glk: &mut Glk, memory: &Memory, stream: u32) -> Result<Option<u3
     Ok(code)
 }
 
+/// Reads the bytes ahead of a plain stream of a file (`Streams::bytes_ahead`), to its end; each is
+/// counted as a character that is read. Another stream stays as it is.
+pub fn pass_ahead(glk: &mut Glk, stream: u32)
+    ensures does { glk.new ≡ rows.ahead_read glk.old stream }
+    ensures valid { IsReadyGlk glk.old → IsReadyGlk glk.new }
+{
+    let count = glk.streams.pass_ahead(stream);
+    glk.charge_all(count);
+}
+
 fn code_or_end(unicode: bool, code: Option<u32>) -> u32
     ensures { result ≡ rows.code_or_end unicode code }
 {

@@ -8,3 +8,4 @@ pub mod ValidLaws
 pub mod ValidCalls
 pub mod RoundTripLemmas
 pub mod ReadsBackLemmas
+pub mod AheadLemmas

@@ -34,7 +34,7 @@ use Rattle.glk_streams.proofs.RoundTripLemmas.{empty-units}
 
 -- streams that are changed
 
-found-same : (ss : List Stream) (n : ℕ) (s v : Stream) → found stream_number ss n ≡ Some s
+pub found-same : (ss : List Stream) (n : ℕ) (s v : Stream) → found stream_number ss n ≡ Some s
     → v.number ≡ n
     → found stream_number (changed_at stream_number (λ _. v) ss n) n ≡ Some v
 unfolding found changed_at

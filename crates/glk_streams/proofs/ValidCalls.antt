@@ -23,7 +23,8 @@ use Rattle.glk_streams.specs.Coding.{coding_of, bytes_kept}
 use Rattle.glk_streams.specs.FileRefs.{made_ref, with_current, style_of}
 use Rattle.glk_streams.specs.Files.{has_file, content_of, files_holding, sum_of_bytes}
 use Rattle.glk_streams.specs.Files.{file_may_stand, room_of, without_file}
-use Rattle.glk_streams.specs.Input.{got_by, stream_behind, passed}
+use Rattle.glk_streams.specs.Input.{bytes_by, got_by, passed, passed_by, stream_behind}
+use Rattle.glk_streams.specs.Input.{stream_passed}
 use Rattle.glk_streams.specs.Laws.{AreValidStreams, LeavesValidStreams}
 use Rattle.glk_streams.specs.Laws.{LeavesBeside, StreamsStayValid}
 use Rattle.glk_streams.specs.Opening.{opened_window, opened_memory, opened_ref, opened_name}
@@ -35,10 +36,11 @@ use Rattle.glk_streams.specs.Output.{is_kept, byte_start, write_counted, at_posi
 use Rattle.glk_streams.specs.Position.{sought_in}
 use Rattle.glk_streams.specs.Streams.{StreamTable, ref_number_of, stream_at}
 use Rattle.glk_streams.specs.Streams.{ref_at, stream_of_window, is_window_target}
-use Rattle.glk_streams.specs.Streams.{with_stream, is_write_mode}
+use Rattle.glk_streams.specs.Streams.{of_stream, with_stream, is_write_mode}
 use Rattle.glk_streams.specs.Valid.{is_current, are_files, are_streams}
 use Rattle.glk_streams.proofs.ValidLemmas.{count-window, count-more, or_parts}
-use Rattle.glk_streams.proofs.ValidLaws.{Parts, parts_of, of_parts, files_of, files-held, both}
+use Rattle.glk_streams.proofs.ValidLaws.{Parts, parts_of, of_parts, changed-valid, files_of}
+use Rattle.glk_streams.proofs.ValidLaws.{files-held, both}
 use Rattle.glk_streams.proofs.ValidLaws.{files-without, held_of, streams-more, streams-changed}
 use Rattle.glk_streams.proofs.ValidLaws.{streams-without, streams-current, refs-more, refs-without}
 
@@ -172,22 +174,6 @@ close-by t n (Some s) h = by (is_window_target s.target)
     by true = tt
     by false = dropped-valid t n h
 
--- a stream in another state
-
-changed-valid : (t : StreamTable) (n : ℕ) (s v : Stream) (fs : List file.File)
-    → stream_at t n ≡ Some s → v.number ≡ s.number
-    → v.target ≡ s.target → v.mode ≡ s.mode
-    → (nat_le s.style 10 ≡ true → nat_le v.style 10 ≡ true)
-    → are_files fs ≡ true → AreValidStreams t
-    → AreValidStreams (with_stream (record t { files = fs }) n v)
-changed-valid t n s v fs f e g m y k h =
-    let p = parts_of t h in
-    of_parts (with_stream (record t { files = fs }) n v) (record {
-      streams = streams-changed t.next t.current t.streams n s v f e g m y p.streams;
-      refs = p.refs;
-      files = k;
-    })
-
 abbrev FilesIn : Put → Type 0
 FilesIn (Ok done) = are_files done.0 ≡ true
 FilesIn (Err e) = Unit {0}
@@ -284,6 +270,18 @@ read-by : (t : StreamTable) (m : MemoryMap) (n : ℕ) (o : Option Stream) → st
     → LeavesBeside (live o (λ s. got_by t.files m s >>= (λ r. Ok (stream_behind t n s r))))
 read-by t m n None f h = tt
 read-by t m n (Some s) f h = read-then t n s (got_by t.files m s) f h
+
+ahead-then : (t : StreamTable) (n : ℕ) (s : Stream) (o : Option (List ℕ)) → stream_at t n ≡ Some s
+    → AreValidStreams t → AreValidStreams (stream_passed t n s o).0
+ahead-then t n s None f h = h
+ahead-then t n s (Some bytes) f h =
+    changed-valid t n s (passed_by (length bytes) s) t.files f refl refl refl (λ y. y)
+    (parts_of t h).files h
+
+ahead-by : (t : StreamTable) (n : ℕ) (o : Option Stream) → stream_at t n ≡ o → AreValidStreams t
+    → AreValidStreams (of_stream o (t, 0) (λ s. stream_passed t n s (bytes_by t.files s))).0
+ahead-by t n None f h = h
+ahead-by t n (Some s) f h = ahead-then t n s (bytes_by t.files s) f h
 
 sought-same : (to : Target) (fs : List file.File) (s : Stream) (by from : ℕ)
     → ((sought_in to fs s by from).number ≡ s.number) ×
@@ -387,6 +385,7 @@ keeps t h = record {
   close_window = λ win. dropped-valid t (stream_of_window t.streams win) h;
   write = λ m n code. write-by t m n code (stream_at t n) refl h;
   read = λ m n. read-by t m n (stream_at t n) refl h;
+  ahead = λ n. ahead-by t n (stream_at t n) refl h;
   seek = λ n by from. seek-by t n by from (stream_at t n) (nat_lt 2 from) refl refl h;
   style = λ n style. style-by t n style (stream_at t n) refl h;
   current = λ n. current-by t n (is_current t.streams n) refl h;

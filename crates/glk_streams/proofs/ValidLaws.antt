@@ -10,8 +10,9 @@ use Rattle.glk_streams.specs.declared.stream.Stream.{Stream}
 use Rattle.glk_streams.specs.declared.fileref.FileRef.{FileRef}
 use Rattle.glk_streams.specs.Files.{has_file, content_of, file_with_bytes, with_file, without_file}
 use Rattle.glk_streams.specs.Files.{files_holding, sum_of_bytes, file_may_stand}
-use Rattle.glk_streams.specs.Streams.{StreamTable, no_streams, stream_number}
-use Rattle.glk_streams.specs.Streams.{ref_number_of, is_window_target}
+use Rattle.glk_streams.specs.Laws.{AreValidStreams}
+use Rattle.glk_streams.specs.Streams.{StreamTable, no_streams, stream_at, stream_number}
+use Rattle.glk_streams.specs.Streams.{ref_number_of, is_window_target, with_stream}
 use Rattle.glk_streams.specs.Opening.{count_of}
 use Rattle.glk_streams.specs.Valid.{is_mode, is_sound_stream, are_sound_streams}
 use Rattle.glk_streams.specs.Valid.{is_current, is_next, files_in_order, are_kinds}
@@ -230,3 +231,19 @@ of_parts t p = both _ _ (both _ _ p.streams p.refs) p.files
 pub begins : are_valid_streams no_streams ≡ true
 unfolding are_sound_streams ascends files_in_order are_kinds count_of sum_of_bytes
 begins = refl
+
+-- a stream in another state
+
+pub changed-valid : (t : StreamTable) (n : ℕ) (s v : Stream) (fs : List File)
+    → stream_at t n ≡ Some s → v.number ≡ s.number
+    → v.target ≡ s.target → v.mode ≡ s.mode
+    → (nat_le s.style 10 ≡ true → nat_le v.style 10 ≡ true)
+    → are_files fs ≡ true → AreValidStreams t
+    → AreValidStreams (with_stream (record t { files = fs }) n v)
+changed-valid t n s v fs f e g m y k h =
+    let p = parts_of t h in
+    of_parts (with_stream (record t { files = fs }) n v) (record {
+      streams = streams-changed t.next t.current t.streams n s v f e g m y p.streams;
+      refs = p.refs;
+      files = k;
+    })

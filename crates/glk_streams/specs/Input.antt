@@ -1,6 +1,6 @@
 -- What a character that is read does (Glk 0.7.5, "Streams").
-use Rattle.std.specs.Prelude.{ℕ, ◌+◌, ◌%◌, ◌^◌, nat_lt, if◌then◌else◌, Bool}
-use Rattle.std.specs.Prelude.{List, Option, Some, None, Result, Ok, Err}
+use Rattle.std.specs.Prelude.{ℕ, ◌+◌, ◌<◌, ◌%◌, ◌^◌, nat_lt, if◌then◌else◌, Bool}
+use Rattle.std.specs.Prelude.{List, length, drop, slice_index, Option, Some, None, Result, Ok, Err}
 use Rattle.vm_memory.specs.Chaining.{◌>>=◌}
 use Rattle.vm_memory.specs.MemoryMap.{MemoryMap}
 use Rattle.vm_memory.specs.Access.{read}
@@ -8,7 +8,7 @@ use Rattle.glk_streams.specs.Answer.{live, of_memory}
 use Rattle.glk_streams.specs.Coding.{coding_of, unit_of, character_at}
 use Rattle.glk_streams.specs.Files.{content_of}
 use Rattle.glk_streams.specs.Output.{length_of, address_of}
-use Rattle.glk_streams.specs.Streams.{StreamTable, stream_at, with_stream, is_read_mode}
+use Rattle.glk_streams.specs.Streams.{StreamTable, of_stream, stream_at, with_stream, is_read_mode}
 use Rattle.glk_streams.specs.declared.coding.Coding.{Coding}
 use Rattle.glk_streams.specs.declared.coding.Reading.{Reading}
 use Rattle.glk_streams.specs.declared.file.File.{File}
@@ -53,3 +53,43 @@ stream_behind t n s (Some r) = (with_stream t n (passed r s), Some r.code)
 -- a character of the stream with this number, which counts it; None at its end
 abbrev pub got : StreamTable → MemoryMap → ℕ → Result (StreamTable × Option ℕ) StreamStop
 got t m n = live (stream_at t n) (λ s. got_by t.files m s >>= (λ r. Ok (stream_behind t n s r)))
+
+-- ---- a file's characters all at once
+
+-- the bytes from a position on, of which there is one at least
+abbrev pub bytes_from : List ℕ → ℕ → Option (List ℕ)
+bytes_from bytes place = if nat_lt place (length bytes) then Some (drop place bytes) else None
+
+-- the characters that a plain stream of a file gives from a position on, each a byte
+abbrev pub bytes_in_target : Target → Bool → List File → ℕ → Option (List ℕ)
+bytes_in_target (from.Window win) unicode fs place = None
+bytes_in_target (from.Memory buf len) unicode fs place = None
+bytes_in_target (from.File usage name) unicode fs place =
+    if unicode then None else bytes_from (content_of fs usage name) place
+
+-- the same of a stream that is open for reading
+abbrev pub bytes_by : List File → Stream → Option (List ℕ)
+bytes_by fs s =
+    if is_read_mode s.mode then bytes_in_target s.target s.unicode fs s.place else None
+
+-- the bytes from the position on of a plain stream of a file that is open for reading; None at its
+-- end, and of each other stream
+abbrev pub bytes_ahead : StreamTable → ℕ → Option (List ℕ)
+bytes_ahead t n = of_stream (stream_at t n) None (λ s. bytes_by t.files s)
+
+-- each of these is a byte
+abbrev pub AreBytes : List ℕ → Type 0
+AreBytes bytes = (k : ℕ) → k < length bytes → slice_index bytes k < 256
+
+-- so many characters more were read, each of which takes one position
+abbrev pub passed_by : ℕ → Stream → Stream
+passed_by count s = record s { read = (s.read + count) % 2 ^ 32; place = s.place + count }
+
+-- the streams behind those bytes, and how many they were
+abbrev pub stream_passed : StreamTable → ℕ → Stream → Option (List ℕ) → StreamTable × ℕ
+stream_passed t n s None = (t, 0)
+stream_passed t n s (Some bytes) = (with_stream t n (passed_by (length bytes) s), length bytes)
+
+-- the bytes ahead read, all of them
+abbrev pub ahead_passed : StreamTable → ℕ → StreamTable × ℕ
+ahead_passed t n = of_stream (stream_at t n) (t, 0) (λ s. stream_passed t n s (bytes_by t.files s))

@@ -4,7 +4,7 @@ use Rattle.vm_memory.specs.MemoryMap.{MemoryMap}
 use Rattle.glk_streams.specs.declared.fault.StreamStop.{StreamStop}
 use Rattle.glk_streams.specs.FileRefs.{made_ref, copied_ref, dropped_ref, deleted, with_current}
 use Rattle.glk_streams.specs.FileRefs.{styled}
-use Rattle.glk_streams.specs.Input.{got}
+use Rattle.glk_streams.specs.Input.{ahead_passed, got}
 use Rattle.glk_streams.specs.Opening.{opened_window, opened_memory, opened_file, closed_stream}
 use Rattle.glk_streams.specs.Opening.{closed_window}
 use Rattle.glk_streams.specs.Output.{put_on_stream}
@@ -35,6 +35,7 @@ pub record KeepsStreamsValid (t : StreamTable) : Type 0 where
   pub close_window : (win : ℕ) → AreValidStreams (closed_window t win).0
   pub write : (m : MemoryMap) (n code : ℕ) → LeavesBeside (put_on_stream t m n code)
   pub read : (m : MemoryMap) (n : ℕ) → LeavesBeside (got t m n)
+  pub ahead : (n : ℕ) → AreValidStreams (ahead_passed t n).0
   pub seek : (n by from : ℕ) → LeavesValidStreams (position_sought t n by from)
   pub style : (n style : ℕ) → LeavesValidStreams (styled t n style)
   pub current : (n : ℕ) → LeavesValidStreams (with_current t n)

@@ -1,8 +1,9 @@
 //! What a character that is read does (Glk 0.7.5, "Streams").
 
-ghost use Rattle.std.specs.Prelude.{◌≡◌, ◌≤◌, ◌<◌, ◌+◌, ◌^◌, IfOk, IfSome};
-ghost use Rattle.std.specs.Prelude.{OnErr};
+ghost use Rattle.std.specs.Prelude.{◌≡◌, ◌≤◌, ◌<◌, ◌+◌, ◌^◌, length, IfOk, IfSome};
+ghost use Rattle.std.specs.Prelude.{MatchOption, None, Some, OnErr};
 ghost use Rattle.glk_streams.specs.Answer.{AnswersOfStreams, GivesWithStreams, TakesNoMemory};
+ghost use Rattle.glk_streams.specs.Answer.{Yields};
 ghost use Rattle.glk_streams.specs.Coding.{unit_of};
 ghost use Rattle.glk_streams.specs.Input as input;
 ghost use Rattle.vm_memory.specs.Access as access;
@@ -67,7 +68,61 @@ fn get_by(files: &[File], memory: &Memory, stream: &Stream) -> Result<Option<Rea
     }
 }
 
+/// The bytes from a position on, if there is one.
+fn bytes_from(bytes: &[u8], place: u32) -> Option<&[u8]>
+    ensures value { MatchOption result (input.bytes_from bytes.now place ≡ None)
+        (λ b. input.bytes_from bytes.now place ≡ Some b.now) }
+    ensures within { IfSome result (λ b. place + length b.now ≤ length bytes.now) }
+{
+    let at = place as usize;
+    if at < bytes.len() {
+        Some(&bytes[at..])
+    } else {
+        None
+    }
+}
+
+/// The bytes from its position on of a plain stream of a file that is open for reading; None at its
+/// end, and of each other stream.
+fn bytes_by<'a>(files: &'a [File], stream: &Stream) -> Option<&'a [u8]>
+    ensures value { MatchOption result (input.bytes_by files.now stream.now ≡ None)
+        (λ b. input.bytes_by files.now stream.now ≡ Some b.now) }
+    ensures within { IfSome result (λ b. stream.now.place + length b.now ≤ 1048576) }
+{
+    if !stream.is_readable() {
+        return None;
+    }
+    match &stream.target {
+        Target::Window(_) => None,
+        Target::Memory { .. } => None,
+        Target::File { usage, name } => {
+            if stream.unicode {
+                return None;
+            }
+            bytes_from(content_of(files, *usage, name), stream.place)
+        }
+    }
+}
+
+/// Each of these is a byte: it costs nothing, and tells a caller's proof.
+fn are_bytes(bytes: &[u8])
+    ensures { input.AreBytes bytes.now }
+{
+    for index in 0..bytes.len() {
+        let _byte = bytes[index];
+    }
+}
+
 impl Stream {
+    /// So many characters more were read, each of which takes one position.
+    fn count_bytes(&mut self, count: u32)
+        requires { self.old.place + count < 2 ^ 32 }
+        ensures { self.new ≡ input.passed_by count self.old }
+    {
+        self.place += count;
+        self.read = self.read.wrapping_add(count);
+    }
+
     /// One character more was read.
     fn count_read(&mut self, reading: Reading)
         requires { self.old.place + reading.steps < 2 ^ 32 }
@@ -94,6 +149,41 @@ impl Streams {
                 Some(reading) => {
                     self.streams[at].count_read(reading);
                     Ok(Some(reading.code))
+                }
+            },
+        }
+    }
+
+    /// The bytes from its position on, one at least, of a plain stream of a file that is open for
+    /// reading: the characters that it gives. None at its end, and of each other stream.
+    pub fn bytes_ahead(&self, stream: u32) -> Option<&[u8]>
+        ensures value { MatchOption result (input.bytes_ahead self.now stream ≡ None)
+            (λ b. input.bytes_ahead self.now stream ≡ Some b.now) }
+        ensures bytes { IfSome result (λ b. input.AreBytes b.now) }
+        ensures within { IfSome result (λ b. length b.now ≤ 1048576) }
+    {
+        match find(&self.streams, stream) {
+            None => None,
+            Some(at) => {
+                let bytes = bytes_by(&self.files, &self.streams[at])?;
+                are_bytes(bytes);
+                Some(bytes)
+            }
+        }
+    }
+
+    /// Reads those bytes, each as a character, to the stream's end; how many they were.
+    pub fn pass_ahead(&mut self, stream: u32) -> u32
+        ensures { Yields (input.ahead_passed self.old stream) self.new result }
+    {
+        match find(&self.streams, stream) {
+            None => 0,
+            Some(at) => match bytes_by(&self.files, &self.streams[at]) {
+                None => 0,
+                Some(bytes) => {
+                    let count = bytes.len() as u32;
+                    self.streams[at].count_bytes(count);
+                    count
                 }
             },
         }

@@ -1,3 +1,4 @@
+pub mod AheadLemmas
 pub mod SaveLemmas
 pub mod TurnLemmas
 pub mod BudgetLemmas

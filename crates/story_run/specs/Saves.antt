@@ -74,15 +74,17 @@ abbrev pub brought_back : Machine → Option Saved → Result Machine ℕ
 brought_back m None = finished m 1
 brought_back m (Some s) = resumed m s
 
--- a restore: what the stream holds from its position on is read, and the state that it spells
--- restored; the result is 1 where it spells none, or the stream isn't live and open for reading. No
--- stream holds more than 2^32 - 1 characters
+-- what the stream holds from its position on is read, and the state that it spells restored; the
+-- result is 1 where it spells none. No stream holds more than 2^32 - 1 characters
+abbrev pub rest_restored : List ℕ → Glk → Machine → ℕ → Reached (Glk × Machine)
+rest_restored image g m n =
+    rest_of_stream 4294967295 g m.memory n []
+    >>= (λ p. within p.0 (brought_back m (state_in image p.1)) >>= (λ k. Ok (p.0, k)))
+
+-- a restore; the result is 1 too where the stream isn't live or not open for reading
 abbrev pub restored : List ℕ → Glk → Machine → ℕ → Reached (Glk × Machine)
 restored image g m n =
-    if is_readable g n
-    then rest_of_stream 4294967295 g m.memory n []
-    >>= (λ p. within p.0 (brought_back m (state_in image p.1)) >>= (λ k. Ok (p.0, k)))
-    else result_stored g m 1
+    if is_readable g n then rest_restored image g m n else result_stored g m 1
 
 -- The call left these, as it should, unless memory ran out.
 abbrev pub LeavesGlkAndMachine : Reached (Glk × Machine) → Glk → Machine → Result (Unit {0}) Trap

@@ -14,7 +14,7 @@ ghost use Rattle.vm_exec.specs.Rows.Undo.{saved_state};
 ghost use Rattle.vm_exec.specs.Start.{IsOver};
 ghost use Rattle.vm_memory.specs.MemoryMap.{KeepsMap};
 
-use glk_dispatch::{Glk, get_code, position, put_code};
+use glk_dispatch::{Glk, get_code, pass_ahead, position, put_code};
 use glulx_image::Image;
 use quetzal::{SaveFault, read, write};
 use std::alloc::Global;
@@ -135,6 +135,47 @@ pub(crate) fn restore<'i>(
     if !is_readable(glk, stream) {
         return machine.finish(alloc, 1);
     }
+    restore_rest(alloc, glk, machine, image, stream)
+}
+
+// The same from a stream that is open for reading. What a file holds is read all at once.
+fn restore_rest<'i>(
+    alloc: Global,
+    glk: &mut Glk,
+    machine: &mut Machine<'i>,
+    image: &Image<'i>,
+    stream: u32,
+) -> Result<(), Trap>
+    requires { IsWaiting image.now machine.old }
+    ensures does { LeavesGlkAndMachine (saves.rest_restored image.now glk.old machine.old stream)
+        glk.new machine.new result }
+    ensures kept { OnOk result (IsWaiting image.now machine.new) }
+    ensures seed { OnOk result (machine.new.random.seed ≡ machine.old.random.seed) }
+{
+    match glk.streams.bytes_ahead(stream) {
+        Some(bytes) => {
+            let done = bring_back(alloc, machine, image, bytes);
+            pass_ahead(glk, stream);
+            done
+        }
+        None => restore_by_characters(alloc, glk, machine, image, stream),
+    }
+}
+
+// The same a character at a time.
+fn restore_by_characters<'i>(
+    alloc: Global,
+    glk: &mut Glk,
+    machine: &mut Machine<'i>,
+    image: &Image<'i>,
+    stream: u32,
+) -> Result<(), Trap>
+    requires { IsWaiting image.now machine.old }
+    ensures does { LeavesGlkAndMachine (saves.rest_restored image.now glk.old machine.old stream)
+        glk.new machine.new result }
+    ensures kept { OnOk result (IsWaiting image.now machine.new) }
+    ensures seed { OnOk result (machine.new.random.seed ≡ machine.old.random.seed) }
+{
     let bytes = rest_of(alloc, glk, &machine.memory, stream)?;
     bring_back(alloc, machine, image, &bytes)
 }
