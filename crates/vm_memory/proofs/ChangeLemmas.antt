@@ -1,7 +1,11 @@
 -- Lemmas on the bytes that differ from the original list.
 use Rattle.std.proofs.Common.{◌≡◌, ◌≢◌, ℕ, ◌+◌, ◌-◌, ◌*◌, ◌/◌, ◌%◌, ◌<◌, ◌≤◌, List, []}
 use Rattle.std.proofs.Common.{length, slice_index, replicate, refl, ap, sym, ◌∙◌, arith}
-use Rattle.std.proofs.Common.{inl, inr, subst}
+use Rattle.std.proofs.Common.{inl, inr, subst, Bool, true, take, drop, nat_eq, slice_range}
+use Rattle.std.specs.List.{starts_with}
+use Rattle.std.proofs.lemmas.Bool.Decides.{Decides-eqb}
+use Rattle.std.proofs.lemmas.Slice.Eq.{starts_is}
+use Rattle.std.proofs.lemmas.List.{get_or-take, get_or-drop, length-take, length-drop}
 use Rattle.std.proofs.lemmas.List.{get_or_append_left, get_or-append_right, get_or-replicate}
 use Rattle.std.proofs.lemmas.List.{get_or_past, get_or_default, length-replicate}
 use Rattle.std.proofs.lemmas.List.{nil_from_length}
@@ -147,3 +151,56 @@ next_change_is rom ramstart rows size endmem from at end e low high same other =
           (sym (byte_laid rom ramstart rows size at 0 (omega (arith, n))) ∙ is
           ∙ sym (original_at rom endmem at));
     }
+
+-- a place of a part, and of a front
+pub part_at : (xs : List ℕ) (a n k : ℕ) → k < n
+    → slice_index (slice_range xs a (a + n)) k ≡ slice_index xs (a + k)
+part_at xs a n k l =
+    get_or-take (a + n - a) (drop a xs) k 0 (omega (arith, l)) ∙ get_or-drop a xs k 0
+
+length_part : (xs : List ℕ) (a n : ℕ) → a + n ≤ length xs
+    → length (slice_range xs a (a + n)) ≡ n
+length_part xs a n l =
+    omega (arith, l, length-take (a + n - a) (drop a xs), length-drop a xs)
+
+-- sixteen bytes that are found the same
+pub sixteen_alike : (xs ys : List ℕ) (at : ℕ) (found : Bool) → at + 16 ≤ length xs
+    → at + 16 ≤ length ys
+    → found ≡ starts_with nat_eq (slice_range xs at (at + 16)) (slice_range ys at (at + 16))
+    → found ≡ true → (k : ℕ) → at ≤ k → k < at + 16 → slice_index xs k ≡ slice_index ys k
+sixteen_alike xs ys at found lx ly e told k low high =
+    let these = slice_range xs at (at + 16) in
+    let those = slice_range ys at (at + 16) in
+    let is = (starts_is Decides-eqb these those found e).0 told in
+    let j = k - at in
+    let n : at + j ≡ k = omega (arith, low) in
+    let inside : j < 16 = omega (arith, low, high) in
+    ap (slice_index xs) (sym n) ∙ sym (part_at xs at 16 j inside)
+    ∙ ap (λ (zs : List ℕ). slice_index zs j) is
+    ∙ get_or_append_left those (drop (length those) these) 0 j
+    (omega (arith, inside, length_part ys at 16 ly))
+    ∙ part_at ys at 16 j inside ∙ ap (slice_index ys) n
+
+-- a page's front that is a part's, up to a place
+pub same_front : (page part rom : List ℕ) (first end from to : ℕ) → to ≤ end
+    → ((k : ℕ) → k < end → slice_index part k ≡ slice_index rom (first + k))
+    → ((k : ℕ) → from ≤ k → k < to → slice_index (take end page) k ≡ slice_index part k)
+    → (k : ℕ) → from ≤ k → k < to → slice_index page k ≡ slice_index rom (first + k)
+same_front page part rom first end from to fits is same k low high =
+    sym (get_or-take end page k 0 (omega (arith, high, fits)))
+    ∙ same k low high ∙ is k (omega (arith, high, fits))
+
+-- the place behind it
+pub other_front : (page part rom : List ℕ) (first end at : ℕ) → at < end
+    → ((k : ℕ) → k < end → slice_index part k ≡ slice_index rom (first + k))
+    → slice_index (take end page) at ≢ slice_index part at
+    → slice_index page at ≢ slice_index rom (first + at)
+other_front page part rom first end at inside is other = λ same.
+    other (get_or-take end page at 0 inside ∙ same ∙ sym (is at inside))
+
+-- zeros, past the file's bytes
+pub zeros_past : (rom : List ℕ) (first end n k : ℕ) → length rom ≤ first → k < end
+    → slice_index (take end (replicate n 0)) k ≡ slice_index rom (first + k)
+zeros_past rom first end n k past inside =
+    get_or-take end (replicate n 0) k 0 inside ∙ zero_at n k
+    ∙ sym (get_or_past rom (first + k) 0 (omega (arith, past)))

@@ -1,7 +1,7 @@
 //! Where memory differs from the original list.
 
 ghost use Rattle.std.specs.Prelude.{◌≡◌, ◌≢◌, ◌≤◌, ◌<◌, ◌+◌, ◌/◌, [], ◌∷◌, ℕ, length};
-ghost use Rattle.std.specs.Prelude.{slice_index, OnErr, OnOk};
+ghost use Rattle.std.specs.Prelude.{slice_index, true, OnErr, OnOk};
 ghost use Rattle.vm_memory.specs.Access.{with_bytes};
 ghost use Rattle.std.specs.Int.RustNames.{bit_xor};
 ghost use Rattle.vm_memory.specs.MemoryMap.{IsNextChange, original_byte};
@@ -73,9 +73,63 @@ fn unheld_end(rows: &[Row], at: u32) -> u32
     at
 }
 
-/// The first place of a page from this one on, and before the end, whose byte isn't the image's;
-/// the end where there is none.
-fn changed_in(rom: &[u8], page: &[u8], first: u32, from: usize, end: usize) -> usize
+// Zeros, as the original list has them past the file's bytes.
+const ZEROS: [u8; 256] = [0; 256];
+
+// Whether sixteen bytes at a place of one slice stand there in the other.
+#[inline(always)]
+#[tactic(auto, using(crate::proofs::ChangeLemmas::sixteen_alike))]
+fn are_alike(these: &[u8], those: &[u8], at: usize) -> bool
+    requires these { at + 16 ≤ length these.now }
+    requires those { at + 16 ≤ length those.now }
+    ensures { result ≡ true → (k : ℕ) → at ≤ k → k < at + 16
+        → slice_index these.now k ≡ slice_index those.now k }
+{
+    these[at..at + 16].starts_with(&those[at..at + 16])
+}
+
+// A place from this one on below which two slices are the same.
+#[inline(always)]
+fn passed(these: &[u8], those: &[u8], from: usize) -> usize
+    requires alike { length these.now ≡ length those.now }
+    requires few { from ≤ length these.now }
+    ensures from { from ≤ result }
+    ensures within { result ≤ length these.now }
+    ensures same { (k : ℕ) → from ≤ k → k < result
+        → slice_index these.now k ≡ slice_index those.now k }
+{
+    let mut at = from;
+    while these.len() - at >= 16 {
+        if !are_alike(these, those, at) {
+            return at;
+        }
+        at += 16;
+    }
+    at
+}
+
+// The first place from this one on at which two slices differ; their length where there is none.
+fn first_other(these: &[u8], those: &[u8], from: usize) -> usize
+    requires alike { length these.now ≡ length those.now }
+    requires few { from ≤ length these.now }
+    ensures from { from ≤ result }
+    ensures within { result ≤ length these.now }
+    ensures same { (k : ℕ) → from ≤ k → k < result
+        → slice_index these.now k ≡ slice_index those.now k }
+    ensures other { result < length these.now
+        → slice_index these.now result ≢ slice_index those.now result }
+{
+    let start = passed(these, those, from);
+    for k in start..these.len() {
+        if these[k] != those[k] {
+            return k;
+        }
+    }
+    these.len()
+}
+
+// The same of a page and the image's bytes, one by one, where the file ends in the page.
+fn changed_across(rom: &[u8], page: &[u8], first: u32, from: usize, end: usize) -> usize
     requires limit { first ≤ 16777216 }
     requires few { from ≤ end }
     requires held { end ≤ length page.now }
@@ -93,6 +147,30 @@ fn changed_in(rom: &[u8], page: &[u8], first: u32, from: usize, end: usize) -> u
         }
     }
     end
+}
+
+/// The first place of a page from this one on, and before the end, whose byte isn't the image's;
+/// the end where there is none.
+fn changed_in(rom: &[u8], page: &[u8], first: u32, from: usize, end: usize) -> usize
+    requires limit { first ≤ 16777216 }
+    requires few { from ≤ end }
+    requires held { end ≤ length page.now }
+    requires page { end ≤ 256 }
+    ensures from { from ≤ result }
+    ensures within { result ≤ end }
+    ensures same { (k : ℕ) → from ≤ k → k < result
+        → slice_index page.now k ≡ slice_index rom.now (first + k) }
+    ensures other { result < end
+        → slice_index page.now result ≢ slice_index rom.now (first + result) }
+{
+    let start = first as usize;
+    if start + end <= rom.len() {
+        return first_other(&page[..end], &rom[start..start + end], from);
+    }
+    if rom.len() <= start {
+        return first_other(&page[..end], &ZEROS[..end], from);
+    }
+    changed_across(rom, page, first, from, end)
 }
 
 /// The first address from this one on, and before the size, whose byte isn't the image's; the size

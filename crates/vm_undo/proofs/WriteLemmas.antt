@@ -125,6 +125,17 @@ coded_change m k at l ram below other =
     ∙ ap (λ (i : ℕ). d ∷ drop i (changes m)) f)
     ∙ rw some refl
 
+-- a change behind a change
+pub coded_literal : (m : MemoryMap) (at : ℕ) → length m.rom ≤ length m.bytes → m.ramstart ≤ at
+    → at < length m.bytes → bit_xor (original_byte m at) (slice_index m.bytes at) ≢ 0
+    → runs_coded 0 (drop (at - m.ramstart) (changes m))
+    ≡ bit_xor (original_byte m at) (slice_index m.bytes at)
+    ∷ runs_coded 0 (drop (at + 1 - m.ramstart) (changes m))
+unfolding zeros
+coded_literal m at l ram below some =
+    coded_change m 0 at l ram below (λ same. some (ap (bit_xor (original_byte m at)) same
+    ∙ xor_self (original_byte m at)))
+
 -- what the writer has written, and what is left, behind a change
 pub written_more : (out was now new left rest all : List ℕ) (d : ℕ)
     → out ++ left ≡ all → left ≡ was ++ (d ∷ rest) → now ≡ out ++ was → new ≡ now ++ d ∷ []

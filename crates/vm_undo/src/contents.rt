@@ -15,23 +15,41 @@ use std::alloc::{AllocError, Global};
 use vm_memory::{MAX_SIZE, Memory};
 
 /// The contents of the CMem chunk of a memory, in the one coding that is written. It looks at the
-/// pages that differ alone. The error is want of memory.
+/// pages that differ alone, and keeps no room for more. The error is want of memory.
 pub fn cmem_write(alloc: Global, memory: &Memory<'_>) -> Result<Vec<u8>, AllocError>
+    ensures value { IfOk result (λ v. v.items ≡ contents memory.now) }
+{
+    let mut contents = coded(alloc, memory)?;
+    contents.shrink_to_fit();
+    Ok(contents)
+}
+
+// How many bytes contents get room for before they are written.
+const ROOM: usize = 256;
+
+// The same, in a vector that may have room for more.
+fn coded(alloc: Global, memory: &Memory<'_>) -> Result<Vec<u8>, AllocError>
     ensures value { IfOk result (λ v. v.items ≡ contents memory.now) }
 {
     let size = memory.size();
     let _rom = memory.rom();
-    let mut out = Vec::new(alloc);
+    let mut out = Vec::with_capacity(alloc, ROOM)?;
     out.extend_from_slice(&size.to_be_bytes())?;
     let mut at = memory.ramstart();
     while at < size {
-        let next = memory.next_change(at);
-        if next == size {
-            return Ok(out);
+        let change = memory.change1(at);
+        if change != 0 {
+            out.push(change)?;
+            at += 1;
+        } else {
+            let next = memory.next_change(at);
+            if next == size {
+                return Ok(out);
+            }
+            push_zeros(&mut out, next - at)?;
+            out.push(memory.change1(next))?;
+            at = next + 1;
         }
-        push_zeros(&mut out, next - at)?;
-        out.push(memory.change1(next))?;
-        at = next + 1;
     }
     Ok(out)
 }

@@ -1,7 +1,7 @@
 use Rattle.std.proofs.Common.{◌≡◌, ◌≤◌, ◌-◌, ◌++◌, drop}
 use Rattle.vm_undo.specs.Contents.{changes, contents}
 use Rattle.vm_undo.specs.Runs.{runs_coded}
-use Rattle.vm_undo.proofs.contents.cmem_write.Given as goal
+use Rattle.vm_undo.proofs.contents.coded.Given as goal
 
 abbrev pub invariant-loop-at : goal.invariant-loop-at
 invariant-loop-at l = record {
