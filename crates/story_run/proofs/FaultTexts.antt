@@ -139,15 +139,17 @@ got_array-called : (left : ℕ) (line u : Bool) (g : Glk) (m : MemoryMap) (n at 
 unfolding rows.got_array
 got_array-called zero line u g m n at count = fails-ok
 got_array-called (suc left) line u g m n at count =
-    fails-bind (item-called u g m n at) (λ p. on p.2 p.0 p.1)
+    fails-bind (item-called u g m n at)
+    (λ p. on p.2 p.0 p.1 (λ count.
+    got_array-called left line u p.0 p.1 n ((at + delivery.width u) % 2 ^ 32) count))
   where
     on : (o : Option ℕ) (h : Glk) (k : MemoryMap)
+        → ((count : ℕ) → Called (rows.got_array left line u h k n
+        ((at + delivery.width u) % 2 ^ 32) count))
         → Called (rows.got_on (λ h k c. rows.got_array left line u h k n
         ((at + delivery.width u) % 2 ^ 32) c) line h k count o)
-    on None h k = fails-ok
-    on (Some code) h k =
-        fails-if (line && code == 10) fails-ok
-        (got_array-called left line u h k n ((at + delivery.width u) % 2 ^ 32) (count + 1))
+    on None h k more = fails-ok
+    on (Some code) h k more = fails-if (line && code == 10) fails-ok (more (count + 1))
 
 got_line-called : (u : Bool) (g : Glk) (m : MemoryMap) (n buf len : ℕ)
     → Called (rows.got_line u g m n buf len)

@@ -82,12 +82,13 @@ rest-called : (most : ℕ) (g : Glk) (m : MemoryMap) (n : ℕ) (bytes : List ℕ
 unfolding saves.rest_of_stream
 rest-called zero g m n bytes = fails-ok
 rest-called (suc most) g m n bytes =
-    fails-bind (got-called g m n) (λ p. on p.1 p.0)
+    fails-bind (got-called g m n) (λ p. on p.1 p.0 (λ read. rest-called most p.0 m n read))
   where
     on : (o : Option ℕ) (h : Glk)
+        → ((read : List ℕ) → Called (saves.rest_of_stream most h m n read))
         → Called (saves.rest_on (λ k read. saves.rest_of_stream most k m n read) h bytes o)
-    on None h = fails-ok
-    on (Some code) h = rest-called most h m n (bytes ++ (code_taken false code ∷ []))
+    on None h more = fails-ok
+    on (Some code) h more = more (bytes ++ (code_taken false code ∷ []))
 
 back-numbered : (m : Machine) (o : Option Saved) → Numbered (saves.brought_back m o)
 back-numbered m None = of-finished m 1
@@ -167,11 +168,13 @@ steps-numbered image zero left r = known refl
 steps-numbered image (suc n) left r =
     after (s.stepped image left r.glk (step_within left (row r.machine)))
     (stepped-next image left r.glk (step_within left (row r.machine)) (of-step left r.machine))
+    (λ l q. steps-numbered image n l q)
   where
     after : (x : Next) → NextNumbered x
+        → ((l : ℕ) (q : Running) → EndsNumbered (turn.steps image n l q).1)
         → EndsNumbered (turn.after_step (turn.steps image n) x).1
-    after (Runs l q) h = steps-numbered image n l q
-    after (Rests g t) h = h
+    after (Runs l q) h more = more l q
+    after (Rests g t) h more = h
 
 rest-numbered : (image : List ℕ) (budget : ℕ) (r : Running)
     → EndsNumbered (turn.rest image budget r).1
