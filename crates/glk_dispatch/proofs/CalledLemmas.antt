@@ -7,8 +7,8 @@ use Rattle.vm_memory.specs.MemoryMap.{MemoryMap, KeepsMap}
 use Rattle.vm_memory.specs.declared.fault.Trap.{Trap}
 use Rattle.vm_memory.specs.declared.fault.Trap.TheVariants.{Fault, NoMemory}
 use Rattle.vm_stack.specs.StackState.{StackState}
-use Rattle.glk_input.specs.declared.input.Input.{Input}
-use Rattle.glk_input.specs.declared.input.Input.TheVariants as input
+use Rattle.story_text.specs.declared.input.Input.{Input}
+use Rattle.story_text.specs.declared.input.Input.TheVariants as input
 use Rattle.glk_dispatch.specs.Answer.{AnswersOverGlk, GlkCall, DoesCall}
 use Rattle.glk_dispatch.specs.Answer.{LeavesGlkAndMemory as LeavesPut, Reached}
 use Rattle.glk_dispatch.specs.Answer.{CallRule, UnlessNoMemory, glk_call}

@@ -19,8 +19,8 @@ use Rattle.glk_input.specs.Delivery as delivery
 use Rattle.glk_input.specs.Request as request
 use Rattle.glk_input.specs.Valid.{are_valid_inputs}
 use Rattle.glk_input.specs.declared.event.Event.{Event}
-use Rattle.glk_input.specs.declared.input.Input.{Input}
-use Rattle.glk_input.specs.declared.input.Input.TheVariants as input
+use Rattle.story_text.specs.declared.input.Input.{Input}
+use Rattle.story_text.specs.declared.input.Input.TheVariants as input
 use Rattle.glk_input.specs.declared.request.Request.{Request}
 use Rattle.glk_input.specs.declared.request.Request.TheVariants.{Line, Char}
 use Rattle.glk_input.specs.declared.request.WindowInput.{WindowInput}

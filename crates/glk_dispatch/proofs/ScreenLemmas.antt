@@ -9,8 +9,8 @@ use Rattle.glk_windows.specs.declared.window.Content.TheVariants.{Pair, Blank, B
 use Rattle.glk_windows.specs.declared.window.Grid as g
 use Rattle.glk_windows.specs.declared.window.Window.{Window}
 use Rattle.glk_windows.proofs.RectangleLemmas.{read_placed}
-use Rattle.glk_input.specs.declared.input.Input.{Input}
-use Rattle.glk_input.specs.declared.input.Input.TheVariants as input
+use Rattle.story_text.specs.declared.input.Input.{Input}
+use Rattle.story_text.specs.declared.input.Input.TheVariants as input
 use Rattle.glk_input.specs.declared.request.WindowInput.{WindowInput}
 use Rattle.glk_dispatch.specs.Answer.{Reached}
 use Rattle.glk_dispatch.specs.Events.{screen_after}

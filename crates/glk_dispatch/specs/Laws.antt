@@ -7,8 +7,8 @@ use Rattle.glk_windows.specs.declared.window.Content.{Content}
 use Rattle.glk_windows.specs.declared.window.Content.TheVariants.{Pair, Blank, Buffer, Grid}
 use Rattle.glk_windows.specs.declared.window.Window.{Window}
 use Rattle.glk_input.specs.Request.{arrange_event}
-use Rattle.glk_input.specs.declared.input.Input.{Input}
-use Rattle.glk_input.specs.declared.input.Input.TheVariants.{Size}
+use Rattle.story_text.specs.declared.input.Input.{Input}
+use Rattle.story_text.specs.declared.input.Input.TheVariants.{Size}
 use Rattle.glk_dispatch.specs.Answer.{GlkCall, Reached}
 use Rattle.glk_dispatch.specs.Call.{selector_called}
 use Rattle.glk_dispatch.specs.Events.{event_words, input_answered}

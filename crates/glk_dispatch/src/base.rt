@@ -10,7 +10,7 @@ ghost use Rattle.vm_memory.specs.Fault.{coded};
 use crate::arguments::MAX_ARGUMENTS;
 use crate::called::Called;
 use crate::glk::Glk;
-use glk_input::keycode::{is_keycode, is_terminator};
+use story_text::keycode::{is_keycode, is_terminator};
 use vm_memory::{Memory, Trap};
 use vm_stack::Stack;
 

@@ -14,9 +14,9 @@ use crate::events::{INPUT, NEWLINE, tell_event};
 use crate::filerefs::answer_prompt;
 use crate::glk::Glk;
 use crate::output::echo_put;
-use glk_input::{Event, Input, LineRequest, Request};
+use glk_input::{Event, LineRequest, Request};
 use std::alloc::Global;
-use story_text::Text;
+use story_text::{Input, Text};
 use vm_memory::{Memory, Trap};
 use vm_stack::Stack;
 

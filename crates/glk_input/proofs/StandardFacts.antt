@@ -1,14 +1,14 @@
 -- Values that the header of Glk and the rules of its input give, said of the definitions.
 use Rattle.std.specs.Prelude.{◌≡◌, [], ◌∷◌, true, false, map, Some, Ok}
 use Rattle.std.proofs.Common.{refl}
-use Rattle.glk_input.specs.Keycode.{is_keycode, is_terminator}
-use Rattle.glk_input.specs.declared.keycode.TheConstants.{UNKNOWN, LEFT, RIGHT, UP, DOWN, RETURN}
-use Rattle.glk_input.specs.declared.keycode.TheConstants.{DELETE, ESCAPE, TAB, PAGE_UP, PAGE_DOWN}
-use Rattle.glk_input.specs.declared.keycode.TheConstants.{HOME, END, FUNC1, FUNC12}
+use Rattle.story_text.specs.Keycode.{is_keycode, is_terminator}
+use Rattle.story_text.specs.declared.keycode.TheConstants.{UNKNOWN, LEFT, RIGHT, UP, DOWN, RETURN}
+use Rattle.story_text.specs.declared.keycode.TheConstants.{DELETE, ESCAPE, TAB, PAGE_UP, PAGE_DOWN}
+use Rattle.story_text.specs.declared.keycode.TheConstants.{HOME, END, FUNC1, FUNC12}
 use Rattle.glk_input.specs.Request.{cancelled}
 use Rattle.vm_memory.specs.MemoryMap.{MemoryMap}
 use Rattle.glk_input.specs.Delivery.{delivered, taken_key, taken_line, wants, wants_line}
-use Rattle.glk_input.specs.declared.input.Input.TheVariants.{Size}
+use Rattle.story_text.specs.declared.input.Input.TheVariants.{Size}
 use Rattle.glk_input.specs.declared.request.LineRequest.{LineRequest}
 use Rattle.glk_input.specs.declared.request.Request.TheVariants.{Line, Char}
 

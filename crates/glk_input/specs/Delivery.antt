@@ -10,12 +10,12 @@ use Rattle.vm_memory.specs.MemoryMap.{MemoryMap}
 use Rattle.vm_memory.specs.declared.fault.MemFault.{MemFault}
 use Rattle.vm_memory.specs.declared.fault.MemStop.{MemStop}
 use Rattle.vm_memory.specs.declared.fault.MemStop.TheVariants as stop
-use Rattle.glk_input.specs.Keycode.{is_keycode}
+use Rattle.story_text.specs.Keycode.{is_keycode}
 use Rattle.glk_input.specs.Request.{window_input_changed, request_ended, window_request, no_event}
 use Rattle.glk_input.specs.Request.{line_event, char_event, arrange_event}
 use Rattle.glk_input.specs.declared.event.Event.{Event}
-use Rattle.glk_input.specs.declared.input.Input.{Input}
-use Rattle.glk_input.specs.declared.input.Input.TheVariants as input
+use Rattle.story_text.specs.declared.input.Input.{Input}
+use Rattle.story_text.specs.declared.input.Input.TheVariants as input
 use Rattle.glk_input.specs.declared.request.LineRequest.{LineRequest}
 use Rattle.glk_input.specs.declared.request.Request.{Request}
 use Rattle.glk_input.specs.declared.request.Request.TheVariants.{Line, Char}

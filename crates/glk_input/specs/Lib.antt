@@ -1,4 +1,3 @@
-pub mod Keycode
 pub mod Request
 pub mod Delivery
 pub mod Valid

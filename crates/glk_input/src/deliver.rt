@@ -8,10 +8,9 @@ ghost use Rattle.glk_input.specs.Delivery as delivery;
 ghost use Rattle.glk_input.specs.Request as request;
 
 use crate::event::Event;
-use crate::input::Input;
 use crate::request::{LineRequest, Request, take_code, take_key};
 use crate::requests::{Change, Requests};
-use story_text::Text;
+use story_text::{Input, Text};
 use vm_memory::{MemStop, Memory};
 
 impl Requests {

@@ -3,8 +3,6 @@
 
 mod deliver;
 mod event;
-mod input;
-pub mod keycode;
 mod keys;
 mod laws;
 mod request;
@@ -12,7 +10,6 @@ mod requests;
 mod valid;
 
 pub use event::Event;
-pub use input::Input;
 pub use keys::{Keys, MAX_KEYS};
 pub use laws::windows_stay_valid;
 pub use request::{LineRequest, Request, WindowInput};

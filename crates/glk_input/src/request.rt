@@ -5,11 +5,11 @@ ghost use Rattle.std.specs.Str.{chars};
 ghost use Rattle.glk_input.specs.Delivery as delivery;
 ghost use Rattle.glk_input.specs.Request as request;
 
-use crate::keycode::{RETURN, is_keycode};
 use crate::keys::Keys;
 use glk_numbers::Numbered;
 use std::alloc::{AllocError, Global};
 use story_text::Text;
+use story_text::keycode::{RETURN, is_keycode};
 
 const NEWLINE: u32 = 10;
 

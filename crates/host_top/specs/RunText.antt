@@ -1,6 +1,6 @@
 -- The output of `run`, which plays one story alone (own).
 use Rattle.std.specs.Prelude.{ℕ, if◌then◌else◌, List, ◌++◌, Option, None, Some, codes}
-use Rattle.glk_input.specs.declared.input.Input.{Input}
+use Rattle.story_text.specs.declared.input.Input.{Input}
 use Rattle.line_words.specs.Play.{play_of}
 use Rattle.story_run.specs.Solo.{opening, is_wanted, world_after_input, is_over, last_lines}
 use Rattle.story_run.specs.World.{WorldState}

@@ -8,13 +8,13 @@ ghost use Rattle.line_talk.specs.Lines.{IsHeard};
 ghost use Rattle.host_top.specs.RunText.{show_text, input_next, input_reply};
 ghost use Rattle.host_top.specs.RunText.{line_next, line_reply};
 
-use glk_input::Input;
 use line_talk::{Answers, Sink, Stop, write_all};
 use line_words::{LineFault, read_play};
 use std::alloc::{AllocError, Global};
 use std::marker::{Brand, Model};
 use std::sync::ledger::{Blank, Ledger};
 use story_run::{Steps, World};
+use story_text::Input;
 
 /// Writes a show and the line that ends it.
 pub fn say<K: Sink>(output: &mut K, world: &World<'_>) -> Result<(), Stop>

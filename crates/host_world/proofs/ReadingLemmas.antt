@@ -25,7 +25,7 @@ use Rattle.gate_journal.specs.declared.command.Command.TheVariants.{Char, Close,
 use Rattle.gate_journal.specs.declared.command.Command.TheVariants.{Size}
 use Rattle.gate_journal.specs.declared.row.Row.{Row}
 use Rattle.line_words.specs.Field.{is_key}
-use Rattle.glk_input.specs.Keycode.{is_terminator}
+use Rattle.story_text.specs.Keycode.{is_terminator}
 use Rattle.line_words.specs.Keycode.{is_code}
 use Rattle.story_text.specs.Text.{IsText, is_short}
 use Rattle.host_world.specs.Reading.{begins_with, command_in, has_row, is_command, is_text}

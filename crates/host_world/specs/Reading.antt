@@ -5,7 +5,7 @@ use Rattle.std.specs.Prelude.{slice_index, Option, Some, None}
 use Rattle.std.specs.Str.{all_scalars, bytes_eq}
 use Rattle.story_text.specs.Text.{is_short}
 use Rattle.line_words.specs.Field.{is_key}
-use Rattle.glk_input.specs.Keycode.{is_terminator}
+use Rattle.story_text.specs.Keycode.{is_terminator}
 use Rattle.line_words.specs.Keycode.{is_code}
 use Rattle.gate_journal.specs.declared.command.Command.{Command}
 use Rattle.gate_journal.specs.declared.command.Command.TheVariants.{Open, Line, Char, File, Close}

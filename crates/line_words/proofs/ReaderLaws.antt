@@ -9,7 +9,7 @@ use Rattle.story_text.specs.Reading.{text_of}
 use Rattle.story_text.specs.Escape as texts
 use Rattle.story_text.specs.Laws.{AreVisible}
 use Rattle.story_text.proofs.TextLaws.{each_spelling, spells_only, visible_only}
-use Rattle.glk_input.specs.Keycode.{is_terminator}
+use Rattle.story_text.specs.Keycode.{is_terminator}
 use Rattle.line_words.specs.Keycode.{is_code}
 use Rattle.line_words.specs.Reading.{Reader, ◌>>=◌, ◌then◌, at_end, whole, made_if_read}
 use Rattle.line_words.specs.Field.{word_at, is_letter, are_letters, is_key, checked}

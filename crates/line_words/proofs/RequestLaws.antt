@@ -9,8 +9,8 @@ use Rattle.line_words.specs.declared.request.Request.{Request}
 use Rattle.line_words.specs.declared.request.Request.TheVariants.{Open, Line, Char}
 use Rattle.line_words.specs.declared.request.Request.TheVariants.{File, Size, Last, Close}
 use Rattle.line_words.specs.declared.request.Request.TheVariants.{Watch}
-use Rattle.glk_input.specs.declared.input.Input.{Input}
-use Rattle.glk_input.specs.declared.input.Input.TheVariants as plays
+use Rattle.story_text.specs.declared.input.Input.{Input}
+use Rattle.story_text.specs.declared.input.Input.TheVariants as plays
 use Rattle.line_words.specs.Keycode.{is_code}
 use Rattle.line_words.specs.Reading.{Reader, whole, made_if_read}
 use Rattle.line_words.specs.Field.{behind_name, fields_or, fields_named}

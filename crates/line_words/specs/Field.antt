@@ -4,7 +4,7 @@ use Rattle.std.specs.Prelude.{◌==◌, nat_le, nat_lt, if◌then◌else◌, Lis
 use Rattle.std.specs.Prelude.{length, Option, Some, None}
 use Rattle.story_text.specs.Reading.{text_of}
 use Rattle.line_words.specs.Reading.{Reader, ◌>>=◌}
-use Rattle.glk_input.specs.Keycode.{is_terminator}
+use Rattle.story_text.specs.Keycode.{is_terminator}
 use Rattle.line_words.specs.Keycode.{is_code}
 
 -- the bytes up to the first space

@@ -1,6 +1,6 @@
 -- What a character request may be given (Glk 0.7.5, "Character Input").
 use Rattle.std.specs.Prelude.{ℕ, Bool, ◌&&◌, ◌||◌, nat_lt, nat_le}
-use Rattle.glk_input.specs.Keycode.{is_keycode}
+use Rattle.story_text.specs.Keycode.{is_keycode}
 
 -- a Unicode scalar value
 abbrev pub is_scalar : ℕ → Bool

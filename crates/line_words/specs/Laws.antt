@@ -1,7 +1,7 @@
 -- What ties the reading of lines to their spellings (own).
 use Rattle.std.specs.Prelude.{◌≡◌, ℕ, List, Some}
 use Rattle.line_words.specs.declared.request.Request.{Request}
-use Rattle.glk_input.specs.declared.input.Input.{Input}
+use Rattle.story_text.specs.declared.input.Input.{Input}
 use Rattle.line_words.specs.Request.{request_of}
 use Rattle.line_words.specs.Play.{play_of}
 use Rattle.line_words.specs.Spelling.{SpellsRequest, SpellsPlay, IsRequest, IsLineOf, print_request}

@@ -4,8 +4,8 @@ use Rattle.std.specs.Prelude.{nat_lt, take, slice_index, if◌then◌else◌, Li
 use Rattle.std.specs.Prelude.{None, codes}
 use Rattle.line_words.specs.declared.fault.LineFault.{LineFault}
 use Rattle.line_words.specs.declared.fault.LineFault.TheVariants.{BadLine, LongLine, NoMemory}
-use Rattle.glk_input.specs.declared.input.Input.{Input}
-use Rattle.glk_input.specs.declared.input.Input.TheVariants.{Line, Char, File, Size}
+use Rattle.story_text.specs.declared.input.Input.{Input}
+use Rattle.story_text.specs.declared.input.Input.TheVariants.{Line, Char, File, Size}
 use Rattle.line_words.specs.Reading.{Reader, ◌then◌, whole, made_if_read}
 use Rattle.line_words.specs.Field.{number_between, text_at, code_at, terminator_at, fields_named}
 

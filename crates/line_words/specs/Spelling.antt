@@ -8,9 +8,9 @@ use Rattle.story_text.specs.Escape as texts
 use Rattle.line_words.specs.declared.request.Request.{Request}
 use Rattle.line_words.specs.declared.request.Request.TheVariants.{Open, Line, Char, File, Size}
 use Rattle.line_words.specs.declared.request.Request.TheVariants.{Last, Close, Watch}
-use Rattle.glk_input.specs.declared.input.Input.{Input}
-use Rattle.glk_input.specs.declared.input.Input.TheVariants as plays
-use Rattle.glk_input.specs.Keycode.{is_terminator}
+use Rattle.story_text.specs.declared.input.Input.{Input}
+use Rattle.story_text.specs.declared.input.Input.TheVariants as plays
+use Rattle.story_text.specs.Keycode.{is_terminator}
 use Rattle.line_words.specs.Keycode.{is_code}
 use Rattle.line_words.specs.Field.{is_key, is_watch_word}
 

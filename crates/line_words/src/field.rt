@@ -10,8 +10,8 @@ ghost use Rattle.line_words.specs.Reading.{GivesLineReading, at_end};
 use crate::fault::LineFault;
 use crate::key::{Key, is_key, is_watch_word};
 use crate::number::number_of;
-use glk_input::keycode::{is_keycode, is_terminator};
 use std::alloc::Global;
+use story_text::keycode::{is_keycode, is_terminator};
 use story_text::{Text, read_escaped};
 
 /// The word at the front, and the bytes from the first space on.

@@ -13,8 +13,6 @@ mod request;
 
 pub use fault::LineFault;
 pub use field::is_code;
-pub use glk_input::Input as Play;
-pub use glk_input::keycode::is_terminator;
 pub use key::{Key, is_key, is_watch_word};
 pub use laws::{
     prints_spellings, reads_each_play, reads_each_request, reads_plays_only, reads_requests_only,
@@ -23,3 +21,5 @@ pub use play::read_play;
 pub use read::read_request;
 pub use reply::{No, Reply, push_show, write_reply};
 pub use request::Request;
+pub use story_text::Input as Play;
+pub use story_text::keycode::is_terminator;

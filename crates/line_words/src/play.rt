@@ -8,9 +8,8 @@ ghost use Rattle.line_words.specs.Play.{spelled_play, without_cr, play_of, Refus
 
 use crate::fault::LineFault;
 use crate::field::{after, at_end, code_at, terminator_at, text_at, u8_at, u32_at};
-use glk_input::Input;
 use std::alloc::Global;
-use story_text::Text;
+use story_text::{Input, Text};
 
 /// The most bytes of a line without its LF.
 pub const MAX_LINE: usize = 2047;

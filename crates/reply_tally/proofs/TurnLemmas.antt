@@ -1,7 +1,7 @@
 -- Each show of a session is one that was written, or the line of a closed session.
 use Rattle.std.proofs.Common.{ℕ, Bool, true, false, cond, List, [], ◌∷◌, Option, Some, None}
 use Rattle.std.specs.List.{filter_map}
-use Rattle.glk_input.specs.declared.input.Input.{Input}
+use Rattle.story_text.specs.declared.input.Input.{Input}
 use Rattle.glk_dispatch.specs.Glk.{empty_screen}
 use Rattle.glk_dispatch.specs.declared.glk.Glk.{Glk}
 use Rattle.vm_exec.specs.Start.{started}

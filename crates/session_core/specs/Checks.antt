@@ -3,7 +3,7 @@ use Rattle.std.specs.Prelude.{ℕ, ◌+◌, Bool, true, false, ◌&&◌, ◌||�
 use Rattle.std.specs.Prelude.{nat_lt, nat_le, List, [], ◌∷◌, length, is_none, Option, Some}
 use Rattle.std.specs.Prelude.{None}
 use Rattle.std.specs.Str.{bytes_eq}
-use Rattle.glk_input.specs.declared.input.Input.{Input}
+use Rattle.story_text.specs.declared.input.Input.{Input}
 use Rattle.gate_journal.specs.declared.command.Command.{Command}
 use Rattle.gate_journal.specs.declared.command.Command.TheVariants as commands
 use Rattle.line_words.specs.declared.request.Request.{Request}

@@ -8,11 +8,11 @@ ghost use Rattle.session_core.specs.Turns.{turns_on, turns_by, turns_of, RisesBy
 
 use crate::history::story_at;
 use gate_journal::Command;
-use glk_input::Input;
 use std::alloc::{AllocError, Global};
 use std::marker::Brand;
 use std::sync::ledger::{Blank, Ledger};
 use story_run::{Setup, Steps, Story, World};
+use story_text::Input;
 
 /// What a command gives the story.
 pub fn input_of(alloc: Global, command: &Command) -> Result<Option<Input>, AllocError>

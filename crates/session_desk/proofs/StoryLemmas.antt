@@ -4,7 +4,7 @@ use Rattle.std.proofs.Common.{IsSome, refl}
 use Rattle.gate_journal.specs.Rows.{is_open}
 use Rattle.gate_journal.specs.declared.command.Command.{Command}
 use Rattle.gate_journal.specs.declared.command.Command.TheVariants as commands
-use Rattle.glk_input.specs.declared.input.Input.{Input}
+use Rattle.story_text.specs.declared.input.Input.{Input}
 use Rattle.story_run.specs.declared.setup.Setup.{Setup}
 use Rattle.story_run.specs.declared.story.Story.{Story}
 use Rattle.story_run.specs.World.{WorldState}

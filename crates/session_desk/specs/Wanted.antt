@@ -1,7 +1,7 @@
 -- Whether a story takes what a request gives it (own).
 use Rattle.std.specs.Prelude.{[], ◌∷◌, Option, Some, None}
-use Rattle.glk_input.specs.declared.input.Input.{Input}
-use Rattle.glk_input.specs.declared.input.Input.TheVariants as inputs
+use Rattle.story_text.specs.declared.input.Input.{Input}
+use Rattle.story_text.specs.declared.input.Input.TheVariants as inputs
 use Rattle.line_words.specs.declared.request.Request.{Request}
 use Rattle.line_words.specs.declared.request.Request.TheVariants.{Open, Line, Char, File, Size}
 use Rattle.line_words.specs.declared.request.Request.TheVariants.{Last, Close, Watch}

@@ -3,11 +3,10 @@
 ghost use Rattle.std.specs.Prelude.{◌≡◌, [], Some};
 ghost use Rattle.session_desk.specs.Wanted.{outline, declines, request_input};
 
-use glk_input::Input;
 use line_words::{No, Request};
 use std::alloc::Global;
 use story_run::World;
-use story_text::Text;
+use story_text::{Input, Text};
 
 /// A text of no characters, which takes no memory.
 fn no_text(alloc: Global) -> Text

@@ -3,7 +3,7 @@ use Rattle.std.proofs.Common.{◌≡◌, ◌∙◌, ◌++◌, ◌-◌, ◌==◌,
 use Rattle.std.proofs.Common.{List, [], ◌∷◌, length, take, drop, filter, replicate, cond}
 use Rattle.std.proofs.Common.{Option, Some, None, refl, ap}
 use Rattle.std.proofs.lemmas.List.{length-drop}
-use Rattle.glk_input.specs.declared.input.Input.{Input}
+use Rattle.story_text.specs.declared.input.Input.{Input}
 use Rattle.gate_journal.specs.declared.command.Command.{Command}
 use Rattle.gate_journal.specs.declared.command.Command.TheVariants.{Open, Line}
 use Rattle.story_run.specs.declared.story.Story.{Story}

@@ -2,7 +2,7 @@
 use Rattle.std.proofs.Common.{◌≡◌, ◌∙◌, ◌+◌, ℕ, Bool, false, List, length, take, drop, Option, Some}
 use Rattle.std.proofs.Common.{None, inl, inr, refl, sym, ap, subst, arith}
 use Rattle.std.specs.Prelude.{IfSome}
-use Rattle.glk_input.specs.declared.input.Input.{Input}
+use Rattle.story_text.specs.declared.input.Input.{Input}
 use Rattle.gate_journal.specs.declared.command.Command.{Command}
 use Rattle.story_run.specs.declared.story.Story.{Story}
 use Rattle.story_run.specs.World.{WorldState}

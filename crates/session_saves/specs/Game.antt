@@ -1,7 +1,7 @@
 -- A session's game: its inputs, and the world that it had come to after so many of them (own).
 use Rattle.std.specs.Prelude.{ℕ, List, ◌∷◌, take, drop, Option, Some, None}
 use Rattle.std.specs.List.{filter_map}
-use Rattle.glk_input.specs.declared.input.Input.{Input}
+use Rattle.story_text.specs.declared.input.Input.{Input}
 use Rattle.gate_journal.specs.declared.command.Command.{Command}
 use Rattle.gate_journal.specs.declared.command.Command.TheVariants.{Open}
 use Rattle.story_run.specs.declared.setup.Setup.{Setup}

@@ -2,7 +2,7 @@
 use Rattle.std.proofs.Common.{◌≡◌, true, false, [], ◌∷◌, map, codes, refl}
 use Rattle.std.specs.Fmt.{digits}
 use Rattle.vm_exec.specs.declared.machine.Machine.{Machine}
-use Rattle.glk_input.specs.declared.input.Input.TheVariants.{Line, Char, File, Size}
+use Rattle.story_text.specs.declared.input.Input.TheVariants.{Line, Char, File, Size}
 use Rattle.glk_dispatch.specs.Glk.{empty_screen}
 use Rattle.glk_dispatch.specs.declared.called.Called.{Called}
 use Rattle.glk_dispatch.specs.declared.glk.Glk.{Glk}

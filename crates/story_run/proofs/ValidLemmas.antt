@@ -16,7 +16,7 @@ use Rattle.vm_exec.specs.declared.step.Step.TheVariants as step
 use Rattle.quetzal.specs.Save.{canon}
 use Rattle.quetzal.specs.State.{state_in}
 use Rattle.glk_input.specs.Delivery.{code_taken}
-use Rattle.glk_input.specs.declared.input.Input.{Input}
+use Rattle.story_text.specs.declared.input.Input.{Input}
 use Rattle.glk_dispatch.specs.Answer.{Reached, CallRule, glk_call, within}
 use Rattle.glk_dispatch.specs.Call.{selector_called}
 use Rattle.glk_dispatch.specs.Events as events

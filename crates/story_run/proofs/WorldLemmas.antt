@@ -1,8 +1,8 @@
 -- Inputs that aren't wanted, and worlds of their fields.
 use Rattle.std.proofs.Common.{◌≡◌, ◌∙◌, ◌⊎◌, inl, inr, ℕ, subst, sym}
 use Rattle.std.proofs.Common.{Bool, true, false, refl, ap, cond, List}
-use Rattle.glk_input.specs.declared.input.Input.{Input}
-use Rattle.glk_input.specs.declared.input.Input.TheVariants.{Line, Char, File, Size}
+use Rattle.story_text.specs.declared.input.Input.{Input}
+use Rattle.story_text.specs.declared.input.Input.TheVariants.{Line, Char, File, Size}
 use Rattle.glk_input.specs.declared.request.WindowInput.{WindowInput}
 use Rattle.std.proofs.Common.{[], ◌∷◌, map}
 use Rattle.glk_windows.specs.Output.{content_kept, window_kept}

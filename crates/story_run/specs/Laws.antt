@@ -1,6 +1,6 @@
 -- What turns keep to (own).
 use Rattle.std.specs.Prelude.{◌≡◌, ◌≢◌, ℕ, ◌+◌, ◌<◌, List, true, false}
-use Rattle.glk_input.specs.declared.input.Input.{Input}
+use Rattle.story_text.specs.declared.input.Input.{Input}
 use Rattle.story_run.specs.Faults.{IsFaultNumber}
 use Rattle.story_run.specs.Solo.{is_over, is_wanted, opening, world_after_input}
 use Rattle.story_run.specs.Step.{Running}

@@ -1,8 +1,8 @@
 -- A story run alone: its opening, and its turns on the inputs that it wants (own).
 use Rattle.std.specs.Prelude.{ℕ, Bool, true, false, if◌then◌else◌, List, [], ◌∷◌}
 use Rattle.glk_input.specs.Delivery as delivery
-use Rattle.glk_input.specs.declared.input.Input.{Input}
-use Rattle.glk_input.specs.declared.input.Input.TheVariants.{Line, Char, File, Size}
+use Rattle.story_text.specs.declared.input.Input.{Input}
+use Rattle.story_text.specs.declared.input.Input.TheVariants.{Line, Char, File, Size}
 use Rattle.glk_input.specs.declared.request.WindowInput.{WindowInput}
 use Rattle.glk_dispatch.specs.Glk as state
 use Rattle.glk_dispatch.specs.Glk.{empty_screen, turn_begun}

@@ -6,7 +6,7 @@ use Rattle.vm_exec.specs.Start.{finished}
 use Rattle.vm_exec.specs.declared.machine.Machine.{Machine}
 use Rattle.vm_memory.specs.declared.fault.Trap.{Trap}
 use Rattle.vm_memory.specs.declared.fault.Trap.TheVariants as trap
-use Rattle.glk_input.specs.declared.input.Input.{Input}
+use Rattle.story_text.specs.declared.input.Input.{Input}
 use Rattle.glk_dispatch.specs.Answer.{Reached, CallRule, glk_call}
 use Rattle.glk_dispatch.specs.Events as events
 use Rattle.glk_dispatch.specs.declared.glk.Glk.{Glk}

@@ -14,9 +14,9 @@ ghost use Rattle.vm_exec.specs.Start.{started};
 use crate::stage::Stage;
 use crate::step::{Progress, proceed};
 use glk_dispatch::{Glk, answer};
-use glk_input::Input;
 use glulx_image::Image;
 use std::alloc::{AllocError, Global};
+use story_text::Input;
 use vm_exec::Machine;
 use vm_memory::Trap;
 

@@ -11,12 +11,11 @@ use crate::stage::Stage;
 use crate::turn::{begin, resume};
 use crate::{Setup, Steps, Story};
 use glk_dispatch::Glk;
-use glk_input::Input;
 use glulx_image::Image;
 use std::alloc::{AllocError, Global};
 use std::marker::Model;
 use std::sync::ledger::Ledger;
-use story_text::Bytes;
+use story_text::{Bytes, Input};
 
 /// A story that waits for its player or is over, with the show of its last turn, seen by contracts
 /// as a record. Where it waits its machine is fit and lies over its image; its Glk state is valid,

@@ -1,4 +1,5 @@
 pub mod Text
 pub mod Escape
 pub mod Reading
+pub mod Keycode
 pub mod Laws

@@ -1,6 +1,6 @@
 -- Keycodes (Glk 0.7.5, "Character Input"; the numbers are those of its header).
 use Rattle.std.specs.Prelude.{ℕ, ◌==◌, ◌&&◌, ◌||◌, nat_le, Bool}
-use Rattle.glk_input.specs.declared.keycode.TheConstants.{END, ESCAPE, FUNC1, FUNC12, UNKNOWN}
+use Rattle.story_text.specs.declared.keycode.TheConstants.{END, ESCAPE, FUNC1, FUNC12, UNKNOWN}
 
 -- the function keys: the numbers fall from the first to the twelfth
 abbrev pub is_function_key : ℕ → Bool

@@ -2,8 +2,8 @@
 
 ghost use Rattle.std.specs.Prelude.{◌≡◌, IfOk};
 
+use crate::text::Text;
 use std::alloc::{AllocError, Global};
-use story_text::Text;
 
 /// What a player gives a story that waits.
 #[derive(Debug, Drop)]

@@ -1,7 +1,7 @@
 //! Keycodes (Glk 0.7.5, "Character Input").
 
 ghost use Rattle.std.specs.Prelude.{◌≡◌};
-ghost use Rattle.glk_input.specs.Keycode as keycode;
+ghost use Rattle.story_text.specs.Keycode as keycode;
 
 pub const UNKNOWN: u32 = 0xFFFF_FFFF;
 
