@@ -82,16 +82,16 @@ adding mode m = record m {
 an_addition_into_a_local_wants_no_memory : (m : Machine) → WantsMemory (adding 9 m) → ⊥
 unfolding op_of opcodes mode_of modes opcode_number_at modes_at load_at dest_at operand operands
     instruction_at loaded_all
-an_addition_into_a_local_wants_no_memory m wants = absurd wants
+an_addition_into_a_local_wants_no_memory m wants = absurd wants.0
 
 an_addition_onto_the_stack_wants_none : (m : Machine) → WantsMemory (adding 8 m) → ⊥
 unfolding op_of opcodes mode_of modes opcode_number_at modes_at load_at dest_at operand operands
     instruction_at loaded_all
-an_addition_onto_the_stack_wants_none m wants = absurd wants
+an_addition_onto_the_stack_wants_none m wants = absurd wants.0
 
 -- so a run of one step that begins there doesn't answer want of memory
 nor_does_a_run_of_it : (m n : Machine) → RunsWithin 1 (adding 8 m) n (Err NoMemory) → ⊥
 unfolding RunsTo
-nor_does_a_run_of_it m n (zero, (o, (less, (same, wants)))) =
+nor_does_a_run_of_it m n (zero, o, (less, same, wants)) =
     an_addition_onto_the_stack_wants_none m (subst WantsMemory (sym same) wants)
-nor_does_a_run_of_it m n (suc k, (o, (less, more))) = absurd (omega (arith, less))
+nor_does_a_run_of_it m n (suc k, o, (less, more)) = absurd (omega (arith, less))
