@@ -92,6 +92,6 @@ an_addition_onto_the_stack_wants_none m wants = absurd wants.0
 -- so a run of one step that begins there doesn't answer want of memory
 nor_does_a_run_of_it : (m n : Machine) → RunsWithin 1 (adding 8 m) n (Err NoMemory) → ⊥
 unfolding RunsTo
-nor_does_a_run_of_it m n (zero, o, (less, same, wants)) =
+nor_does_a_run_of_it m n (zero, o, (less, (same, wants))) =
     an_addition_onto_the_stack_wants_none m (subst WantsMemory (sym same) wants)
 nor_does_a_run_of_it m n (suc k, o, (less, more)) = absurd (omega (arith, less))
