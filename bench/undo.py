@@ -4,11 +4,12 @@ callgrind: by pages that differ from the file, bytes changed in each, and where 
 256 KB of RAM (or as much as the pages want), whose first bytes stand in the file. A count is of a round of a loop
 with the instruction less a round without. It is no time: it knows no cache.
 
-    bench/undo.py [--rounds N] [--zeros] [--pages P,P..] [--bytes B,B..] [--apart] PROGRAM [OTHER]
-    bench/undo.py --story FILE [--rounds N] [--zeros] [--apart] --pages P --bytes B         writes the story alone
+    bench/undo.py [--rounds N] [--zeros] [--apart] [--spread] [--pages P,P..] [--bytes B,B..] PROGRAM [OTHER]
+    bench/undo.py --story FILE [--rounds N] [--zeros] [--apart] [--spread] --pages P --bytes B    the story alone
 
 With --zeros RAM stands past the file, so that it is zeros at first; with --apart the bytes that change are spread
-over the page, else they are neighbours. Wants valgrind."""
+evenly over the page, else they are neighbours; with --spread the pages are spread evenly over RAM, each the 43rd of
+its row of 64 where they are few, else they are neighbours. Wants valgrind."""
 
 import argparse
 import os
@@ -45,11 +46,13 @@ class Code:
         self.do(0x23, [local], self.labels[label] - (len(self.bytes) + 7) + 2)
 
 
-def story(kind, rounds, pages, count, apart, zeros):
+def story(kind, rounds, pages, count, apart, spread, zeros):
     """The bytes of a story that changes so many bytes of so many pages and goes through a loop."""
+    size = max(LEAST, pages * PAGE)
     step = PAGE // count if apart else 1
+    stride = size // PAGE // pages if spread else 1
     code = Code()
-    code.do(0x40, RAM, [ADDRESS])
+    code.do(0x40, RAM + PAGE * min(40, stride - 1), [ADDRESS])
     code.do(0x40, pages, [LEFT])
     code.at("page")
     code.do(0x40, count, [MORE])
@@ -58,7 +61,7 @@ def story(kind, rounds, pages, count, apart, zeros):
     code.do(0x10, [ADDRESS], step, [ADDRESS])
     code.do(0x11, [MORE], 1, [MORE])
     code.back(MORE, "byte")
-    code.do(0x10, [ADDRESS], PAGE - count * step, [ADDRESS])
+    code.do(0x10, [ADDRESS], PAGE * stride - count * step, [ADDRESS])
     code.do(0x11, [LEFT], 1, [LEFT])
     code.back(LEFT, "page")
     code.do(0x40, rounds, [ADDRESS])
@@ -72,7 +75,6 @@ def story(kind, rounds, pages, count, apart, zeros):
     code.do(0x11, [ADDRESS], 1, [ADDRESS])
     code.back(ADDRESS, "round")
     code.do(0x120)
-    size = max(LEAST, pages * PAGE)
     filed = b"" if zeros else bytes((place * 7 + 3) % 251 % 0x5A for place in range(size))
     header = b"Glul" + struct.pack(">8I", 0x00030103, RAM, RAM + len(filed), RAM + size, 4096, 36, 0, 0)
     return (header + code.bytes).ljust(RAM, b"\0") + filed
@@ -103,13 +105,15 @@ def main():
     words.add_argument("--pages", default="4")
     words.add_argument("--bytes", default="4,32,256")
     words.add_argument("--apart", action="store_true")
+    words.add_argument("--spread", action="store_true")
     words.add_argument("--zeros", action="store_true")
     words.add_argument("--story")
     words.add_argument("programs", nargs="*")
     given = words.parse_args()
+    places = given.apart, given.spread, given.zeros
     if given.story:
         with open(given.story, "wb") as file:
-            file.write(story(SAVE, given.rounds, int(given.pages), int(given.bytes), given.apart, given.zeros))
+            file.write(story(SAVE, given.rounds, int(given.pages), int(given.bytes), *places))
         return
     names = ["saveundo", "both ways"] + ["saveundo before", "both ways before"] * (len(given.programs) > 1)
     print("| Pages | Bytes in each | " + " | ".join(names) + " |")
@@ -117,7 +121,7 @@ def main():
     with tempfile.TemporaryDirectory() as folder:
         for pages in map(int, given.pages.split(",")):
             for count in map(int, given.bytes.split(",")):
-                rest, cells = (pages, count, given.apart, given.zeros), []
+                rest, cells = (pages, count, *places), []
                 for program in given.programs:
                     bare = a_round(program, folder, PLAIN, given.rounds, *rest)
                     cells += [a_round(program, folder, kind, given.rounds, *rest) - bare for kind in (SAVE, BOTH)]

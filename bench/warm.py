@@ -1,16 +1,19 @@
 #!/usr/bin/env python3
 """The memory of a host whose sessions are warm behind a restart.
 
-64 sessions of The Well House are opened and given a move each; the host is stopped and started again, and each is
-asked for its last show, which wakes it. Then the peak of the host's memory is read, and that of a host with one
-session so, and what each further session holds: its own pages, its states for undo, its windows, all.
+64 sessions of The Well House are opened and given so many moves each; the host is stopped and started again, and each
+is asked for its last show. Then the peak of the host's memory is read, and again behind one more move of each. Both are
+told of a host with one session too, and what each further session takes: its own pages, its states for undo, its
+windows, all.
 
-    bench/warm.py [PROGRAM]"""
+    bench/warm.py [PROGRAM] [MOVES]"""
 
 import pathlib
 import subprocess
 import sys
 import tempfile
+
+from measure import WALK
 
 TOP = pathlib.Path(__file__).resolve().parent.parent
 PROGRAM = TOP / "crates" / "storyhost" / "out" / "storyhost"
@@ -47,29 +50,35 @@ class Host:
         self.process.wait()
 
 
-def peak_with(program, folder, sessions):
-    """The peak of a host that woke so many sessions behind a restart."""
+def peaks_with(program, folder, sessions, moves):
+    """The peaks of a host behind a restart: when it has shown so many sessions, and when each was given a move."""
     subprocess.run([program, "init", folder], check=True, capture_output=True)
     first = Host(program, folder)
     for session in range(sessions):
         shown = first.ask(f"OPEN {session} k 0 1 80 24")
         window = next(line.split()[1] for line in shown if line.startswith("I "))
-        first.ask(f"LINE {session} k 1 {window} =look")
+        for move in range(moves):
+            first.ask(f"LINE {session} k {move + 1} {window} ={WALK[move % len(WALK)].replace(' ', '%20')}")
     first.end()
     second = Host(program, folder)
     for session in range(sessions):
         second.ask(f"LAST {session} k")
-    peak = second.peak()
+    shown = second.peak()
+    for session in range(sessions):
+        second.ask(f"LINE {session} k {moves + 1} {window} =look")
+    played = second.peak()
     second.end()
-    return peak
+    return shown, played
 
 
 def main():
     program = sys.argv[1] if len(sys.argv) > 1 else PROGRAM
+    moves = int(sys.argv[2]) if len(sys.argv) > 2 else 1
     with tempfile.TemporaryDirectory(prefix="warm-") as room:
-        many, one = (peak_with(program, pathlib.Path(room) / str(count), count) for count in (SESSIONS, 1))
-    print(f"{many:,} KB at most with {SESSIONS} sessions behind a restart, {one:,} KB with one: "
-          f"{(many - one) / (SESSIONS - 1):.1f} KB a session")
+        many, one = (peaks_with(program, pathlib.Path(room) / str(count), count, moves) for count in (SESSIONS, 1))
+    for what, most, least in zip(("behind LAST", "behind one more move"), many, one):
+        print(f"{what}: {most:,} KB at most with {SESSIONS} sessions of {moves} moves, {least:,} KB with one: "
+              f"{(most - least) / (SESSIONS - 1):.1f} KB a session")
 
 
 if __name__ == "__main__":
