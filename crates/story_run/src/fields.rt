@@ -14,7 +14,6 @@ use glulx_image::Image;
 use std::alloc::{AllocError, Global};
 use story_text::Bytes;
 use vm_exec::{Machine, MachineFields};
-use vm_memory::faults;
 
 /// How a turn came to rest: where the story waits, what its machine has beside its image.
 #[derive(Drop)]
@@ -97,13 +96,7 @@ fn stage_of<'i>(image: &Image<'i>, seed: u64, fields: StageFields<'i>) -> Option
             None => None,
         },
         StageFields::Quit => Some(Stage::Quit),
-        StageFields::Fault(code) => {
-            if faults::BAD_READ <= code && code <= faults::BUDGET_SPENT {
-                Some(Stage::Fault(code))
-            } else {
-                None
-            }
-        }
+        StageFields::Fault(code) => Some(Stage::Fault(code)),
     }
 }
 
