@@ -32,7 +32,7 @@ fn new_file(alloc: Global) -> Result<Bytes, Fail> {
 // A host that is down over a new journal and 64 new files.
 fn new_host(alloc: Global) -> Result<HostState, Fail> {
     let mut files = Vec::new(alloc);
-    for _ in 0..64 {
+    for _ in 0..64_u8 {
         files.push(new_file(alloc)?)?;
     }
     Ok(HostState::down(alloc, bytes(alloc, &JOURNAL)?, files)?)
