@@ -1,3 +1,4 @@
+use Rattle.story_run.proofs.FaultTurns.{start-refused}
 use Rattle.story_run.proofs.ValidLemmas.{run-stands}
 use Rattle.story_run.proofs.turn.begin.Goals as goal
 
@@ -8,3 +9,6 @@ returns-in-Ok-clause-stands c =
 
 pub returns-in-Ok-clause-kept : goal.returns-in-Ok-clause-kept
 returns-in-Ok-clause-kept c = c.run.ensures.kept c.args.seed c.in-Ok.ensures.seed
+
+pub stopped-requires : goal.stopped-requires
+stopped-requires c = start-refused _ _ _ c.in-Err.ensures.value

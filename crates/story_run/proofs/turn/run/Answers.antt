@@ -1,4 +1,5 @@
 use Rattle.std.proofs.Common.{◌∙◌, sym}
+use Rattle.story_run.proofs.FaultTurns.{proceed-refused}
 use Rattle.story_run.proofs.TurnLemmas.{rest-stops}
 use Rattle.story_run.proofs.turn.run.Goals as goal
 
@@ -52,3 +53,6 @@ pub returns-in-Err-clause-value : goal.returns-in-Err-clause-value
 returns-in-Err-clause-value c =
     rw (← c.loop-rest.invariant.0)
     (rest-stops _ _ _ _ c.proceed.new.machine _ _ c.in-Err.ensures.does c.stopped.ensures.ends)
+
+pub stopped-requires : goal.stopped-requires
+stopped-requires c = proceed-refused _ _ _ _ c.proceed.new.machine _ c.in-Err.ensures.does
