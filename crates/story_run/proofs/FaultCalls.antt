@@ -18,7 +18,7 @@ use Rattle.glk_dispatch.specs.Call.{call_work, called_with, selector_called}
 use Rattle.glk_dispatch.specs.Case as cases
 use Rattle.glk_dispatch.specs.Events as events
 use Rattle.glk_dispatch.specs.Gestalt as base
-use Rattle.glk_dispatch.specs.Glk.{character_charged, has_window, is_stream}
+use Rattle.glk_dispatch.specs.Glk.{character_charged, has_window, is_stream, written_to}
 use Rattle.glk_dispatch.specs.Output as out
 use Rattle.glk_dispatch.specs.Selector.{call_of}
 use Rattle.glk_dispatch.specs.Style as styles
@@ -29,7 +29,6 @@ use Rattle.glk_dispatch.specs.declared.case.CaseCall.{CaseCall}
 use Rattle.glk_dispatch.specs.declared.case.CaseCall.TheVariants as c
 use Rattle.glk_dispatch.specs.declared.events.EventCall.{EventCall}
 use Rattle.glk_dispatch.specs.declared.events.EventCall.TheVariants as ev
-use Rattle.glk_dispatch.specs.declared.events.TheConstants.{INPUT, MAX_INITIAL, NEWLINE}
 use Rattle.glk_dispatch.specs.declared.glk.Glk.{Glk}
 use Rattle.glk_dispatch.specs.declared.selector.Call as call
 use Rattle.glk_dispatch.specs.declared.selector.Call.TheVariants.{Base, Window, Stream, FileRef}
@@ -58,11 +57,12 @@ sets-called s n style =
 style-called : (k : StyleCall) (s : GlkCall) (l : ℕ → ℕ) → Called (styles.style_work k s l)
 unfolding styles.style_work
 style-called sty.Set s l = sets-called s s.glk.streams.current (l 0)
-style-called sty.SetStream s l = needs-live (is_stream s.glk (l 0)) (sets-called s (l 0) (l 1))
+style-called sty.SetStream s l =
+    needs-live s.glk (is_stream s.glk (l 0)) (sets-called s (l 0) (l 1))
 style-called sty.HintSet s l = fails-ok
 style-called sty.HintClear s l = fails-ok
-style-called sty.Distinguish s l = needs-live (has_window s.glk (l 0)) fails-ok
-style-called sty.Measure s l = needs-live (has_window s.glk (l 0)) fails-ok
+style-called sty.Distinguish s l = needs-live s.glk (has_window s.glk (l 0)) fails-ok
+style-called sty.Measure s l = needs-live s.glk (has_window s.glk (l 0)) fails-ok
 
 word-called : (k : _) (g : Glk) (m : MemoryMap) (at : ℕ) → Called (cases.word_cased k g m at)
 word-called k g m at =
@@ -122,41 +122,44 @@ tells-called s win value =
 window-called : (k : WindowCall) (s : GlkCall) (l : ℕ → ℕ) → Called (windows.window_work k s l)
 unfolding windows.window_work
 window-called to.Iterate s l =
-    needs-live (l 0 == 0 || has_window s.glk (l 0)) (told _ (refers s (l 1) _))
+    needs-live s.glk (l 0 == 0 || has_window s.glk (l 0)) (told _ (refers s (l 1) _))
 window-called to.GetRock s l = tells-called s (l 0) _
 window-called to.GetRoot s l = fails-ok
 window-called to.Open s l =
-    fails-bind (glk-alone s (needs-live (l 0 == 0 || has_window s.glk (l 0))
-    (fails-if (l 0 == 0) fails-ok (takes-value (arranging.is_method (l 1)) fails-ok))))
+    fails-bind (glk-alone s (needs-live s.glk (l 0 == 0 || has_window s.glk (l 0))
+    (fails-if (l 0 == 0) fails-ok (takes-value s.glk (arranging.is_method (l 1)) fails-ok))))
     (λ p. fails-ok)
 window-called to.Close s l =
-    needs-live (has_window s.glk (l 0)) (told 0 (refers-all _ (l 1) _))
+    needs-live s.glk (has_window s.glk (l 0))
+    (told 0 (refers-all (record s { glk = windows.glk_without_window s.glk (l 0) }) (l 1)
+    (0 ∷ written_to s.glk (tree.stream_of (windows.slots s) (l 0)) ∷ [])))
 window-called to.GetSize s l =
-    needs-live (has_window s.glk (l 0))
+    needs-live s.glk (has_window s.glk (l 0))
     (told 0 (fails-bind (refers s (l 1) _) (λ t. refers t (l 2) _)))
 window-called to.SetArrangement s l =
-    glk-alone s (needs-live (has_window s.glk (l 0))
-    (takes-value (windows.is_pair s.glk (l 0))
-    (takes-value _ (needs-live (l 3 == 0 || has_window s.glk (l 3)) (takes-value _ fails-ok)))))
+    glk-alone s (needs-live s.glk (has_window s.glk (l 0))
+    (takes-value s.glk (windows.is_pair s.glk (l 0))
+    (takes-value s.glk _ (needs-live s.glk (l 3 == 0 || has_window s.glk (l 3))
+    (takes-value s.glk _ fails-ok)))))
 window-called to.GetArrangement s l =
-    needs-live (has_window s.glk (l 0)) (takes-value (windows.is_pair s.glk (l 0))
+    needs-live s.glk (has_window s.glk (l 0)) (takes-value s.glk (windows.is_pair s.glk (l 0))
     (told 0 (fails-bind (fails-bind (refers s (l 1) _) (λ t. refers t (l 2) _))
     (λ t. refers t (l 3) _))))
 window-called to.GetType s l = tells-called s (l 0) _
 window-called to.GetParent s l = tells-called s (l 0) _
 window-called to.GetSibling s l = tells-called s (l 0) _
-window-called to.Clear s l = glk-alone s (needs-live (has_window s.glk (l 0)) fails-ok)
+window-called to.Clear s l = glk-alone s (needs-live s.glk (has_window s.glk (l 0)) fails-ok)
 window-called to.MoveCursor s l =
-    glk-alone s (needs-live (has_window s.glk (l 0))
-    (takes-value (windows.is_grid s.glk (l 0)) fails-ok))
+    glk-alone s (needs-live s.glk (has_window s.glk (l 0))
+    (takes-value s.glk (windows.is_grid s.glk (l 0)) fails-ok))
 window-called to.GetStream s l = tells-called s (l 0) _
 window-called to.SetEchoStream s l =
-    glk-alone s (needs-live (has_window s.glk (l 0))
-    (needs-live (l 1 == 0 || is_stream s.glk (l 1))
-    (takes-value (not (windows.is_loop s.glk (l 0) (l 1))) fails-ok)))
+    glk-alone s (needs-live s.glk (has_window s.glk (l 0))
+    (needs-live s.glk (l 1 == 0 || is_stream s.glk (l 1))
+    (takes-value s.glk (not (windows.is_loop s.glk (l 0) (l 1))) fails-ok)))
 window-called to.GetEchoStream s l = tells-called s (l 0) _
 window-called to.SetWindow s l =
-    glk-alone s (needs-live (l 0 == 0 || has_window s.glk (l 0))
+    glk-alone s (needs-live s.glk (l 0 == 0 || has_window s.glk (l 0))
     (fails-bind (in-call s.glk (of-streams
     (current-fails s.glk.streams (tree.stream_of s.glk.windows.slots (l 0)))))
     (λ t. fails-ok)))
@@ -166,7 +169,7 @@ window-called to.SetWindow s l =
 echoed-called : (cs : List ℕ) (g : Glk) (m : MemoryMap) (n : ℕ) → Called (events.echoed g m n cs)
 echoed-called [] g m n = fails-ok
 echoed-called (x ∷ cs) g m n =
-    fails-bind (echo_put-called g m n INPUT x) (λ p. echoed-called cs p.0 p.1 n)
+    fails-bind (echo_put-called g m n _ x) (λ p. echoed-called cs p.0 p.1 n)
 
 echo_array-called : (count : ℕ) (u : Bool) (g : Glk) (m : MemoryMap) (n at : ℕ)
     → Called (events.echo_array count u g m n at)
@@ -175,22 +178,22 @@ echo_array-called zero u g m n at = fails-ok
 echo_array-called (suc count) u g m n at =
     fails-bind {r = events.echo_item u g m n at}
     (fails-bind (in-call g (of-memory (read (delivery.width u) m at)))
-    (λ x. echo_put-called g m n INPUT x))
+    (λ x. echo_put-called g m n _ x))
     (λ p. echo_array-called count u p.0 p.1 n ((at + delivery.width u) % 2 ^ 32))
 
--- a line, and a newline
-shown-called : {r : Reached (Glk × MemoryMap)} (echo : Bool) (g : Glk) (m : MemoryMap) (n : ℕ)
-    → Called r
-    → Called (cond echo (r >>= (λ p. out.echo_put p.0 p.1 n INPUT NEWLINE)) (Ok (g, m)))
-shown-called echo g m n h =
-    fails-if echo (fails-bind h (λ p. echo_put-called p.0 p.1 n INPUT NEWLINE)) fails-ok
+-- a line, and a newline in this style
+shown-called : {r : Reached (Glk × MemoryMap)} (echo : Bool) (g : Glk) (m : MemoryMap)
+    (n style newline : ℕ) → Called r
+    → Called (cond echo (r >>= (λ p. out.echo_put p.0 p.1 n style newline)) (Ok (g, m)))
+shown-called echo g m n style newline h =
+    fails-if echo (fails-bind h (λ p. echo_put-called p.0 p.1 n style newline)) fails-ok
 
 initial-called : (o : Option Request) (g : Glk) (m : MemoryMap) (win : ℕ)
     → Called (events.initial_echoed o g m win)
 initial-called None g m win = fails-ok
 initial-called (Some (Char u)) g m win = fails-ok
 initial-called (Some (Line r)) g m win =
-    shown-called r.echo g m (events.own_stream g win)
+    shown-called r.echo g m (events.own_stream g win) _ _
     (echo_array-called r.init r.unicode g m (events.own_stream g win) r.buf)
 
 line-called : (o : Option Request) (g : Glk) (m : MemoryMap) (win : ℕ) (text : List ℕ)
@@ -198,7 +201,7 @@ line-called : (o : Option Request) (g : Glk) (m : MemoryMap) (win : ℕ) (text :
 line-called None g m win text = fails-ok
 line-called (Some (Char u)) g m win text = fails-ok
 line-called (Some (Line r)) g m win text =
-    shown-called r.echo g m (events.own_stream g win)
+    shown-called r.echo g m (events.own_stream g win) _ _
     (echoed-called (delivery.taken_line r text) g m (events.own_stream g win))
 
 input-called : (i : Input) (g : Glk) (m : MemoryMap) → Called (events.input_echoed g m i)
@@ -221,21 +224,22 @@ unfolding events.event_work
 event-called ev.Select s l = fails-ok
 event-called ev.SelectPoll s l = told 0 (refers-all s (l 0) (0 ∷ 0 ∷ 0 ∷ 0 ∷ []))
 event-called (ev.RequestLine u) s l =
-    glk-alone s (needs-live (has_window s.glk (l 0))
-    (takes-value (events.may_ask s.glk (l 0))
-    (takes-value (nat_le (l 3) (l 2) && nat_le (l 3) MAX_INITIAL) fails-ok)))
+    glk-alone s (needs-live s.glk (has_window s.glk (l 0))
+    (takes-value s.glk (events.may_ask s.glk (l 0))
+    (takes-value s.glk _ fails-ok)))
 event-called ev.CancelLine s l =
-    needs-live (has_window s.glk (l 0))
+    needs-live s.glk (has_window s.glk (l 0))
     (told 0 (fails-bind (initial-called (request.window_request s.glk.requests (l 0)) _ _ (l 0))
-    (λ p. refers-all _ (l 1) _)))
+    (λ p. refers-all (record s { glk = p.0; memory = p.1 }) (l 1)
+    (events.event_words (request.cancelled (request.window_request s.glk.requests (l 0)) (l 0))))))
 event-called (ev.RequestChar u) s l =
-    glk-alone s (needs-live (has_window s.glk (l 0))
-    (takes-value (events.may_ask s.glk (l 0)) fails-ok))
-event-called ev.CancelChar s l = glk-alone s (needs-live (has_window s.glk (l 0)) fails-ok)
-event-called ev.SetEcho s l = glk-alone s (needs-live (has_window s.glk (l 0)) fails-ok)
+    glk-alone s (needs-live s.glk (has_window s.glk (l 0))
+    (takes-value s.glk (events.may_ask s.glk (l 0)) fails-ok))
+event-called ev.CancelChar s l = glk-alone s (needs-live s.glk (has_window s.glk (l 0)) fails-ok)
+event-called ev.SetEcho s l = glk-alone s (needs-live s.glk (has_window s.glk (l 0)) fails-ok)
 event-called ev.SetTerminators s l =
-    glk-alone s (needs-live (has_window s.glk (l 0))
-    (takes-value (nat_le (l 2) 13)
+    glk-alone s (needs-live s.glk (has_window s.glk (l 0))
+    (takes-value s.glk (nat_le (l 2) 13)
     (fails-bind (in-call s.glk (of-array (l 2) s.memory (l 1) [])) (λ xs. fails-ok))))
 
 -- ---- every call

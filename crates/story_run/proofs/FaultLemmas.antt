@@ -1,5 +1,5 @@
 -- Steps one after the other are refused by faults alone that have a number from 1 to 24.
-use Rattle.std.proofs.Common.{◌≡◌, ◌+◌, ◌-◌, ◌*◌, ◌==◌, ◌&&◌, ◌||◌, ℕ, zero, suc, nat_le, Bool}
+use Rattle.std.proofs.Common.{◌≡◌, ◌+◌, ◌*◌, ◌==◌, ◌&&◌, ◌||◌, ℕ, zero, suc, nat_le, Bool}
 use Rattle.std.proofs.Common.{true, false, List, [], ◌∷◌, length, take, drop, Result, Ok, Err}
 use Rattle.std.proofs.Common.{IfErr, cond, refl}
 use Rattle.std.proofs.lemmas.Bool.{and_parts, leb-true}

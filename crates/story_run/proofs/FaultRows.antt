@@ -355,13 +355,16 @@ due-work : {x : Work} → NumberedWork x → NumberedDue (Ok x)
 due-work {x = Free r} h = record { due = h }
 due-work {x = Costs cost r} h = record { due = h }
 
+of-prepared : (m : Machine) → Numbered (row.prepared m)
+of-prepared m =
+    fails-bind (of-operation (instruction_at m.memory m.pc))
+    (λ i. fails-bind
+    (of-loads (row.width_of (op_of i.op)) (take i.loads.count i.loads.items) m 0 (replicate 8 0))
+    (λ x. fails-ok))
+
 of-fetched : (m : Machine) → NumberedDue (row.fetched m)
 of-fetched m =
-    due-bind (of-operation (instruction_at m.memory m.pc))
-    (λ i. due-bind
-    (of-loads (row.width_of (op_of i.op)) (take i.loads.count i.loads.items) m 0 (replicate 8 0))
-    (λ x. due-work
-    (of-work_of (op_of i.op) (record x.0 { pc = i.next }) x.1 i.stores.items)))
+    due-bind (of-prepared m) (λ p. due-work (of-work_of p.op p.machine p.loads p.stores))
 
 of-due : (m : Machine) (x : t.Text) → NumberedDue (row.due m x)
 of-due m text.Off = of-fetched m

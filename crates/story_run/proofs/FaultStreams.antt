@@ -175,15 +175,15 @@ pub in-call : {A : Type 0} {r : Result A ℕ} (g : Glk) → Numbered r → Calle
 in-call {r = Ok x} g h = fails-ok
 in-call {r = Err n} g h = fails-err h.holds
 
-pub needs-live : {A : Type 0} {g : Glk} {rest : Reached A} (b : Bool)
+pub needs-live : {A : Type 0} {rest : Reached A} (g : Glk) (b : Bool)
     → Called rest → Called (needs g b 21 rest)
-needs-live true h = h
-needs-live false h = fails-err (known refl)
+needs-live g true h = h
+needs-live g false h = fails-err (known refl)
 
-pub takes-value : {A : Type 0} {g : Glk} {rest : Reached A} (b : Bool)
+pub takes-value : {A : Type 0} {rest : Reached A} (g : Glk) (b : Bool)
     → Called rest → Called (needs g b 22 rest)
-takes-value true h = h
-takes-value false h = fails-err (known refl)
+takes-value g true h = h
+takes-value g false h = fails-err (known refl)
 
 pub glk-alone : {A : Type 0} {r : Reached (Glk × A)} (s : GlkCall)
     → Called r → Called (over_glk_alone s r)

@@ -103,17 +103,17 @@ unfolding out.output_work
 output-called (put.PutChar u) s l =
     changed-called s (put-called s.glk s.memory (out.current s) (out.plain_or_unicode u (l 0)))
 output-called (put.PutCharStream u) s l =
-    needs-live (is_stream s.glk (l 0))
+    needs-live s.glk (is_stream s.glk (l 0))
     (changed-called s (put-called s.glk s.memory (l 0) (out.plain_or_unicode u (l 1))))
 output-called (put.PutString u) s l =
     changed-called s (put_string-called u s.glk s.memory (out.current s) (l 0))
 output-called (put.PutStringStream u) s l =
-    needs-live (is_stream s.glk (l 0))
+    needs-live s.glk (is_stream s.glk (l 0))
     (changed-called s (put_string-called u s.glk s.memory (l 0) (l 1)))
 output-called (put.PutBuffer u) s l =
     changed-called s (put_array-called (l 1) u s.glk s.memory (out.current s) (l 0))
 output-called (put.PutBufferStream u) s l =
-    needs-live (is_stream s.glk (l 0))
+    needs-live s.glk (is_stream s.glk (l 0))
     (changed-called s (put_array-called (l 2) u s.glk s.memory (l 0) (l 1)))
 
 -- ---- characters that are read
@@ -176,8 +176,8 @@ closes-called s n result =
 pub stream-called : (k : StreamCall) (s : GlkCall) (l : ℕ → ℕ) → Called (rows.stream_work k s l)
 unfolding rows.stream_work
 stream-called str.Iterate s l =
-    needs-live (l 0 == 0 || is_stream s.glk (l 0)) (told _ (refers s (l 1) _))
-stream-called str.GetRock s l = needs-live (is_stream s.glk (l 0)) fails-ok
+    needs-live s.glk (l 0 == 0 || is_stream s.glk (l 0)) (told _ (refers s (l 1) _))
+stream-called str.GetRock s l = needs-live s.glk (is_stream s.glk (l 0)) fails-ok
 stream-called (str.OpenFile u) s l =
     makes s (streams-changed s.glk (opened_file-fails s.glk.streams (l 0) (l 1) (l 2) u))
 stream-called (str.OpenMemory u) s l =
@@ -192,13 +192,13 @@ stream-called str.SetCurrent s l =
 stream-called str.GetCurrent s l = fails-ok
 stream-called str.OpenResource s l = fails-ok
 stream-called (str.GetChar u) s l =
-    makes s (needs-live (is_stream s.glk (l 0))
+    makes s (needs-live s.glk (is_stream s.glk (l 0))
     (fails-bind (got-called s.glk s.memory (l 0)) (λ p. fails-ok)))
 stream-called (str.GetLine u) s l =
-    gets-called s (needs-live (is_stream s.glk (l 0))
+    gets-called s (needs-live s.glk (is_stream s.glk (l 0))
     (fails-if (l 2 == 0) fails-ok (got_line-called u s.glk s.memory (l 0) (l 1) (l 2))))
 stream-called (str.GetBuffer u) s l =
-    gets-called s (needs-live (is_stream s.glk (l 0))
+    gets-called s (needs-live s.glk (is_stream s.glk (l 0))
     (got_array-called (l 2) false u s.glk s.memory (l 0) (l 1) 0))
 
 -- ---- file references
@@ -230,8 +230,8 @@ fileref-called fref.CreateFromFileref s l =
 fileref-called fref.Destroy s l =
     leaves s (streams-left s.glk (dropped-fails s.glk.streams (l 0)))
 fileref-called fref.Iterate s l =
-    needs-live (l 0 == 0 || is_ref s.glk (l 0)) (told _ (refers s (l 1) _))
-fileref-called fref.GetRock s l = needs-live (is_ref s.glk (l 0)) fails-ok
+    needs-live s.glk (l 0 == 0 || is_ref s.glk (l 0)) (told _ (refers s (l 1) _))
+fileref-called fref.GetRock s l = needs-live s.glk (is_ref s.glk (l 0)) fails-ok
 fileref-called fref.DeleteFile s l =
     leaves s (streams-left s.glk (deleted-fails s.glk.streams (l 0)))
 fileref-called fref.DoesFileExist s l =

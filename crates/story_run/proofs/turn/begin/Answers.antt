@@ -11,4 +11,8 @@ pub returns-in-Ok-clause-kept : goal.returns-in-Ok-clause-kept
 returns-in-Ok-clause-kept c = c.run.ensures.kept c.args.seed c.in-Ok.ensures.seed
 
 pub stopped-requires : goal.stopped-requires
-stopped-requires c = start-refused _ _ _ c.in-Err.ensures.value
+stopped-requires c =
+    start-refused c.args.image.now c.args.seed c.in-Err.trap c.in-Err.ensures.value
+
+pub returns-in-Err-clause-kept : goal.returns-in-Err-clause-kept
+returns-in-Err-clause-kept c = c.stopped.ensures.kept c.args.image.now c.args.seed

@@ -18,4 +18,8 @@ returns-in-Ok-clause-kept c = λ seed e. c.run.ensures.kept seed (c.in-Ok.ensure
 
 pub stopped-requires : goal.stopped-requires
 stopped-requires c =
-    delivery-refused _ _ _ c.deliver.new.machine _ _ c.in-Err.ensures.does
+    delivery-refused c.args.glk.now c.deliver.new.glk c.args.machine c.deliver.new.machine
+    c.args.input.now c.in-Err.trap c.in-Err.ensures.does
+
+pub returns-clause-kept : goal.returns-clause-kept
+returns-clause-kept c = λ seed e. c.stopped.ensures.kept c.args.image.now seed
