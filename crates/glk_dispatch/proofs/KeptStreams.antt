@@ -277,7 +277,7 @@ named-valid : (g : Glk) (usage : ℕ) (name : List ℕ) (rock : ℕ) → IsReady
     → IsReadyGlk (names.reference_named g usage name rock).0
 named-valid g usage name rock v =
     with-streams g (refs.made_ref g.streams usage (cleaned name) rock).0 v
-    ((laws.streams g.streams v.valid.parts.streams).refer usage (cleaned name) rock)
+    ((laws.streams g.streams v.valid.parts.streams).refer usage (cleaned name) rock (cleaned-short name))
     (made_ref-more g.streams usage (cleaned name) rock)
 
 prompted_for-valid : (g : Glk) (asked : Prompt) (name : List ℕ) → IsReadyGlk g
@@ -303,7 +303,8 @@ kept-fileref_work ref.CreateTemp s l =
     let g = (names.temp_made s.glk (l 0) (l 1)).0 in
     answers s (record s { glk = g }) (names.temp_made s.glk (l 0) (l 1)).1
     (placed-on s g (λ v. with-streams s.glk (refs.made_ref s.glk.streams (l 0) name (l 1)).0 v
-    ((laws.streams s.glk.streams v.valid.parts.streams).refer (l 0) name (l 1))
+    ((laws.streams s.glk.streams v.valid.parts.streams).refer (l 0) name (l 1)
+    (temporary-short s.glk.streams.next_ref (next_ref-below s.glk.streams v.valid.parts.streams)))
     (made_ref-more s.glk.streams (l 0) name (l 1))))
 kept-fileref_work ref.CreateByName s l =
     kept-makes s (names.named_made s.glk s.memory (l 0) (l 1) (l 2))

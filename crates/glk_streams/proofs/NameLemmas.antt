@@ -1,14 +1,19 @@
 -- How a name is cleaned, character by character.
-use Rattle.std.proofs.Common.{◌≡◌, ◌≢◌, ◌<◌, ◌-◌, ◌+◌, ℕ, suc, false, List, [], ◌∷◌, ◌++◌}
+use Rattle.std.proofs.Common.{◌≡◌, ◌≢◌, ◌<◌, ◌≤◌, ◌-◌, ◌+◌, ℕ, suc, true, false, not, List, [], ◌∷◌}
+use Rattle.std.proofs.Common.{◌++◌, length-append}
 use Rattle.std.proofs.Common.{refl, sym, ap, ◌∙◌, arith, length}
 use Rattle.std.proofs.lemmas.Grind.{common_steps}
 use Rattle.std.proofs.lemmas.Str.{chars-append, chars-IsAscii, chars-nil, chars_past_char}
 use Rattle.std.proofs.lemmas.Str.{length-encode, IsUtf8-encode}
 use Rattle.std.specs.Char.{encode_utf8, IsScalar}
 use Rattle.std.specs.Str.{chars, encode_utf8_all, IsUtf8, IsAscii}
-use Rattle.std.specs.Prelude.{codes}
+use Rattle.std.specs.Prelude.{codes, decimal, filter}
+use Rattle.std.proofs.lemmas.Bool.Decides.{nat_tests}
+use Rattle.std.proofs.lemmas.Fmt.{length-decimal-le}
+use Rattle.std.proofs.lemmas.List.{length-take}
 use mathlib.Core.List.{append-nil, append_assoc}
 use Rattle.glk_streams.specs.Names.{is_taken_out, before_period, name_cut, cleaned, or_null}
+use Rattle.glk_streams.specs.Names.{is_short, temporary}
 
 pub cut-nil : (n : ℕ) → name_cut n [] ≡ []
 unfolding before_period
@@ -73,3 +78,25 @@ null_bytes = refl
 pub null_of : (name clean : List ℕ) → clean ≡ name_cut 64 name → length (encode_utf8_all clean) ≡ 0
     → chars (codes "null") ≡ cleaned name
 null_of name clean e h = null_bytes ∙ or_null-empty clean h ∙ ap or_null e
+
+-- names as they are made have at most 64 characters
+
+or_null-length : (cs : List ℕ) → length cs ≤ 64 → length (or_null cs) ≤ 64
+or_null-length [] h = grind (arith, common_steps)
+or_null-length (c ∷ cs) h = h
+
+pub cleaned-short : (name : List ℕ) → is_short (cleaned name) ≡ true
+cleaned-short name =
+    let cut : length (name_cut 64 name) ≤ 64 =
+    omega (arith, length-take 64 (before_period (filter (λ c. not (is_taken_out c)) name))) in
+    let short : length (cleaned name) ≤ 64 = or_null-length (name_cut 64 name) cut in
+    grind (arith, nat_tests, short)
+
+pub temporary-short : (n : ℕ) → n ≤ 4294967295 → is_short (temporary n) ≡ true
+temporary-short n h =
+    let digits : length (decimal n) ≤ 10 =
+    length-decimal-le 10 n (omega arith) (omega (arith, h)) (omega (arith, h)) in
+    let whole : length (temporary n) ≡ 5 + length (decimal n) =
+    length-append (codes ".temp") (decimal n) in
+    let short : length (temporary n) ≤ 64 = omega (arith, digits, whole) in
+    grind (arith, nat_tests, short)

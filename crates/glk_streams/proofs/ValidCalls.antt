@@ -1,5 +1,6 @@
 -- Each call keeps what is valid.
-use Rattle.std.proofs.Common.{◌≡◌, ◌≤◌, ◌<◌, ℕ, ◌+◌, ◌-◌, Bool, true, false, ◌||◌, List, [], ◌∷◌}
+use Rattle.std.proofs.Common.{◌≡◌, ◌≤◌, ◌<◌, ℕ, ◌+◌, ◌-◌, Bool, true, false, ◌||◌, ◌&&◌, List, []}
+use Rattle.std.proofs.Common.{◌∷◌}
 use Rattle.std.proofs.Common.{◌++◌, refl, Option, Some, None, Result, Ok, Err, arith, nat_lt}
 use Rattle.std.proofs.Common.{nat_le, ◌==◌, length, not, take, drop, length-append, length-drop}
 use Rattle.std.specs.Prelude.{cond}
@@ -36,11 +37,13 @@ use Rattle.glk_streams.specs.Position.{sought_in}
 use Rattle.glk_streams.specs.Streams.{StreamTable, ref_number_of, stream_at}
 use Rattle.glk_streams.specs.Streams.{ref_at, stream_of_window, is_window_target}
 use Rattle.glk_streams.specs.Streams.{with_stream, is_write_mode}
-use Rattle.glk_streams.specs.Valid.{is_current, are_files, are_streams}
+use Rattle.glk_streams.specs.Names.{is_short}
+use Rattle.glk_streams.specs.Valid.{has_short_name, is_current, are_files, are_streams}
 use Rattle.glk_streams.proofs.ValidLemmas.{count-window, count-more, or_parts}
 use Rattle.glk_streams.proofs.ValidLaws.{Parts, parts_of, of_parts, files_of, files-held, both}
 use Rattle.glk_streams.proofs.ValidLaws.{files-without, held_of, streams-more, streams-changed}
 use Rattle.glk_streams.proofs.ValidLaws.{streams-without, streams-current, refs-more, refs-without}
+use Rattle.glk_streams.proofs.ValidLaws.{ref-short, stream-short}
 
 negated : (x : Bool) → not x ≡ false → x ≡ true
 negated true e = refl
@@ -85,7 +88,8 @@ memory-by t buf len mode rock unicode true false e f h =
     grind (arith, common_steps, count-more t.streams v, room.1) in
     rw (e, f) (of_parts (added_with_number t v).0 (record {
       streams = streams-more t.next t.current t.streams v p.streams room.0 refl
-          (both (is_memory_mode mode) true e refl) few;
+          (both (is_memory_mode mode && true) true (both (is_memory_mode mode) true e refl) refl)
+          few;
       refs = p.refs;
       files = p.files;
     }))
@@ -95,17 +99,17 @@ stands : (fs : List file.File) (u : ℕ) (n : List ℕ) (mode : ℕ) → can_ope
 stands fs u n mode e = grind (arith, common_steps, e)
 
 emptied : (fs : List file.File) (u : ℕ) (n : List ℕ)
-    → are_files fs ≡ true → file_may_stand fs u n ≡ true
+    → is_short n ≡ true → are_files fs ≡ true → file_may_stand fs u n ≡ true
     → are_files (files_holding fs u n []) ≡ true
-emptied fs u n h m =
+emptied fs u n k h m =
     let f = files_of fs h in
-    files-held fs u n [] h m (grind (arith, common_steps, f.bytes))
+    files-held fs u n [] k h m (grind (arith, common_steps, f.bytes))
 
 name-by : (t : StreamTable) (u : ℕ) (n : List ℕ) (mode rock : ℕ) (unicode : Bool) (s : Bool)
     → (mode == 1 || not (has_file t.files u n)) ≡ s → is_file_mode mode ≡ true
-    → file_may_stand t.files u n ≡ true → are_streams_full t ≡ false → AreValidStreams t
+    → is_short n ≡ true → file_may_stand t.files u n ≡ true → are_streams_full t ≡ false → AreValidStreams t
     → AreValidStreams (opened_name t u n mode rock unicode).0
-name-by t u n mode rock unicode s e m stand f h =
+name-by t u n mode rock unicode s e m k stand f h =
     let p = parts_of t h in
     let v =
     fresh_stream t.next rock mode unicode (File u n) (first_place t.files u n mode unicode) in
@@ -113,7 +117,8 @@ name-by t u n mode rock unicode s e m stand f h =
     let few : count_of (t.streams ++ v ∷ []) ≤ 64 =
     grind (arith, common_steps, count-more t.streams v, room.1) in
     let streams = streams-more t.next t.current t.streams v p.streams room.0 refl
-    (both (is_file_mode mode) true m refl) few in
+    (both (is_file_mode mode && is_short n) true (both (is_file_mode mode) (is_short n) m k) refl)
+    few in
     by s e v streams p stand
   where
     by : (s : Bool) → (mode == 1 || not (has_file t.files u n)) ≡ s → (v : Stream)
@@ -125,7 +130,7 @@ name-by t u n mode rock unicode s e m stand f h =
         (record {
           streams = streams;
           refs = p.refs;
-          files = emptied t.files u n p.files stand;
+          files = emptied t.files u n k p.files stand;
         }))
     by false e v streams p stand =
         rw e (of_parts (added_with_number t v).0
@@ -133,23 +138,24 @@ name-by t u n mode rock unicode s e m stand f h =
 
 ref-by : (t : StreamTable) (r : FileRef) (mode rock : ℕ) (unicode : Bool) (a b : Bool)
     → is_file_mode mode ≡ a → (are_streams_full t || not (can_open t.files r.usage r.name mode)) ≡ b
-    → AreValidStreams t
+    → is_short r.name ≡ true → AreValidStreams t
     → LeavesBeside (opened_ref t r mode rock unicode)
-ref-by t r mode rock unicode false b e f h = rw e tt
-ref-by t r mode rock unicode true true e f h = rw (e, f) h
-ref-by t r mode rock unicode true false e f h =
+ref-by t r mode rock unicode false b e f k h = rw e tt
+ref-by t r mode rock unicode true true e f k h = rw (e, f) h
+ref-by t r mode rock unicode true false e f k h =
     let a = or_parts (are_streams_full t) (not (can_open t.files r.usage r.name mode)) f in
     rw (e, f) (name-by t r.usage r.name mode rock unicode
-    (mode == 1 || not (has_file t.files r.usage r.name)) refl e
+    (mode == 1 || not (has_file t.files r.usage r.name)) refl e k
     (stands t.files r.usage r.name mode (negated _ a.1)) a.0 h)
 
-file-by : (t : StreamTable) (o : Option FileRef) (mode rock : ℕ) (unicode : Bool)
-    → AreValidStreams t
+file-by : (t : StreamTable) (n : ℕ) (o : Option FileRef) (mode rock : ℕ) (unicode : Bool)
+    → ref_at t n ≡ o → AreValidStreams t
     → LeavesBeside (live o (λ r. opened_ref t r mode rock unicode))
-file-by t None mode rock unicode h = tt
-file-by t (Some r) mode rock unicode h =
+file-by t n None mode rock unicode f h = tt
+file-by t n (Some r) mode rock unicode f h =
     ref-by t r mode rock unicode (is_file_mode mode)
-    (are_streams_full t || not (can_open t.files r.usage r.name mode)) refl refl h
+    (are_streams_full t || not (can_open t.files r.usage r.name mode)) refl refl
+    (ref-short t.next_ref t.refs n r (parts_of t h).refs f) h
 
 -- closing
 
@@ -203,10 +209,11 @@ replaced-length bytes at new =
     omega (arith, whole, front, length-take at bytes, length-drop (at + length new) bytes)
 
 bytes-by : (fs : List file.File) (place u : ℕ) (n : List ℕ) (c : Coding) (new : List ℕ) (s : Bool)
-    → is_kept fs u n (byte_start c (content_of fs u n) place) (length new) ≡ s → are_files fs ≡ true
+    → is_kept fs u n (byte_start c (content_of fs u n) place) (length new) ≡ s → is_short n ≡ true
+    → are_files fs ≡ true
     → are_files (put_bytes fs place u n c new).0 ≡ true
-bytes-by fs place u n c new false e h = rw e h
-bytes-by fs place u n c new true e h =
+bytes-by fs place u n c new false e k h = rw e h
+bytes-by fs place u n c new true e k h =
     let at = byte_start c (content_of fs u n) place in
     let a = and_parts (file_may_stand fs u n)
     (nat_le (at + length new - length (content_of fs u n)) (room_of fs)) e in
@@ -216,7 +223,7 @@ bytes-by fs place u n c new true e h =
     (content_of fs u n) =
     fits-by (sum_of_bytes fs) (length (content_of fs u n)) (at + length new)
     (length (replaced (content_of fs u n) at new)) a.1 f.bytes long in
-    rw e (files-held fs u n (replaced (content_of fs u n) at new) h a.0 fits)
+    rw e (files-held fs u n (replaced (content_of fs u n) at new) k h a.0 fits)
   where
     fits-by : (sum was end long : ℕ) → nat_le (end - was) (1048576 - sum) ≡ true
         → nat_le sum 1048576 ≡ true
@@ -229,23 +236,23 @@ in-memory fs (Ok done) h = h
 in-memory fs (Err e) h = tt
 
 put-in : (to : Target) (unicode : Bool) (fs : List file.File) (m : MemoryMap) (place code : ℕ)
-    → are_files fs ≡ true
+    → has_short_name to ≡ true → are_files fs ≡ true
     → FilesIn (put_in_target to unicode fs m place code)
-put-in (Window win) unicode fs m place code h = h
-put-in (Memory buf len) unicode fs m place code h =
+put-in (Window win) unicode fs m place code k h = h
+put-in (Memory buf len) unicode fs m place code k h =
     in-memory fs (put_in_memory m place buf len (coding_of unicode (Memory buf len)) code) h
-put-in (File u n) unicode fs m place code h =
+put-in (File u n) unicode fs m place code k h =
     bytes-by fs place u n (coding_of unicode (File u n))
     (bytes_kept (coding_of unicode (File u n)) code)
     (is_kept fs u n (byte_start (coding_of unicode (File u n)) (content_of fs u n) place)
     (length (bytes_kept (coding_of unicode (File u n)) code)))
-    refl h
+    refl k h
 
 put-by : (fs : List file.File) (m : MemoryMap) (s : Stream) (code : ℕ) (w : Bool)
-    → is_write_mode s.mode ≡ w
+    → is_write_mode s.mode ≡ w → has_short_name s.target ≡ true
     → are_files fs ≡ true → FilesIn (put_by fs m s code)
-put-by fs m s code true e h = rw e (put-in s.target s.unicode fs m s.place code h)
-put-by fs m s code false e h = rw e tt
+put-by fs m s code true e k h = rw e (put-in s.target s.unicode fs m s.place code k h)
+put-by fs m s code false e k h = rw e tt
 
 put-then : (t : StreamTable) (n : ℕ) (s : Stream) (r : Put) → stream_at t n ≡ Some s → FilesIn r
     → AreValidStreams t
@@ -268,7 +275,8 @@ write-by : (t : StreamTable) (m : MemoryMap) (n code : ℕ) (o : Option Stream) 
 write-by t m n code None f h = tt
 write-by t m n code (Some s) f h =
     put-then t n s (put_by t.files m s code) f
-    (put-by t.files m s code (is_write_mode s.mode) refl (parts_of t h).files) h
+    (put-by t.files m s code (is_write_mode s.mode) refl
+    (stream-short t.next t.current t.streams n s (parts_of t h).streams f) (parts_of t h).files) h
 
 read-then : (t : StreamTable) (n : ℕ) (s : Stream) (r : Result (Option Reading) StreamStop)
     → stream_at t n ≡ Some s → AreValidStreams t
@@ -330,29 +338,31 @@ current-by t n false e h = rw e tt
 -- references
 
 refer-by : (t : StreamTable) (u : ℕ) (n : List ℕ) (rock : ℕ) (b : Bool)
-    → (nat_le 64 (length t.refs) || nat_lt 4294967294 t.next_ref) ≡ b → AreValidStreams t
-    → AreValidStreams (made_ref t u n rock).0
-refer-by t u n rock true e h = rw e h
-refer-by t u n rock false e h =
+    → (nat_le 64 (length t.refs) || nat_lt 4294967294 t.next_ref) ≡ b → is_short n ≡ true
+    → AreValidStreams t → AreValidStreams (made_ref t u n rock).0
+refer-by t u n rock true e k h = rw e h
+refer-by t u n rock false e k h =
     let p = parts_of t h in
     let a = or_parts (nat_le 64 (length t.refs)) (nat_lt 4294967294 t.next_ref) e in
     let v : FileRef = record { number = t.next_ref; usage = u; rock = rock; name = n } in
     rw e (of_parts (record t { refs = t.refs ++ v ∷ []; next_ref = t.next_ref + 1 }) (record {
       streams = p.streams;
       refs = refs-more t.next_ref t.refs v p.refs (grind (arith, common_steps, a.1)) refl
-          (grind (arith, common_steps, a.0));
+          (grind (arith, common_steps, a.0)) k;
       files = p.files;
     }))
 
-refer : (t : StreamTable) (u : ℕ) (n : List ℕ) (rock : ℕ) → AreValidStreams t
+refer : (t : StreamTable) (u : ℕ) (n : List ℕ) (rock : ℕ) → is_short n ≡ true → AreValidStreams t
     → AreValidStreams (made_ref t u n rock).0
-refer t u n rock h =
-    refer-by t u n rock (nat_le 64 (length t.refs) || nat_lt 4294967294 t.next_ref) refl h
+refer t u n rock k h =
+    refer-by t u n rock (nat_le 64 (length t.refs) || nat_lt 4294967294 t.next_ref) refl k h
 
-copy-by : (t : StreamTable) (u rock : ℕ) (o : Option FileRef) → AreValidStreams t
+copy-by : (t : StreamTable) (u n rock : ℕ) (o : Option FileRef) → ref_at t n ≡ o
+    → AreValidStreams t
     → LeavesBeside (live o (λ r. Ok (made_ref t u r.name rock)))
-copy-by t u rock None h = tt
-copy-by t u rock (Some r) h = refer t u r.name rock h
+copy-by t u n rock None f h = tt
+copy-by t u n rock (Some r) f h =
+    refer t u r.name rock (ref-short t.next_ref t.refs n r (parts_of t h).refs f) h
 
 forget-by : (t : StreamTable) (n : ℕ) (o : Option FileRef) → AreValidStreams t
     → LeavesValidStreams (live o (λ r. Ok (record t { refs = without ref_number_of t.refs n })))
@@ -382,7 +392,7 @@ keeps t h = record {
   window = λ win. window-by t win (nat_lt 4294967294 t.next) refl h;
   memory = λ buf len mode rock unicode. memory-by t buf len mode rock unicode (is_memory_mode mode)
       (are_streams_full t) refl refl h;
-  file = λ fref mode rock unicode. file-by t (ref_at t fref) mode rock unicode h;
+  file = λ fref mode rock unicode. file-by t fref (ref_at t fref) mode rock unicode refl h;
   close = λ n. close-by t n (stream_at t n) h;
   close_window = λ win. dropped-valid t (stream_of_window t.streams win) h;
   write = λ m n code. write-by t m n code (stream_at t n) refl h;
@@ -390,8 +400,8 @@ keeps t h = record {
   seek = λ n by from. seek-by t n by from (stream_at t n) (nat_lt 2 from) refl refl h;
   style = λ n style. style-by t n style (stream_at t n) refl h;
   current = λ n. current-by t n (is_current t.streams n) refl h;
-  refer = λ u n rock. refer t u n rock h;
-  copy = λ u fref rock. copy-by t u rock (ref_at t fref) h;
+  refer = λ u n rock k. refer t u n rock k h;
+  copy = λ u fref rock. copy-by t u fref rock (ref_at t fref) refl h;
   forget = λ fref. forget-by t fref (ref_at t fref) h;
   delete = λ fref. delete-by t (ref_at t fref) h;
 }

@@ -10,11 +10,13 @@ use Rattle.glk_streams.specs.declared.stream.Stream.{Stream}
 use Rattle.glk_streams.specs.declared.fileref.FileRef.{FileRef}
 use Rattle.glk_streams.specs.Files.{has_file, content_of, file_with_bytes, with_file, without_file}
 use Rattle.glk_streams.specs.Files.{files_holding, sum_of_bytes, file_may_stand}
+use Rattle.glk_streams.specs.Names.{is_short}
 use Rattle.glk_streams.specs.Streams.{StreamTable, no_streams, stream_number}
 use Rattle.glk_streams.specs.Streams.{ref_number_of, is_window_target}
 use Rattle.glk_streams.specs.Opening.{count_of}
 use Rattle.glk_streams.specs.Valid.{is_mode, is_sound_stream, are_sound_streams}
-use Rattle.glk_streams.specs.Valid.{is_current, is_next, files_in_order, are_kinds}
+use Rattle.glk_streams.specs.Valid.{has_short_name, have_short_names}
+use Rattle.glk_streams.specs.Valid.{is_current, is_next, files_in_order, are_sound_files}
 use Rattle.glk_streams.specs.Valid.{are_files, are_streams, are_refs, are_valid_streams}
 use Rattle.glk_streams.proofs.ValidLemmas.{in_order-bytes, in_order-file, in_order-without}
 use Rattle.glk_streams.proofs.ValidLemmas.{kinds-bytes, kinds-file, kinds-without, length-bytes}
@@ -23,6 +25,7 @@ use Rattle.glk_streams.proofs.ValidLemmas.{bytes-without, ascends-changed, ascen
 use Rattle.glk_streams.proofs.ValidLemmas.{ascends-without, has-changed, has-without, has-more}
 use Rattle.glk_streams.proofs.ValidLemmas.{number-found, length-left, modes-changed, mode-found}
 use Rattle.glk_streams.proofs.ValidLemmas.{modes-without, modes-more, count-changed, count-without}
+use Rattle.glk_streams.proofs.ValidLemmas.{name-found, names-more, names-without}
 
 -- the parts of a conjunction, and back
 pub both : (x y : Bool) → x ≡ true → y ≡ true → (x && y) ≡ true
@@ -30,7 +33,7 @@ both x y a b = λ i. a i && b i
 
 pub record Files (fs : List File) : Type 0 where
   pub order : files_in_order fs ≡ true
-  pub kinds : are_kinds fs ≡ true
+  pub kinds : are_sound_files fs ≡ true
   pub count : nat_le (length fs) 64 ≡ true
   pub bytes : nat_le (sum_of_bytes fs) 1048576 ≡ true
 
@@ -45,11 +48,11 @@ pub of_files : (fs : List File) → Files fs → are_files fs ≡ true
 of_files fs f = both _ _ (both _ _ (both _ _ f.order f.kinds) f.count) f.bytes
 
 held-as : (fs : List File) (u : ℕ) (n b : List ℕ) (s : Bool) → has_file fs u n ≡ s
-    → are_files fs ≡ true
+    → is_short n ≡ true → are_files fs ≡ true
     → file_may_stand fs u n ≡ true → (s ≡ false → content_of fs u n ≡ [])
     → sum_of_bytes fs + length b ≤ 1048576 + length (content_of fs u n)
     → are_files (files_holding fs u n b) ≡ true
-held-as fs u n b true e h m z l =
+held-as fs u n b true e k h m z l =
     let f = files_of fs h in
     rw e (of_files (file_with_bytes fs u n b) (record {
       order = in_order-bytes fs u n b ∙ f.order;
@@ -57,12 +60,12 @@ held-as fs u n b true e h m z l =
       count = rw (length-bytes fs u n b) f.count;
       bytes = grind (arith, common_steps, bytes-bytes fs u n b e, l);
     }))
-held-as fs u n b false e h m z l =
+held-as fs u n b false e k h m z l =
     let f = files_of fs h in
     let none = z refl in
     rw e (of_files (with_file fs u n b) (record {
       order = in_order-file fs u n b f.order e;
-      kinds = kinds-file fs u n b f.kinds;
+      kinds = kinds-file fs u n b k f.kinds;
       count = grind (arith, common_steps, length-file fs u n b, m, e);
       bytes = grind (arith, common_steps, bytes-file fs u n b, l, none);
     }))
@@ -73,11 +76,13 @@ unfolding has_file content_of
 no-content [] u n h = refl
 no-content (f ∷ fs) u n h = grind (arith, common_steps, h, no-content fs u n)
 
-pub files-held : (fs : List File) (u : ℕ) (n b : List ℕ) → are_files fs ≡ true
+pub files-held : (fs : List File) (u : ℕ) (n b : List ℕ) → is_short n ≡ true
+    → are_files fs ≡ true
     → file_may_stand fs u n ≡ true
     → sum_of_bytes fs + length b ≤ 1048576 + length (content_of fs u n)
     → are_files (files_holding fs u n b) ≡ true
-files-held fs u n b h m l = held-as fs u n b (has_file fs u n) refl h m (no-content fs u n) l
+files-held fs u n b k h m l =
+    held-as fs u n b (has_file fs u n) refl k h m (no-content fs u n) l
 
 pub files-without : (fs : List File) (u : ℕ) (n : List ℕ) → are_files fs ≡ true
     → are_files (without_file fs u n) ≡ true
@@ -147,11 +152,11 @@ pub streams-changed : (next current : ℕ) (ss : List Stream) (n : ℕ) (s v : S
 streams-changed next current ss n s v f e t m y h =
     let r = held_of next current ss h in
     let num : v.number ≡ n = e ∙ number-found stream_number ss n s f in
-    let was = and_parts (is_mode s.target s.mode) (nat_le s.style 10)
+    let was = and_parts (is_mode s.target s.mode && has_short_name s.target) (nat_le s.style 10)
     (mode-found ss n s f r.modes) in
-    let kind : is_mode v.target v.mode ≡ true = rw (t, m) was.0 in
+    let kind : (is_mode v.target v.mode && has_short_name v.target) ≡ true = rw (t, m) was.0 in
     let mode : is_sound_stream v ≡ true =
-    both (is_mode v.target v.mode) (nat_le v.style 10) kind (y was.1) in
+    both (is_mode v.target v.mode && has_short_name v.target) (nat_le v.style 10) kind (y was.1) in
     of_held next current (changed_at stream_number (λ _. v) ss n) (record {
       next_is = r.next_is;
       order = ascends-changed stream_number ss 0 next n v num ∙ r.order;
@@ -195,22 +200,39 @@ streams-current next current n ss h live =
 -- references
 
 pub refs-more : (next : ℕ) (rs : List FileRef) (v : FileRef) → are_refs next rs ≡ true
-    → next ≤ 4294967294
-    → v.number ≡ next → length rs < 64 → are_refs (next + 1) (rs ++ v ∷ []) ≡ true
-refs-more next rs v h l e k =
-    let a = and_parts _ _ h in
+    → next ≤ 4294967294 → v.number ≡ next → length rs < 64 → is_short v.name ≡ true
+    → are_refs (next + 1) (rs ++ v ∷ []) ≡ true
+refs-more next rs v h l e k m =
+    let z = and_parts _ _ h in
+    let a = and_parts _ _ z.0 in
     let b = and_parts _ _ a.0 in
-    both _ _ (both _ _ (next-more next b.0 l)
+    both _ _ (both _ _ (both _ _ (next-more next b.0 l)
     (ascends-more ref_number_of rs 0 next v (next-some next b.0) e b.1))
-    (grind (arith, common_steps, k))
+    (grind (arith, common_steps, k)))
+    (names-more rs v z.1 m)
 
 pub refs-without : (next : ℕ) (rs : List FileRef) (n : ℕ) → are_refs next rs ≡ true
     → are_refs next (without ref_number_of rs n) ≡ true
 refs-without next rs n h =
-    let a = and_parts _ _ h in
+    let z = and_parts _ _ h in
+    let a = and_parts _ _ z.0 in
     let b = and_parts _ _ a.0 in
-    both _ _ (both _ _ b.0 (ascends-without ref_number_of rs 0 next n b.1))
-    (grind (arith, common_steps, length-left ref_number_of rs n, a.1))
+    both _ _ (both _ _ (both _ _ b.0 (ascends-without ref_number_of rs 0 next n b.1))
+    (grind (arith, common_steps, length-left ref_number_of rs n, a.1)))
+    (names-without rs n z.1)
+
+-- a reference's name is short
+pub ref-short : (next : ℕ) (rs : List FileRef) (n : ℕ) (r : FileRef) → are_refs next rs ≡ true
+    → found ref_number_of rs n ≡ Some r → is_short r.name ≡ true
+ref-short next rs n r h f = name-found rs n r f (and_parts _ _ h).1
+
+-- so is that of a stream's file
+pub stream-short : (next current : ℕ) (ss : List Stream) (n : ℕ) (s : Stream)
+    → are_streams next current ss ≡ true → found stream_number ss n ≡ Some s
+    → has_short_name s.target ≡ true
+stream-short next current ss n s h f =
+    let k = mode-found ss n s f (held_of next current ss h).modes in
+    (and_parts _ _ (and_parts _ _ k).0).1
 
 -- the whole
 pub record Parts (t : StreamTable) : Type 0 where
@@ -227,6 +249,16 @@ parts_of t h =
 pub of_parts : (t : StreamTable) → Parts t → are_valid_streams t ≡ true
 of_parts t p = both _ _ (both _ _ p.streams p.refs) p.files
 
+-- the next number of a reference
+pub next_ref-below : (t : StreamTable) → are_valid_streams t ≡ true → t.next_ref ≤ 4294967295
+next_ref-below t h =
+    let a = and_parts (is_next t.next_ref && ascends ref_number_of 0 t.next_ref t.refs
+    && nat_le (length t.refs) 64) (have_short_names t.refs) (parts_of t h).refs in
+    let b = and_parts (is_next t.next_ref && ascends ref_number_of 0 t.next_ref t.refs)
+    (nat_le (length t.refs) 64) a.0 in
+    let c = and_parts (is_next t.next_ref) (ascends ref_number_of 0 t.next_ref t.refs) b.0 in
+    grind (arith, common_steps, c.0)
+
 pub begins : are_valid_streams no_streams ≡ true
-unfolding are_sound_streams ascends files_in_order are_kinds count_of sum_of_bytes
+unfolding are_sound_streams ascends files_in_order are_sound_files have_short_names count_of sum_of_bytes
 begins = refl

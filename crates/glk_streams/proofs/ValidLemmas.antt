@@ -1,22 +1,25 @@
 -- What a change of files, streams or references keeps of their validity.
 use Rattle.std.proofs.Common.{◌≡◌, ◌≢◌, ◌≤◌, ◌<◌, ℕ, ◌+◌, Bool, true, false, ◌&&◌, ◌||◌, List, []}
-use Rattle.std.proofs.Common.{◌∷◌, ◌++◌, refl, ap, ◌∙◌, Some, arith, length}
+use Rattle.std.proofs.Common.{◌∷◌, ◌++◌, refl, ap, ◌∙◌, Some, arith, length, subst, ◌==◌}
 use Rattle.std.proofs.lemmas.Grind.{common_steps}
-use Rattle.std.proofs.lemmas.Bool.{and_parts}
+use Rattle.std.proofs.lemmas.Bool.{and_parts, cond_both}
 use Rattle.std.specs.Ordering.{is_eq, is_lt, nat_cmp, ordering_reverse}
 use Rattle.std.specs.declared.cmp.Ordering.{Ordering}
 use Rattle.std.specs.declared.cmp.Ordering.TheVariants.{Less, Equal, Greater}
 use Rattle.std.specs.Cmp.Lexicographic.{slice_cmp, nat_list_cmp_total}
 use Rattle.glk_numbers.specs.Numbered.{has, found, changed_at, without, ascends}
 use Rattle.glk_streams.specs.declared.file.File.{File}
+use Rattle.glk_streams.specs.declared.fileref.FileRef.{FileRef}
 use Rattle.glk_streams.specs.declared.stream.Stream.{Stream}
 use Rattle.glk_streams.specs.Files.{key_of_file, file_key, is_named, stands_before}
 use Rattle.glk_streams.specs.Files.{has_file, content_of, file_with_bytes}
 use Rattle.glk_streams.specs.Files.{with_file, without_file, sum_of_bytes}
-use Rattle.glk_streams.specs.Streams.{stream_number, is_window_target}
+use Rattle.glk_streams.specs.Names.{is_short}
+use Rattle.glk_streams.specs.Streams.{stream_number, ref_number_of, is_window_target}
 use Rattle.glk_streams.specs.Opening.{count_of}
 use Rattle.glk_streams.specs.Valid.{is_sound_stream, are_sound_streams}
-use Rattle.glk_streams.specs.Valid.{is_first, files_in_order, are_kinds}
+use Rattle.glk_streams.specs.Valid.{is_first, files_in_order, are_sound_files}
+use Rattle.glk_streams.specs.Valid.{have_short_names}
 
 pub or_parts : (x y : Bool) → (x || y) ≡ false → (x ≡ false) × (y ≡ false)
 or_parts true y e = absurd (grind (arith, e))
@@ -132,22 +135,22 @@ in_order-file (f ∷ fs) u n b a h =
 -- kinds and sums
 
 pub kinds-bytes : (fs : List File) (u : ℕ) (n b : List ℕ)
-    → are_kinds (file_with_bytes fs u n b) ≡ are_kinds fs
-unfolding are_kinds file_with_bytes
+    → are_sound_files (file_with_bytes fs u n b) ≡ are_sound_files fs
+unfolding are_sound_files file_with_bytes
 kinds-bytes [] u n b = refl
 kinds-bytes (f ∷ fs) u n b = grind (arith, common_steps, kinds-bytes fs u n b)
 
-pub kinds-without : (fs : List File) (u : ℕ) (n : List ℕ) → are_kinds fs ≡ true
-    → are_kinds (without_file fs u n) ≡ true
-unfolding are_kinds without_file
+pub kinds-without : (fs : List File) (u : ℕ) (n : List ℕ) → are_sound_files fs ≡ true
+    → are_sound_files (without_file fs u n) ≡ true
+unfolding are_sound_files without_file
 kinds-without [] u n a = refl
 kinds-without (f ∷ fs) u n a = grind (arith, common_steps, a, kinds-without fs u n)
 
-pub kinds-file : (fs : List File) (u : ℕ) (n b : List ℕ) → are_kinds fs ≡ true
-    → are_kinds (with_file fs u n b) ≡ true
-unfolding are_kinds with_file
-kinds-file [] u n b a = grind (arith, common_steps)
-kinds-file (f ∷ fs) u n b a = grind (arith, common_steps, a, kinds-file fs u n b)
+pub kinds-file : (fs : List File) (u : ℕ) (n b : List ℕ) → is_short n ≡ true
+    → are_sound_files fs ≡ true → are_sound_files (with_file fs u n b) ≡ true
+unfolding are_sound_files with_file
+kinds-file [] u n b s a = grind (arith, common_steps, s)
+kinds-file (f ∷ fs) u n b s a = grind (arith, common_steps, a, s, kinds-file fs u n b s)
 
 pub length-bytes : (fs : List File) (u : ℕ) (n b : List ℕ)
     → length (file_with_bytes fs u n b) ≡ length fs
@@ -259,14 +262,23 @@ pub modes-changed : (ss : List Stream) (n : ℕ) (v : Stream) → is_sound_strea
     → are_sound_streams (changed_at stream_number (λ _. v) ss n) ≡ true
 unfolding are_sound_streams changed_at
 modes-changed [] n v m a = refl
-modes-changed (s ∷ ss) n v m a = grind (arith, common_steps, m, a, modes-changed ss n v m)
+modes-changed (s ∷ ss) n v m a =
+    let k = and_parts (is_sound_stream s) (are_sound_streams ss) a in
+    cond_both (s.number == n) (v ∷ ss) (s ∷ changed_at stream_number (λ _. v) ss n)
+    (λ xs. are_sound_streams xs ≡ true)
+    (λ e i. m i && k.1 i) (λ e i. k.0 i && modes-changed ss n v m k.1 i)
 
 pub mode-found : (ss : List Stream) (n : ℕ) (s : Stream) → found stream_number ss n ≡ Some s
     → are_sound_streams ss ≡ true
     → is_sound_stream s ≡ true
 unfolding are_sound_streams found
 mode-found [] n s e a = absurd (grind (arith, e))
-mode-found (x ∷ ss) n s e a = grind (arith, common_steps, e, a, mode-found ss n s)
+mode-found (x ∷ ss) n s e a =
+    let k = and_parts (is_sound_stream x) (are_sound_streams ss) a in
+    cond_both (x.number == n) (Some x) (found stream_number ss n)
+    (λ o. o ≡ Some s → is_sound_stream s ≡ true)
+    (λ h f. let i : x ≡ s = cc in subst (λ y. is_sound_stream y ≡ true) i k.0)
+    (λ h f. mode-found ss n s f k.1) e
 
 pub modes-without : (ss : List Stream) (n : ℕ) → are_sound_streams ss ≡ true
     → are_sound_streams (without stream_number ss n) ≡ true
@@ -303,3 +315,23 @@ pub count-window : (ss : List Stream) (v : Stream) → is_window_target v.target
 unfolding count_of
 count-window [] v w = grind (arith, common_steps, w)
 count-window (s ∷ ss) v w = grind (arith, common_steps, w, count-window ss v w)
+
+-- names of references
+
+pub names-without : (rs : List FileRef) (n : ℕ) → have_short_names rs ≡ true
+    → have_short_names (without ref_number_of rs n) ≡ true
+unfolding have_short_names without
+names-without [] n a = refl
+names-without (r ∷ rs) n a = grind (arith, common_steps, a, names-without rs n)
+
+pub names-more : (rs : List FileRef) (v : FileRef) → have_short_names rs ≡ true
+    → is_short v.name ≡ true → have_short_names (rs ++ v ∷ []) ≡ true
+unfolding have_short_names
+names-more [] v a m = grind (arith, common_steps, m)
+names-more (r ∷ rs) v a m = grind (arith, common_steps, a, m, names-more rs v)
+
+pub name-found : (rs : List FileRef) (n : ℕ) (r : FileRef) → found ref_number_of rs n ≡ Some r
+    → have_short_names rs ≡ true → is_short r.name ≡ true
+unfolding have_short_names found
+name-found [] n r e a = absurd (grind (arith, e))
+name-found (x ∷ rs) n r e a = grind (arith, common_steps, e, a, name-found rs n r)

@@ -5,6 +5,7 @@ use Rattle.glk_streams.specs.declared.fault.StreamStop.{StreamStop}
 use Rattle.glk_streams.specs.FileRefs.{made_ref, copied_ref, dropped_ref, deleted, with_current}
 use Rattle.glk_streams.specs.FileRefs.{styled}
 use Rattle.glk_streams.specs.Input.{got}
+use Rattle.glk_streams.specs.Names.{is_short}
 use Rattle.glk_streams.specs.Opening.{opened_window, opened_memory, opened_file, closed_stream}
 use Rattle.glk_streams.specs.Opening.{closed_window}
 use Rattle.glk_streams.specs.Output.{put_on_stream}
@@ -38,7 +39,7 @@ pub record KeepsStreamsValid (t : StreamTable) : Type 0 where
   pub seek : (n by from : ℕ) → LeavesValidStreams (position_sought t n by from)
   pub style : (n style : ℕ) → LeavesValidStreams (styled t n style)
   pub current : (n : ℕ) → LeavesValidStreams (with_current t n)
-  pub refer : (usage : ℕ) (name : List ℕ) (rock : ℕ)
+  pub refer : (usage : ℕ) (name : List ℕ) (rock : ℕ) → is_short name ≡ true
       → AreValidStreams (made_ref t usage name rock).0
   pub copy : (usage fref rock : ℕ) → LeavesBeside (copied_ref t usage fref rock)
   pub forget : (fref : ℕ) → LeavesValidStreams (dropped_ref t fref)

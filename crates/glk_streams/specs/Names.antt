@@ -1,6 +1,6 @@
 -- Names of files (Glk 0.7.5, "File References"; own: which characters are taken out).
-use Rattle.std.specs.Prelude.{ℕ, ◌==◌, ◌||◌, not, nat_lt, if◌then◌else◌, Bool, List}
-use Rattle.std.specs.Prelude.{[], ◌∷◌, ◌++◌, take, filter, codes, decimal}
+use Rattle.std.specs.Prelude.{ℕ, ◌==◌, ◌||◌, not, nat_le, nat_lt, if◌then◌else◌, Bool, List}
+use Rattle.std.specs.Prelude.{[], ◌∷◌, ◌++◌, length, take, filter, codes, decimal}
 
 -- a control character, or one of " / \ > < : | ? *
 abbrev pub is_taken_out : ℕ → Bool
@@ -24,6 +24,10 @@ name_cut n name = take n (before_period (filter (λ c. not (is_taken_out c)) nam
 -- cut to 64 characters; an empty one is null
 abbrev pub cleaned : List ℕ → List ℕ
 cleaned name = or_null (name_cut 64 name)
+
+-- a name of at most 64 characters
+abbrev pub is_short : List ℕ → Bool
+is_short name = nat_le (length name) 64
 
 -- the name of a temporary file, by its reference's number
 abbrev pub temporary : ℕ → List ℕ

@@ -4,7 +4,7 @@ ghost use Rattle.std.specs.Prelude.{◌≡◌, ◌≢◌, ◌<◌, ◌≤◌, �
 ghost use Rattle.std.specs.Prelude.{◌∷◌, List, ℕ, IfOk};
 ghost use Rattle.std.specs.Str.{chars};
 ghost use Rattle.std.specs.String.{string_bytes};
-ghost use Rattle.glk_streams.specs.Names.{cleaned, name_cut, is_taken_out, temporary};
+ghost use Rattle.glk_streams.specs.Names.{cleaned, name_cut, is_short, is_taken_out, temporary};
 
 use itoa::Buffer;
 use std::alloc::{AllocError, Global};
@@ -15,6 +15,13 @@ fn is_taken_out(c: char) -> bool
     ensures { result ≡ is_taken_out c }
 {
     c < ' ' || matches!(c, '"' | '/' | '\\' | '>' | '<' | ':' | '|' | '?' | '*')
+}
+
+/// Whether the name has at most 64 characters.
+pub(crate) fn is_short(name: &Text) -> bool
+    ensures { result ≡ is_short name.now }
+{
+    name.as_str().chars().count() <= 64
 }
 
 /// The name of a temporary file, by the number that its reference gets.

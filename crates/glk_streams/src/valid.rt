@@ -7,6 +7,7 @@ ghost use Rattle.glk_streams.specs.Valid as valid;
 
 use crate::file::{File, MAX_FILE_BYTES, MAX_FILES};
 use crate::fileref::{FileRef, MAX_REFS};
+use crate::name::is_short;
 use crate::opening::count_of;
 use crate::stream::{MAX_STREAMS, Stream, Target};
 use crate::streams::Streams;
@@ -24,11 +25,21 @@ impl Stream {
         }
     }
 
-    /// Whether it has a mode of its kind, and one of the eleven styles.
+    /// Whether its file, if it has one, has a short name.
+    fn has_short_name(&self) -> bool
+        ensures { result ≡ valid.has_short_name self.now.target }
+    {
+        match &self.target {
+            Target::Window(_) | Target::Memory { .. } => true,
+            Target::File { name, .. } => is_short(name),
+        }
+    }
+
+    /// Whether it has a mode of its kind, a short name, and one of the eleven styles.
     fn is_sound(&self) -> bool
         ensures { result ≡ valid.is_sound_stream self.now }
     {
-        self.has_mode() && self.style <= 10
+        self.has_mode() && self.has_short_name() && self.style <= 10
     }
 }
 
@@ -75,13 +86,26 @@ fn in_order(list: &[File]) -> bool
     true
 }
 
-/// Whether each usage is one modulo 16.
-#[tactic(auto, unfolding(crate::specs::Valid::are_kinds))]
-fn are_kinds(list: &[File]) -> bool
-    ensures { result ≡ valid.are_kinds list.now }
+/// Whether each usage is one modulo 16, and each name short.
+#[tactic(auto, unfolding(crate::specs::Valid::are_sound_files))]
+fn are_sound_files(list: &[File]) -> bool
+    ensures { result ≡ valid.are_sound_files list.now }
 {
     for file in list {
-        if file.usage >= 16 {
+        if file.usage >= 16 || !is_short(&file.name) {
+            return false;
+        }
+    }
+    true
+}
+
+/// Whether each reference's name is short.
+#[tactic(auto, unfolding(crate::specs::Valid::have_short_names))]
+fn have_short_names(refs: &[FileRef]) -> bool
+    ensures { result ≡ valid.have_short_names refs.now }
+{
+    for fref in refs {
+        if !is_short(&fref.name) {
             return false;
         }
     }
@@ -106,7 +130,7 @@ fn is_within(list: &[File]) -> bool
 
 impl Streams {
     /// Whether they are such as a session may have: objects by number, modes of their kinds, files
-    /// in order, and the limits kept.
+    /// in order, names of at most 64 characters, and the limits kept.
     pub fn is_valid(&self) -> bool
         ensures { result ≡ valid.are_valid_streams self.now }
     {
@@ -158,6 +182,7 @@ impl Streams {
         is_next(self.next_ref)
             && ascend(&self.refs, 0, self.next_ref)
             && self.refs.len() <= MAX_REFS
+            && have_short_names(&self.refs)
     }
 }
 
@@ -165,5 +190,5 @@ impl Streams {
 fn are_files(list: &[File]) -> bool
     ensures { result ≡ valid.are_files list.now }
 {
-    in_order(list) && are_kinds(list) && list.len() <= MAX_FILES && is_within(list)
+    in_order(list) && are_sound_files(list) && list.len() <= MAX_FILES && is_within(list)
 }
