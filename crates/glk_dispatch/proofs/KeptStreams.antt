@@ -20,6 +20,8 @@ use Rattle.glk_streams.specs.Opening as opening
 use Rattle.glk_streams.specs.Position as place
 use Rattle.glk_streams.specs.Laws as of_streams
 use Rattle.glk_streams.specs.Streams as table
+use Rattle.glk_streams.proofs.NameLemmas.{cleaned-short, temporary-short}
+use Rattle.glk_streams.proofs.ValidLaws.{next_ref-below}
 use Rattle.glk_streams.specs.declared.fault.StreamStop.TheVariants.{BadArgument}
 use Rattle.glk_streams.specs.declared.stream.Stream.{Stream}
 use Rattle.glk_streams.specs.declared.stream.Target as target

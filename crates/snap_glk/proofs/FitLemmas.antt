@@ -72,7 +72,7 @@ pub are-files : (t : StreamTable) (fs : List File) → t.files ≡ map file_made
 are-files t fs e v x =
     let files = (and_parts (streams.are_streams t.next t.current t.streams
     && streams.are_refs t.next_ref t.refs) (streams.are_files t.files) v).1 in
-    let bytes = (and_parts (streams.files_in_order t.files && streams.are_kinds t.files
+    let bytes = (and_parts (streams.files_in_order t.files && streams.are_sound_files t.files
     && nat_le (length t.files) MAX_FILES) (nat_le (sum_of_bytes t.files) MAX_FILE_BYTES) files).1 in
     let few : sum_of_bytes (map file_made fs) ≤ MAX_FILE_BYTES =
     grind (arith, nat_tests, bytes, e) in
