@@ -26,3 +26,4 @@ pub mod StandardFacts
 pub mod AreaLemmas
 pub mod FieldLemmas
 pub mod AreaTestLemmas
+pub mod ShownLemmas

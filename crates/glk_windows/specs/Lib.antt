@@ -11,3 +11,4 @@ pub mod OneTree
 pub mod Laws
 pub mod Areas
 pub mod Fields
+pub mod Shown

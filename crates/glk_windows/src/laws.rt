@@ -3,6 +3,7 @@
 ghost use Rattle.glk_windows.specs.Areas.{PlacesWindows};
 ghost use Rattle.glk_windows.specs.Laws.{ClosesBelow, FillsScreen, KeepsWindowsValid, MayKeyHolds};
 ghost use Rattle.glk_windows.specs.Laws.{NeverOverlaps, SpellsOutput, StaysOnScreen};
+ghost use Rattle.glk_windows.specs.Shown.{ShowsWhatIsPut};
 
 /// Where the windows are one tree, each that is no pair has its rectangle on the screen.
 pub fn stays_on_screen()
@@ -46,4 +47,10 @@ pub fn runs_spell_output()
 /// their parts of its own. Where they have them, placing them changes nothing.
 pub fn places_windows()
     ensures { PlacesWindows }
+{}
+
+/// A character that is put makes what buffers show of a turn longer by one character and by one run
+/// at most; no other call makes it longer, and a turn begins with nothing.
+pub fn shows_what_is_put()
+    ensures { ShowsWhatIsPut }
 {}

@@ -19,7 +19,7 @@ mod windows;
 pub use arranging::is_method;
 pub use laws::{
     closes_below, fills_screen, keeps_valid, may_key_holds, never_overlaps, places_windows,
-    runs_spell_output, stays_on_screen,
+    runs_spell_output, shows_what_is_put, stays_on_screen,
 };
 pub use opening::MAX_WINDOWS;
 pub use text::{Codes, Run, Runs};
