@@ -3,3 +3,4 @@ pub mod WindowLemmas
 pub mod StreamLemmas
 pub mod BackLemmas
 pub mod FitLemmas
+pub mod CountLemmas

@@ -3,3 +3,4 @@ pub mod Made
 pub mod Texts
 pub mod Making
 pub mod Laws
+pub mod Counts

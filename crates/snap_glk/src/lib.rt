@@ -13,4 +13,4 @@ mod unfit;
 mod windows;
 
 pub use fields::{GlkFields, fields_of, glk_of};
-pub use laws::{gives_back, stands_between_turns, takes_back};
+pub use laws::{gives_back, stands_between_turns, takes_back, valid_states_have_counts};
