@@ -1,6 +1,6 @@
 -- How much windows show, by each call.
-use Rattle.std.proofs.Common.{◌≡◌, ◌≤◌, ◌<◌, ℕ, ◌+◌, ◌==◌, ◌||◌, not, nat_lt, nat_le, List, [], ◌∷◌, ◌++◌}
-use Rattle.std.proofs.Common.{false, refl, ap, ◌∙◌, arith, length, length-append, map, cond, Option, Some, None}
+use Rattle.std.proofs.Common.{◌≡◌, ◌≤◌, ℕ, ◌+◌, ◌==◌, ◌||◌, not, nat_lt, nat_le, List, [], ◌∷◌, ◌++◌}
+use Rattle.std.proofs.Common.{false, refl, arith, length, length-append, map, Option, Some, None}
 use Rattle.std.proofs.Common.{if◌then◌else◌}
 use Rattle.std.proofs.lemmas.Bool.{cond_both}
 use Rattle.glk_numbers.specs.Numbered.{changed_at, without}
@@ -10,13 +10,13 @@ use Rattle.glk_windows.specs.declared.window.Content.{Content}
 use Rattle.glk_windows.specs.declared.window.Content.TheVariants.{Pair, Blank, Buffer, Grid}
 use Rattle.glk_windows.specs.declared.window.Pair as p
 use Rattle.glk_windows.specs.declared.window.Window.{Window}
-use Rattle.glk_windows.specs.Closing.{close, content_unkeyed, lifted, raised, removed}
+use Rattle.glk_windows.specs.Closing.{close, content_unkeyed, raised, removed}
 use Rattle.glk_windows.specs.Closing.{sibling_lifted, unechoed, unlinked, windows_without}
 use Rattle.glk_windows.specs.Opening.{beside_opened, first_opened, is_kind, new_content}
 use Rattle.glk_windows.specs.Opening.{pair_joined, split, unplaced_window}
 use Rattle.glk_windows.specs.Output.{content_cleared, content_kept, content_put, ends_in_style}
 use Rattle.glk_windows.specs.Output.{last_longer, run_on, window_cleared, window_kept, window_put}
-use Rattle.glk_windows.specs.Placing.{windows_placed, with_area}
+use Rattle.glk_windows.specs.Placing.{windows_placed}
 use Rattle.glk_windows.specs.Resizing.{content_sized, sized}
 use Rattle.glk_windows.specs.Shown.{ShowsWhatIsPut, content_size, runs_size, windows_size}
 use Rattle.glk_windows.specs.Tree.{WindowTree, content_arranged, grid_cursor_moved, pair_of}

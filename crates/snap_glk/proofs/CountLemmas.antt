@@ -1,6 +1,6 @@
 -- The fields of a valid Glk state have counts of four bytes.
 use Rattle.std.proofs.Common.{◌≡◌, ◌∙◌, ◌≤◌, ◌<◌, ◌+◌, ◌*◌, ◌^◌, ◌==◌, ◌&&◌, nat_le, nat_lt, ℕ}
-use Rattle.std.proofs.Common.{Bool, true, List, [], ◌∷◌, map, refl, sym, arith, length, Option}
+use Rattle.std.proofs.Common.{true, List, [], ◌∷◌, map, refl, arith, length, Option}
 use Rattle.std.proofs.Common.{Some, None}
 use Rattle.std.specs.List.{AllByRecursion, zip}
 use Rattle.std.proofs.Math.Nat.{mul_comm}
@@ -14,7 +14,7 @@ use Rattle.glk_windows.specs.declared.window.Content.TheVariants as holds
 use Rattle.glk_windows.specs.declared.window.Window as window
 use Rattle.glk_streams.specs.Files.{sum_of_bytes}
 use Rattle.glk_streams.specs.Names.{is_short}
-use Rattle.glk_streams.specs.Streams.{StreamTable, stream_number}
+use Rattle.glk_streams.specs.Streams.{stream_number}
 use Rattle.glk_streams.specs.Valid as streams
 use Rattle.glk_streams.specs.declared.file.File as file
 use Rattle.glk_streams.specs.declared.fileref.FileRef as fileref
@@ -27,12 +27,10 @@ use Rattle.glk_input.specs.Valid as inputs
 use Rattle.glk_input.specs.declared.request.Request as request
 use Rattle.glk_input.specs.declared.request.Request.TheVariants as asks
 use Rattle.glk_input.specs.declared.request.WindowInput.{WindowInput}
-use Rattle.glk_dispatch.specs.Valid.{IsValidGlk}
-use Rattle.glk_dispatch.specs.declared.glk.Glk.{Glk}
 use Rattle.snap_fields.specs.Counts.{CountsFile, CountsFileRef, CountsRequest, CountsStream}
 use Rattle.snap_fields.specs.Counts.{CountsTarget, CountsWindow, HasCells}
-use Rattle.snap_glk.specs.Counts.{HaveCounts, ValidStatesHaveCounts}
-use Rattle.snap_glk.specs.Told.{area_told, content_told, file_told, fileref_told, glk_fields}
+use Rattle.snap_glk.specs.Counts.{ValidStatesHaveCounts}
+use Rattle.snap_glk.specs.Told.{area_told, content_told, file_told, fileref_told}
 use Rattle.snap_glk.specs.Told.{request_told, stream_told, target_told, window_told}
 
 -- a test that a count is low
