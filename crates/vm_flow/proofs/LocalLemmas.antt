@@ -15,7 +15,7 @@ use Rattle.vm_stack.specs.StackState.{words}
 use Rattle.vm_stack.specs.Locals.{IsWidth, local_at, local_set}
 use Rattle.vm_stack.specs.Frame.{aligned, locals_end, entered, fresh_frame, frame_head}
 use Rattle.vm_stack.specs.Frame.{frame_len_of, locals_pos_of, locals_len, padding_len}
-use Rattle.vm_stack.specs.Frame.{IsPlain, filled, frame_of_words}
+use Rattle.vm_stack.specs.Frame.{IsPlain, filled as filled_to, frame_of_words}
 use Rattle.vm_stack.proofs.PlainLemmas.{length_filled, some_len}
 use Rattle.vm_stack.specs.declared.fault.StackFault.TheVariants.{Overflow}
 use Rattle.vm_stack.proofs.FrameLemmas.{first_word, second_word, aligned_up as align_up}
@@ -386,10 +386,10 @@ c1_begun s t u kind format args is small enters gives c1 =
 -- a frame whose locals all have four bytes
 
 some_words : (format args : List ℕ) (n : ℕ) → format ≡ 4 ∷ n ∷ 0 ∷ 0 ∷ []
-    → words (filled n args) ≡ locals_of 0 format args
+    → words (filled_to n args) ≡ locals_of 0 format args
     ++ replicate (locals_len format - length (locals_of 0 format args)) 0
 some_words format args n e =
-    let w = words (filled n args) in
+    let w = words (filled_to n args) in
     let x = locals_of 0 (4 ∷ n ∷ 0 ∷ 0 ∷ []) args in
     let same : x ≡ w = append-nil w in
     let long = ap (λ (xs : List ℕ). length xs) same in
@@ -400,13 +400,13 @@ some_words format args n e =
     (sym (ap (λ (k : ℕ). x ++ replicate k 0) none ∙ (append-nil x ∙ same)))
 
 plain_words : (format args : List ℕ) → IsPlain format
-    → words (filled (slice_index format 1) args) ≡ locals_of 0 format args
+    → words (filled_to (slice_index format 1) args) ≡ locals_of 0 format args
     ++ replicate (locals_len format - length (locals_of 0 format args)) 0
 plain_words format args (inl e) = rw e refl
 plain_words format args (inr e) = some_words format args (slice_index format 1) e
 
 pub plain_frame : (s u : StackState) (format args : List ℕ) → IsPlain format
-    → u ≡ with_frame s (frame_of_words format (filled (slice_index format 1) args))
+    → u ≡ with_frame s (frame_of_words format (filled_to (slice_index format 1) args))
     → u ≡ with_frame s (frame_with format (locals_of 0 format args))
 plain_frame s u format args plain e =
     e ∙ ap (λ (xs : List ℕ). with_frame s (frame_head format ++ replicate (padding_len format) 0 ++ xs))
@@ -416,16 +416,16 @@ plain_frame s u format args plain e =
 pub c1_begins : (s u : StackState) (kind at : ℕ) (format args : List ℕ) → IsFormat format
     → frame_len_of format ≤ 1048576 → length s.bytes + frame_len_of format ≤ s.limit → kind ≡ 193
     → u ≡ with_frame s (frame_with format (locals_of 0 format args))
-    → and_then (from_stack (entered s format)) (λ t.
-    and_then (arguments_given kind t format args) (λ v. Ok (v, at + 1 + length format)))
+    → and_then {B = StackState × ℕ} (from_stack (entered s format)) (λ t.
+    and_then {B = StackState × ℕ} (arguments_given kind t format args) (λ v. Ok (v, at + 1 + length format)))
     ≡ Ok (u, at + 1 + length format)
 c1_begins s u kind at format args is small room c1 e =
     let t = with_frame s (fresh_frame format) in
     let enters : entered s format ≡ Ok t =
     rw (le_true (length s.bytes + frame_len_of format) s.limit room) refl in
-    ap (λ (r : Result StackState StackFault). and_then (from_stack r) (λ t.
-    and_then (arguments_given kind t format args) (λ v. Ok (v, at + 1 + length format)))) enters
-    ∙ (ap (λ (r : Result StackState FlowStop). and_then r
+    ap (λ (r : Result StackState StackFault). and_then {B = StackState × ℕ} (from_stack r) (λ t.
+    and_then {B = StackState × ℕ} (arguments_given kind t format args) (λ v. Ok (v, at + 1 + length format)))) enters
+    ∙ (ap (λ (r : Result StackState FlowStop). and_then {B = StackState × ℕ} r
     (λ v. Ok (v, at + 1 + length format)))
     (given_locals kind t format args c1 ∙ sets_are s format args is small)
     ∙ ap (λ (v : StackState). Ok (v, at + 1 + length format)) (sym e))
