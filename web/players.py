@@ -120,7 +120,7 @@ class Gateway(Program):
 
 
 class Player:
-    """A display without a screen."""
+    """A display without a screen. Like a browser it answers pings also while nobody reads what came."""
 
     def __init__(self, client, address):
         self.client, self.address, self.gen, self.socket = client, address, 0, None
@@ -128,7 +128,24 @@ class Player:
 
     async def connect(self):
         self.socket = await self.client.ws_connect(self.address + "/socket", origin=self.address, max_msg_size=0)
+        self.came, self.ended = asyncio.Queue(), None
+        self.listening = asyncio.create_task(self.listen())
         self.stories = (await self.read("menu"))["stories"]
+
+    async def listen(self):
+        """Keeps each message as it comes, until the socket is closed; that is the last."""
+        while True:
+            message = await self.socket.receive()
+            await self.came.put(message)
+            if message.type not in (aiohttp.WSMsgType.TEXT, aiohttp.WSMsgType.BINARY):
+                self.ended = message
+                return
+
+    async def receive(self):
+        """The next message that came; the last again behind that."""
+        if self.ended and self.came.empty():
+            return self.ended
+        return await asyncio.wait_for(self.came.get(), 60)
 
     async def send(self, message):
         await self.socket.send_str(json.dumps(message))
@@ -136,7 +153,7 @@ class Player:
     async def read(self, *kinds):
         """The next message of these kinds. Notes and what tells of the game's place are passed over."""
         while True:
-            message = await asyncio.wait_for(self.socket.receive(), 60)
+            message = await self.receive()
             if message.type != aiohttp.WSMsgType.TEXT:
                 raise ConnectionError(f"the socket is closed ({message.data})")
             told = json.loads(message.data)
@@ -171,6 +188,7 @@ class Player:
     async def close(self):
         if self.socket:
             await self.socket.close()
+            await self.listening
 
 
 def arrange_of(gen, columns, rows):

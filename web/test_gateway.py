@@ -43,7 +43,7 @@ async def until_closed(player):
     """What comes until the socket is closed, but for what tells of the lobby."""
     got = []
     while True:
-        message = await asyncio.wait_for(player.socket.receive(), 60)
+        message = await player.receive()
         if message.type != aiohttp.WSMsgType.TEXT:
             return [told for told in got if told["type"] != "menu"]
         got.append(json.loads(message.data))
