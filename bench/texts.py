@@ -5,7 +5,7 @@
 
 Each file of src, specs and proofs has to be in the layout (`rt fmt` puts it there), and each edit of must-fail and
 wrong-bodies has to change its files as they are: each of its texts stands there once. It says what isn't so, and ends with 1 then.
-`bench/gate.sh 1 OUT --only glk_numbers` looks at the rest of the texts: files that no check reads, and handles."""
+`rt ci glk_numbers` looks at the rest of the texts: files that no check reads, and handles."""
 
 import pathlib
 import sys
