@@ -34,7 +34,8 @@ def fields_of(process):
 
 
 def kind_of(words):
-    if words[1] == "check":
+    """A program's proof is a check as well, whose result `-o` keeps for both compilers."""
+    if words[1] == "check" and "-o" not in words:
         return "edits"
     return "tests" if "--test" in words else "proof"
 
