@@ -24,6 +24,7 @@ pub struct Stub {
 impl Stack {
     /// Pushes the four words of a stub, FramePtr on top. Overflow where fewer than 16 bytes are
     /// free.
+    #[inline(always)]
     pub fn push_stub(&mut self, stub: Stub) -> Result<(), StackFault>
         ensures ok { LeavesStack (stubs.stub_pushed self.old stub) self.new result }
         ensures err { OnErr result (self.new ≡ self.old) }
@@ -42,6 +43,7 @@ impl Stack {
     }
 
     // Puts a stub on top.
+    #[inline(always)]
     fn add_stub(&mut self, stub: Stub)
         requires { length self.old.bytes + 16 ≤ self.old.limit }
         ensures { self.new ≡ record self.old { bytes = self.old.bytes ++ stubs.stub_bytes stub } }
