@@ -6,6 +6,7 @@ pub mod LocalLemmas
 pub mod TokenLemmas
 pub mod HeadLemmas
 pub mod PlainLemmas
+pub mod LeaveLemmas
 pub mod SavedLemmas
 pub mod LinkLemmas
 pub mod StandardFacts
