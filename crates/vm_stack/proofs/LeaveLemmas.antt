@@ -1,5 +1,5 @@
 -- The current frame and the stub below it, dropped in one.
-use Rattle.std.proofs.Common.{◌≡◌, ℕ, ◌+◌, ◌-◌, ◌≤◌, ◌<◌, List, length, take, refl}
+use Rattle.std.proofs.Common.{◌≡◌, ℕ, ◌+◌, ◌-◌, ◌≤◌, List, length, take, refl}
 use Rattle.std.proofs.Common.{Ok, arith, ap, sym, ◌∙◌, subst}
 use Rattle.std.proofs.lemmas.List.{take-take, length-take}
 use Rattle.vm_stack.specs.StackState.{StackState, number, value_bytes}

@@ -1,4 +1,4 @@
-use Rattle.std.proofs.Common.{ℕ, ◌+◌, ◌-◌, ◌≤◌, length, Ok, refl, sym, ap, subst, ◌∙◌}
+use Rattle.std.proofs.Common.{◌+◌, ◌-◌, ◌≤◌, length, Ok, refl, sym, ap, subst, ◌∙◌}
 use Rattle.vm_stack.specs.StackState.{StackState, number}
 use Rattle.vm_stack.specs.Stub.{stub_at}
 use Rattle.vm_stack.specs.declared.stub.Stub.{Stub}
