@@ -1,4 +1,3 @@
-use Rattle.std.proofs.Common.{arith, subst}
 use Rattle.vm_flow.proofs.LocalLemmas.{c1_begins, plain_frame}
 use Rattle.vm_flow.proofs.calls.begin.Goals as goal
 
