@@ -1,4 +1,5 @@
 pub mod ThrowLemmas
+pub mod ReturnLemmas
 pub mod FormatLemmas
 pub mod ArgumentLemmas
 pub mod LocalLemmas

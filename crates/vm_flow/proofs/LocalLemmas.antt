@@ -2,7 +2,7 @@
 use Rattle.std.proofs.Common.{◌≡◌, ◌≢◌, inl, inr, ℕ, zero, suc, ◌+◌, ◌-◌, ◌*◌, ◌≤◌, Bool, true}
 use Rattle.std.proofs.Common.{false, cond, nat_le, List, [], ◌∷◌, ◌++◌, length, take, drop}
 use Rattle.std.proofs.Common.{replicate, refl, arith, Result, Ok, Err, ap, sym, ◌∙◌, subst}
-use Rattle.std.proofs.Common.{append_assoc, length-append}
+use Rattle.std.proofs.Common.{append_assoc, length-append, slice_index}
 use Rattle.std.specs.List.{flat_map}
 use Rattle.std.proofs.lemmas.Bool.{ne_eqb}
 use Rattle.std.proofs.lemmas.List.{append-nil, length-replicate, replicate-append-replicate}
@@ -11,9 +11,12 @@ use Rattle.std.proofs.lemmas.Grind.{flat_map-append}
 use Rattle.std.proofs.Math.Seq.{take-append_seam, drop-append-add}
 use Rattle.byteorder.specs.Endian.{big_bytes}
 use Rattle.vm_stack.specs.StackState.{StackState, number, replaced_within, frame_len, locals_pos}
+use Rattle.vm_stack.specs.StackState.{words}
 use Rattle.vm_stack.specs.Locals.{IsWidth, local_at, local_set}
 use Rattle.vm_stack.specs.Frame.{aligned, locals_end, entered, fresh_frame, frame_head}
 use Rattle.vm_stack.specs.Frame.{frame_len_of, locals_pos_of, locals_len, padding_len}
+use Rattle.vm_stack.specs.Frame.{IsPlain, filled as filled_to, frame_of_words}
+use Rattle.vm_stack.proofs.PlainLemmas.{length_filled, some_len}
 use Rattle.vm_stack.specs.declared.fault.StackFault.TheVariants.{Overflow}
 use Rattle.vm_stack.proofs.FrameLemmas.{first_word, second_word, aligned_up as align_up}
 use Rattle.vm_stack.proofs.SavedLemmas.{length_head, head_then_padding}
@@ -335,29 +338,37 @@ base_is bytes format small =
       len = omega (arith, first, second);
     }
 
+-- the locals of a new frame get arguments
+sets_are : (s : StackState) (format args : List ℕ) → IsFormat format
+    → frame_len_of format ≤ 1048576
+    → locals_set (with_frame s (fresh_frame format)) 0 format args
+    ≡ Ok (with_frame s (frame_with format (locals_of 0 format args)))
+sets_are s format args is small =
+    let p = below_locals s.bytes format in
+    let f = length s.bytes in
+    let total = locals_len format in
+    let x = locals_of 0 format args in
+    let fresh : with_frame s (fresh_frame format) ≡ partly p f s.limit [] total =
+    ap (λ (b : List ℕ). record { bytes = b; frame = f; limit = s.limit })
+    (sym (append_assoc s.bytes (frame_head format ++ replicate (padding_len format) 0)
+    (replicate total 0))) in
+    ap (λ (v : StackState). locals_set v 0 format args) fresh
+    ∙ (set_is p f s.limit total format [] args total (base_is s.bytes format small) (omega arith) is
+    (align_up (locals_end 0 format))
+    ∙ ap (λ (v : StackState). Ok v)
+    (ap (λ (b : List ℕ). record { bytes = b; frame = f; limit = s.limit })
+    (append_assoc s.bytes (frame_head format ++ replicate (padding_len format) 0)
+    (x ++ replicate (total - length x) 0))))
+
 pub locals_are : (s t u : StackState) (format args : List ℕ) → IsFormat format
     → frame_len_of format ≤ 1048576 → entered s format ≡ Ok t
     → locals_set t 0 format args ≡ Ok u
     → u ≡ with_frame s (frame_with format (locals_of 0 format args))
 locals_are s t u format args is small enters sets =
-    let p = below_locals s.bytes format in
-    let f = length s.bytes in
-    let total = locals_len format in
-    let x = locals_of 0 format args in
-    let fresh : t ≡ partly p f s.limit [] total =
-    entered_is s t format enters
-    ∙ ap (λ (b : List ℕ). record { bytes = b; frame = f; limit = s.limit })
-    (sym (append_assoc s.bytes (frame_head format ++ replicate (padding_len format) 0)
-    (replicate total 0))) in
-    let done =
-    sym sets
-    ∙ (ap (λ (v : StackState). locals_set v 0 format args) fresh
-    ∙ set_is p f s.limit total format [] args total (base_is s.bytes format small) (omega arith) is
-    (align_up (locals_end 0 format))) in
-    ap (λ (r : Result StackState FlowStop). value_in s r) done
-    ∙ ap (λ (b : List ℕ). record { bytes = b; frame = f; limit = s.limit })
-    (append_assoc s.bytes (frame_head format ++ replicate (padding_len format) 0)
-    (x ++ replicate (total - length x) 0))
+    ap (λ (r : Result StackState FlowStop). value_in s r)
+    (sym sets
+    ∙ (ap (λ (v : StackState). locals_set v 0 format args) (entered_is s t format enters)
+    ∙ sets_are s format args is small))
 
 -- a C1 gets its arguments
 
@@ -371,3 +382,50 @@ pub c1_begun : (s t u : StackState) (kind : ℕ) (format args : List ℕ) → Is
     → u ≡ with_frame s (frame_with format (locals_of 0 format args))
 c1_begun s t u kind format args is small enters gives c1 =
     locals_are s t u format args is small enters (sym (given_locals kind t format args c1) ∙ gives)
+
+-- a frame whose locals all have four bytes
+
+some_words : (format args : List ℕ) (n : ℕ) → format ≡ 4 ∷ n ∷ 0 ∷ 0 ∷ []
+    → words (filled_to n args) ≡ locals_of 0 format args
+    ++ replicate (locals_len format - length (locals_of 0 format args)) 0
+some_words format args n e =
+    let w = words (filled_to n args) in
+    let x = locals_of 0 (4 ∷ n ∷ 0 ∷ 0 ∷ []) args in
+    let same : x ≡ w = append-nil w in
+    let long = ap (λ (xs : List ℕ). length xs) same in
+    let size = length_filled n args in
+    let all = some_len n in
+    let none : locals_len (4 ∷ n ∷ 0 ∷ 0 ∷ []) - length x ≡ 0 = omega (arith, long, size, all) in
+    rw e
+    (sym (ap (λ (k : ℕ). x ++ replicate k 0) none ∙ (append-nil x ∙ same)))
+
+plain_words : (format args : List ℕ) → IsPlain format
+    → words (filled_to (slice_index format 1) args) ≡ locals_of 0 format args
+    ++ replicate (locals_len format - length (locals_of 0 format args)) 0
+plain_words format args (inl e) = rw e refl
+plain_words format args (inr e) = some_words format args (slice_index format 1) e
+
+pub plain_frame : (s u : StackState) (format args : List ℕ) → IsPlain format
+    → u ≡ with_frame s (frame_of_words format (filled_to (slice_index format 1) args))
+    → u ≡ with_frame s (frame_with format (locals_of 0 format args))
+plain_frame s u format args plain e =
+    e ∙ ap (λ (xs : List ℕ). with_frame s (frame_head format ++ replicate (padding_len format) 0 ++ xs))
+    (plain_words format args plain)
+
+-- a C1 begins with that frame
+pub c1_begins : (s u : StackState) (kind at : ℕ) (format args : List ℕ) → IsFormat format
+    → frame_len_of format ≤ 1048576 → length s.bytes + frame_len_of format ≤ s.limit → kind ≡ 193
+    → u ≡ with_frame s (frame_with format (locals_of 0 format args))
+    → and_then {B = StackState × ℕ} (from_stack (entered s format)) (λ t.
+    and_then {B = StackState × ℕ} (arguments_given kind t format args) (λ v. Ok (v, at + 1 + length format)))
+    ≡ Ok (u, at + 1 + length format)
+c1_begins s u kind at format args is small room c1 e =
+    let t = with_frame s (fresh_frame format) in
+    let enters : entered s format ≡ Ok t =
+    rw (le_true (length s.bytes + frame_len_of format) s.limit room) refl in
+    ap (λ (r : Result StackState StackFault). and_then {B = StackState × ℕ} (from_stack r) (λ t.
+    and_then {B = StackState × ℕ} (arguments_given kind t format args) (λ v. Ok (v, at + 1 + length format)))) enters
+    ∙ (ap (λ (r : Result StackState FlowStop). and_then {B = StackState × ℕ} r
+    (λ v. Ok (v, at + 1 + length format)))
+    (given_locals kind t format args c1 ∙ sets_are s format args is small)
+    ∙ ap (λ (v : StackState). Ok (v, at + 1 + length format)) (sym e))

@@ -78,9 +78,44 @@ fn begin_by_copy(
 }
 
 // Begins the function of this type: a frame is made for its list of locals, and the arguments are
-// given to it.
+// given to it; where all locals of a C1 have four bytes both in one.
 #[inline(always)]
 fn begin(
+    stack: &mut Stack,
+    at: u32,
+    kind: u32,
+    format: &[u8],
+    args: &[u32],
+) -> Result<u32, FlowStop>
+    requires format { IsFormat format.now }
+    requires within { at + 1 + length format.now < 4294967296 }
+    ensures ok { GivesOrStops
+        (and_then (from_stack (entered stack.old format.now)) (λ t.
+        and_then (calls.arguments_given kind t format.now args.now)
+        (λ u. Ok (u, at + 1 + length format.now))))
+        stack.new result }
+    ensures locals { kind ≡ 0xC1 → OnOk result (stack.new ≡ calls.with_frame stack.old
+        (calls.frame_with format.now (calls.locals_of 0 format.now args.now))) }
+    ensures values { kind ≡ 0xC0 → OnOk result (stack.new ≡ calls.with_values
+        (calls.with_frame stack.old (fresh_frame format.now))
+        (reverse args.now ++ length args.now ∷ [])) }
+
+    ensures kept { Chain stack.old → IsReady stack.old → OnOk result (Chain stack.new) }
+    ensures there { OnOk result (HasFrame stack.new) }
+    ensures room { result ≢ Err stop.NoMemory }
+{
+    if kind != 0xC1 {
+        return begin_in_steps(stack, at, kind, format, args);
+    }
+    if stack.enter_plain(format, args) {
+        return Ok(at + 1 + format.len() as u32);
+    }
+    begin_in_steps(stack, at, kind, format, args)
+}
+
+// The same, a frame first and then the arguments.
+#[inline(never)]
+fn begin_in_steps(
     stack: &mut Stack,
     at: u32,
     kind: u32,

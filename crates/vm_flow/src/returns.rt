@@ -9,6 +9,7 @@ use vm_stack::{Stack, Stub};
 
 /// Drops the current frame and takes the stub below it, or gives None where nothing is left.
 #[inline(always)]
+#[tactic(auto, using(crate::proofs::ReturnLemmas::taken_given))]
 pub fn give_back(stack: &mut Stack) -> Result<Option<Stub>, FlowStop>
     ensures ok { GivesOrStops (returns.given_back stack.old) stack.new result }
 
@@ -16,6 +17,23 @@ pub fn give_back(stack: &mut Stack) -> Result<Option<Stub>, FlowStop>
     ensures chain { Chain stack.old → IsOk result }
     ensures kept { Chain stack.old → OnOk result (Chain stack.new) }
     // where a stub was taken its frame is there
+    ensures there { Chain stack.old
+        → IfOk result (λ stub. IfSome stub (λ _. HasFrame stack.new)) }
+{
+    if let Some(stub) = stack.leave_and_take_stub() {
+        return Ok(Some(stub));
+    }
+    give_back_in_steps(stack)
+}
+
+// The same, the frame first and then the stub.
+#[cold]
+#[inline(never)]
+fn give_back_in_steps(stack: &mut Stack) -> Result<Option<Stub>, FlowStop>
+    ensures ok { GivesOrStops (returns.given_back stack.old) stack.new result }
+
+    ensures chain { Chain stack.old → IsOk result }
+    ensures kept { Chain stack.old → OnOk result (Chain stack.new) }
     ensures there { Chain stack.old
         → IfOk result (λ stub. IfSome stub (λ _. HasFrame stack.new)) }
 {

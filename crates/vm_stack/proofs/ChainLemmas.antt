@@ -234,37 +234,34 @@ ready_in s (fr ∷ below) c bytes frame (inr ready) =
 fresh_on : (low h z l : List ℕ) → low ++ (h ++ z ++ l) ≡ low ++ h ++ z ++ l
 fresh_on low h z l = simp append_assoc refl
 
+-- with this padding, and these locals
+pub new_keeps : (s : StackState) (format z l : List ℕ)
+    → Chain s → IsReady s → IsFormat format
+    → length z ≡ padding_len format → length l ≡ locals_len format
+    → frame_len_of format < 4294967296
+    → Chain (record s { bytes = s.bytes ++ (frame_head format ++ z ++ l); frame = length s.bytes })
+new_keeps s format z l c ready is padding locals fits = record {
+  frames =
+      record { format = format; padding = z; locals = l; values = []; count = 0 } ∷ c.frames;
+  linked = (
+    record { format = is; padding = padding; locals = locals; values = refl; fits = fits },
+    (ready_in s c.frames c.linked c.bytes c.frame ready, c.linked),
+  );
+  bytes =
+      ap (λ (b : List ℕ). b ++ (frame_head format ++ z ++ l)) c.bytes
+      ∙ (fresh_on (bytes_of_frames c.frames) (frame_head format) z l
+      ∙ sym (append-nil (bytes_of_frames c.frames ++ frame_head format ++ z ++ l)));
+  frame = ap length c.bytes;
+}
+
+-- with zeros
 pub entered_keeps : (s : StackState) (format : List ℕ)
     → Chain s → IsReady s → IsFormat format
     → frame_len_of format < 4294967296
     → Chain (record s { bytes = s.bytes ++ fresh_frame format; frame = length s.bytes })
-entered_keeps s format c ready is fits = record {
-  frames =
-      record {
-        format = format;
-        padding = replicate (padding_len format) 0;
-        locals = replicate (locals_len format) 0;
-        values = [];
-        count = 0;
-      } ∷ c.frames;
-  linked = (
-    record {
-      format = is;
-      padding = length-replicate (padding_len format) 0;
-      locals = length-replicate (locals_len format) 0;
-      values = refl;
-      fits = fits;
-    },
-    (ready_in s c.frames c.linked c.bytes c.frame ready, c.linked),
-  );
-  bytes =
-      ap (λ (b : List ℕ). b ++ fresh_frame format) c.bytes
-      ∙ (fresh_on (bytes_of_frames c.frames) (frame_head format) (replicate (padding_len format) 0)
-      (replicate (locals_len format) 0)
-      ∙ sym (append-nil (bytes_of_frames c.frames ++ frame_head format
-      ++ replicate (padding_len format) 0 ++ replicate (locals_len format) 0)));
-  frame = ap length c.bytes;
-}
+entered_keeps s format c ready is fits =
+    new_keeps s format (replicate (padding_len format) 0) (replicate (locals_len format) 0) c ready
+    is (length-replicate (padding_len format) 0) (length-replicate (locals_len format) 0) fits
 
 -- after a stub for the current frame a new one may stand
 pub stub_readies : (s : StackState) (new : List ℕ) (x : ℕ)

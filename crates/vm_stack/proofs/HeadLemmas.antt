@@ -117,35 +117,32 @@ fresh_seam : (low a b f z l : List ℕ)
     → low ++ ((a ++ b ++ f) ++ z ++ l) ≡ low ++ (a ++ (b ++ (f ++ (z ++ l))))
 fresh_seam low a b f z l = simp append_assoc refl
 
-length_fresh : (low format : List ℕ)
-    → length (low ++ fresh_frame format) ≡ length low + frame_len_of format
-length_fresh low format =
-    let a = length-append low (fresh_frame format) in
-    let z = length-replicate {A = ℕ} (padding_len format) 0 in
-    let l = length-replicate {A = ℕ} (locals_len format) 0 in
-    let b = length-append (frame_head format ++ replicate (padding_len format) 0)
-    (replicate (locals_len format) 0) in
-    let d = length-append (frame_head format) (replicate (padding_len format) 0) in
+length_new : (low format z l : List ℕ)
+    → length z ≡ padding_len format → length l ≡ locals_len format
+    → length (low ++ (frame_head format ++ z ++ l)) ≡ length low + frame_len_of format
+length_new low format z l padding many =
+    let a = length-append low (frame_head format ++ z ++ l) in
+    let b = length-append (frame_head format ++ z) l in
+    let d = length-append (frame_head format) z in
     let up = aligned_up (8 + length format) in
-    omega (arith, a, z, l, b, d, up)
+    omega (arith, a, padding, many, b, d, up)
 
--- what is known of a new frame
-pub fresh_head : (low format : List ℕ) (head locals : ℕ)
+-- what is known of a new frame, of this padding and with these locals
+pub new_head : (low format z l : List ℕ) (head locals : ℕ)
     → head ≡ locals_pos_of format → locals ≡ locals_len format
+    → length z ≡ padding_len format → length l ≡ locals_len format
     → length low + frame_len_of format ≤ 1048576
-    → IsHead (low ++ fresh_frame format) (length low) (record {
+    → IsHead (low ++ (frame_head format ++ z ++ l)) (length low) (record {
       locals = length low + head;
       span = locals;
       values = length low + head + locals;
     })
-fresh_head low format head locals at many fits =
+new_head low format z l head locals at many padding long fits =
     let a = big_bytes 4 (frame_len_of format) in
     let b = big_bytes 4 (locals_pos_of format) in
-    let z : List ℕ = replicate (padding_len format) 0 in
-    let l : List ℕ = replicate (locals_len format) 0 in
     let bytes = fresh_seam low a b format z l in
     let up = aligned_up (8 + length format) in
-    let size = length_fresh low format in
+    let size = length_new low format z l padding long in
     record {
       whole = λ _. record {
         above = omega (arith, up, at);
@@ -166,3 +163,17 @@ fresh_head low format head locals at many fits =
       };
       spans = λ _. omega (arith, fits, at, many);
     }
+
+-- the same where its locals are zero
+pub fresh_head : (low format : List ℕ) (head locals : ℕ)
+    → head ≡ locals_pos_of format → locals ≡ locals_len format
+    → length low + frame_len_of format ≤ 1048576
+    → IsHead (low ++ fresh_frame format) (length low) (record {
+      locals = length low + head;
+      span = locals;
+      values = length low + head + locals;
+    })
+fresh_head low format head locals at many fits =
+    new_head low format (replicate (padding_len format) 0) (replicate (locals_len format) 0)
+    head locals at many (length-replicate (padding_len format) 0)
+    (length-replicate (locals_len format) 0) fits

@@ -5,6 +5,8 @@ pub mod ChainLemmas
 pub mod LocalLemmas
 pub mod TokenLemmas
 pub mod HeadLemmas
+pub mod PlainLemmas
+pub mod LeaveLemmas
 pub mod SavedLemmas
 pub mod LinkLemmas
 pub mod StandardFacts

@@ -2,9 +2,10 @@
 use Rattle.std.specs.Prelude.{ℕ, ◌+◌, ◌-◌, ◌*◌, ◌/◌, ◌%◌, ◌==◌, nat_le}
 use Rattle.std.specs.Prelude.{if◌then◌else◌}
 use Rattle.std.specs.Prelude.{List, [], ◌∷◌, ◌++◌, length, take, replicate, Result, Ok}
+use Rattle.std.specs.Prelude.{◌≡◌, ◌⊎◌, slice_index}
 use Rattle.std.specs.Prelude.{Err}
 use Rattle.byteorder.specs.Endian.{big_bytes}
-use Rattle.vm_stack.specs.StackState.{StackState, number}
+use Rattle.vm_stack.specs.StackState.{StackState, number, words}
 use Rattle.vm_stack.specs.declared.fault.StackFault.{StackFault}
 use Rattle.vm_stack.specs.declared.fault.StackFault.TheVariants.{Overflow, Underflow}
 
@@ -45,6 +46,20 @@ frame_head format =
 abbrev pub fresh_frame : List ℕ → List ℕ
 fresh_frame format =
     frame_head format ++ replicate (padding_len format) 0 ++ replicate (locals_len format) 0
+
+-- no locals, or so many of four bytes: the list is `0 0` or `4 N 0 0`
+abbrev pub IsPlain : List ℕ → Type 0
+IsPlain format =
+    (format ≡ 0 ∷ 0 ∷ []) ⊎ (format ≡ 4 ∷ slice_index format 1 ∷ 0 ∷ 0 ∷ [])
+
+-- so many values, in order, and 0 where there are no more; what is left over is dropped
+abbrev pub filled : ℕ → List ℕ → List ℕ
+filled count values = take count (values ++ replicate count 0)
+
+-- a new frame whose padding is zero and whose locals are words
+abbrev pub frame_of_words : List ℕ → List ℕ → List ℕ
+frame_of_words format values =
+    frame_head format ++ replicate (padding_len format) 0 ++ words values
 
 -- with a new frame on top, where it fits
 abbrev pub entered : StackState → List ℕ → Result StackState StackFault

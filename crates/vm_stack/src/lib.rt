@@ -6,6 +6,7 @@ mod fault;
 mod frame;
 mod head;
 mod locals;
+mod plain;
 mod saved;
 mod stack;
 mod stub;

@@ -176,6 +176,17 @@ impl Stack {
         }
     }
 
+    // Keeps so many bytes, and makes the frame that begins here the current one.
+    #[inline(always)]
+    pub(crate) fn drop_to(&mut self, to: usize, frame: u32)
+        requires { to ≤ length self.old.bytes }
+        ensures { self.new ≡ record self.old { bytes = take to self.old.bytes; frame = frame } }
+    {
+        self.len = to;
+        self.frame = frame;
+        self.head = head_of(&self.buf[..to], frame);
+    }
+
     // Turns the bytes on top.
     pub(crate) fn rotate_top(&mut self, count: usize, by: usize)
         requires inside { count ≤ length self.old.bytes }

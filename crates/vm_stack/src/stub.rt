@@ -1,8 +1,10 @@
 // Call stubs, and the tokens that name where one ends.
-ghost use Rattle.std.specs.Prelude.{◌≡◌, ◌≤◌, ◌<◌, ◌+◌, ◌++◌, length};
-ghost use Rattle.std.specs.Prelude.{OnErr, OnOk};
+ghost use Rattle.std.specs.Prelude.{◌≡◌, ◌≤◌, ◌+◌, ◌++◌, length, take, Ok, Err};
+ghost use Rattle.std.specs.Prelude.{OnErr, OnOk, IfNone, IfSome};
 ghost use Rattle.vm_stack.specs.Answer.{GivesFromStack, LeavesStack};
+ghost use Rattle.vm_stack.specs.Frame.{frame_left};
 ghost use Rattle.vm_stack.specs.Stub as stubs;
+ghost use Rattle.vm_stack.specs.declared.fault.StackFault.TheVariants.{Underflow};
 ghost use Rattle.vm_stack.specs.Values.{without_top};
 ghost use Rattle.vm_stack.specs.Token as tokens;
 ghost use Rattle.vm_stack.specs.Chain.{Chain, HasFrame, IsReady, EndsInOwnStub};
@@ -24,6 +26,7 @@ pub struct Stub {
 impl Stack {
     /// Pushes the four words of a stub, FramePtr on top. Overflow where fewer than 16 bytes are
     /// free.
+    #[inline(always)]
     pub fn push_stub(&mut self, stub: Stub) -> Result<(), StackFault>
         ensures ok { LeavesStack (stubs.stub_pushed self.old stub) self.new result }
         ensures err { OnErr result (self.new ≡ self.old) }
@@ -42,6 +45,7 @@ impl Stack {
     }
 
     // Puts a stub on top.
+    #[inline(always)]
     fn add_stub(&mut self, stub: Stub)
         requires { length self.old.bytes + 16 ≤ self.old.limit }
         ensures { self.new ≡ record self.old { bytes = self.old.bytes ++ stubs.stub_bytes stub } }
@@ -68,6 +72,46 @@ impl Stack {
         let stub = stub_at(bytes, at);
         self.drop_stub(stub.frame);
         Ok(stub)
+    }
+
+    /// Drops the current frame, and takes the stub that is on top then. None where the frame of that
+    /// stub holds fewer than four values, and then nothing changes.
+    #[inline(always)]
+    pub fn leave_and_take_stub(&mut self) -> Option<Stub>
+        ensures some { IfSome result (λ stub.
+            stubs.stub_taken (frame_left self.old) ≡ Ok (self.new, stub)) }
+        ensures none { IfNone result (stubs.stub_taken (frame_left self.old) ≡ Err Underflow) }
+        ensures same { IfNone result (self.new ≡ self.old) }
+
+        ensures kept { Chain self.old → IfSome result (λ _. Chain self.new) }
+        ensures there { Chain self.old → IfSome result (λ _. HasFrame self.new) }
+    {
+        let bytes = self.live_below();
+        if bytes.len() < 16 {
+            return None;
+        }
+        let at = bytes.len() - 16;
+        let stub = stub_at(bytes, at);
+        let frame = stub.frame as usize;
+        if at < frame + number(bytes, frame, 4) as usize {
+            return None;
+        }
+        self.drop_to(at, stub.frame);
+        Some(stub)
+    }
+
+    // The bytes below the current frame.
+    #[inline(always)]
+    fn live_below(&self) -> &[u8]
+        ensures bytes { result.now ≡ take self.now.frame self.now.bytes }
+        ensures within { length result.now ≤ length self.now.bytes }
+    {
+        let bytes = self.live();
+        let end = self.frame() as usize;
+        if bytes.len() < end {
+            return bytes;
+        }
+        &bytes[..end]
     }
 
     // Drops the stub on top, for this frame.

@@ -3,7 +3,7 @@ use Rattle.vm_stack.specs.StackState.{StackState}
 use Rattle.vm_stack.specs.Chain.{EndsInOwnStub}
 use Rattle.vm_flow.specs.Answer.{GivesOrStops}
 use Rattle.vm_flow.specs.Return.{stub_or_end}
-use Rattle.vm_flow.proofs.returns.give_back.Goals as goal
+use Rattle.vm_flow.proofs.returns.give_back_in_steps.Goals as goal
 
 pub returns : goal.returns
 returns c = record {
