@@ -10,5 +10,5 @@ abbrev pub IsNoPacking : Action → Type 0
 IsNoPacking action = action ≡ Pack → ⊥
 
 -- where a folder is packed, the other one has another name
-abbrev pub AreApart : Action → Text → Text → Type 0
-AreApart action folder into = action ≡ Pack → bytes_eq folder into ≡ false
+abbrev pub HaveOtherNames : Action → Text → Text → Type 0
+HaveOtherNames action folder into = action ≡ Pack → bytes_eq folder into ≡ false

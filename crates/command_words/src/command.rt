@@ -1,6 +1,6 @@
 //! What the words of the command line ask for.
 ghost use Rattle.gate_journal.specs.Command.{IsBudget};
-ghost use Rattle.command_words.specs.Packing.{AreApart};
+ghost use Rattle.command_words.specs.Packing.{HaveOtherNames};
 ghost use Rattle.command_words.specs.Serving.{HasWorkers};
 
 use crate::words::Action;
@@ -17,5 +17,5 @@ pub struct Command<'w> {
     pub budget: u64,
     ghost in_range: { IsBudget budget },
     ghost has_workers: { HasWorkers action },
-    ghost are_apart: { AreApart action folder.now into.now },
+    ghost have_other_names: { HaveOtherNames action folder.now into.now },
 }

@@ -16,7 +16,7 @@ use Rattle.gate_journal.proofs.RowLemmas.{spells_shut}
 use Rattle.gate_journal.proofs.StopLemmas.{finds_rows, found_in}
 use Rattle.story_run.specs.declared.story.Story.{Story}
 use Rattle.folder_runs.specs.Folder.{AgreeWith, FolderImage}
-use Rattle.folder_runs.specs.Runs.{Follow, IsKept, Keeps, NextRunBegins, NextRunGoesOn, Run}
+use Rattle.folder_runs.specs.Runs.{Follow, StandsInRows, Keeps, NextRunBegins, NextRunGoesOn, Run}
 use Rattle.folder_runs.specs.Runs.{RunLeaves, RunRefused, RunsCompose, Shown, left_by, shows_of}
 use Rattle.folder_runs.proofs.AgreeLemmas.{agree_more}
 
@@ -37,7 +37,7 @@ commands_of-both (r ∷ xs) ys s =
 -- ---- what is kept stays kept
 
 kept_on : (stories : List Story) (rows more : List Row) (one : Shown)
-    → IsKept stories rows one → IsKept stories (rows ++ more) one
+    → StandsInRows stories rows one → StandsInRows stories (rows ++ more) one
 kept_on stories rows more one k = record {
   alone = k.alone;
   begins = (
@@ -49,9 +49,9 @@ kept_on stories rows more one k = record {
 }
 
 all_kept_on : (stories : List Story) (rows more : List Row) (shows : List Shown)
-    → Each (IsKept stories rows) shows → Each (IsKept stories (rows ++ more)) shows
+    → Each (StandsInRows stories rows) shows → Each (StandsInRows stories (rows ++ more)) shows
 all_kept_on stories rows more shows kept =
-    each_map (IsKept stories rows) (IsKept stories (rows ++ more)) shows
+    each_map (StandsInRows stories rows) (StandsInRows stories (rows ++ more)) shows
     (λ one k. kept_on stories rows more one k) kept
 
 -- ---- a sound folder keeps the shows that its rows keep
@@ -70,7 +70,7 @@ settled rows c journal (inr (r, next, unsure)) =
 
 pub keeps : (stories : List Story) (folder : FolderImage) (rows : List Row) (shows : List Shown)
     → IsJournal rows → MayOpen rows folder.journal → AgreeWith stories rows folder.snaps
-    → Each (IsKept stories rows) shows → Keeps stories folder shows
+    → Each (StandsInRows stories rows) shows → Keeps stories folder shows
 keeps stories folder rows shows journal may agree kept =
     let finds = finds_rows rows folder.journal journal may in
     elim (settled rows folder.journal journal may) [
@@ -109,9 +109,9 @@ module _ (stories : List Story) (given : FolderImage) (before : List Shown) (run
       subst (λ (rows : List Row). AgreeWith stories rows given.snaps) (sym same) k.agree in
       keeps stories run.left (r.rows ++ r.accepted) (before ++ run.shows) r.journal r.opens
       (r.agree agreed)
-      (each_append (IsKept stories (r.rows ++ r.accepted)) before run.shows
+      (each_append (StandsInRows stories (r.rows ++ r.accepted)) before run.shows
       (all_kept_on stories r.rows r.accepted before
-      (subst (λ (rows : List Row). Each (IsKept stories rows) before) (sym same) k.kept))
+      (subst (λ (rows : List Row). Each (StandsInRows stories rows) before) (sym same) k.kept))
       (r.shown agreed))
 
   one_refused : RunRefused given run → Keeps stories run.left (before ++ run.shows)
@@ -190,14 +190,14 @@ next_begins stories given run r next spells s =
 
 next_kept : (stories : List Story) (rows : List Row) (one_more : Option Row) (next : List Row)
     (shows : List Shown)
-    → MayFind rows one_more next → Each (IsKept stories rows) shows
-    → Each (IsKept stories next) shows
+    → MayFind rows one_more next → Each (StandsInRows stories rows) shows
+    → Each (StandsInRows stories next) shows
 next_kept stories rows None next shows is kept =
-    subst (λ (l : List Row). Each (IsKept stories l) shows) (sym is) kept
+    subst (λ (l : List Row). Each (StandsInRows stories l) shows) (sym is) kept
 next_kept stories rows (Some r) next shows (inl is) kept =
-    subst (λ (l : List Row). Each (IsKept stories l) shows) (sym is) kept
+    subst (λ (l : List Row). Each (StandsInRows stories l) shows) (sym is) kept
 next_kept stories rows (Some r) next shows (inr is) kept =
-    subst (λ (l : List Row). Each (IsKept stories l) shows) (sym is)
+    subst (λ (l : List Row). Each (StandsInRows stories l) shows) (sym is)
     (all_kept_on stories rows (r ∷ []) shows kept)
 
 pub next_goes_on : NextRunGoesOn

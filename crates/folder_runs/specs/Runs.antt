@@ -20,7 +20,7 @@ pub record Shown : Type 0 where
   pub show : List ℕ
 
 -- the show is the story's, run alone on these commands, and with them the session begins
-pub record IsKept (stories : List Story) (rows : List Row) (one : Shown) : Type 0 where
+pub record StandsInRows (stories : List Story) (rows : List Row) (one : Shown) : Type 0 where
   pub alone : one.show ≡ game_show stories (game_of one.commands)
   pub begins : (more : List Command) × (commands_of rows one.session ≡ one.commands ++ more)
 
@@ -45,7 +45,7 @@ pub record RunLeaves (stories : List Story) (given : FolderImage) (run : Run) : 
   pub opens : MayOpen (rows ++ accepted) run.left.journal
   -- of a sound folder: the snapshots still agree, and each show is kept
   pub agree : AgreeWith stories rows given.snaps → AgreeWith stories (rows ++ accepted) run.left.snaps
-  pub shown : AgreeWith stories rows given.snaps → Each (IsKept stories (rows ++ accepted)) run.shows
+  pub shown : AgreeWith stories rows given.snaps → Each (StandsInRows stories (rows ++ accepted)) run.shows
 
 -- A run that doesn't open the journal: it gives no show and puts no snapshot, and what an opening
 -- may meet it may meet again.
@@ -81,7 +81,7 @@ pub record Keeps (stories : List Story) (folder : FolderImage) (shows : List Sho
   pub opens : MayOpen rows folder.journal
   pub never : (fault : JournalFault) → Explains folder.journal fault → IsOfDisk fault
   pub agree : AgreeWith stories rows folder.snaps
-  pub kept : Each (IsKept stories rows) shows
+  pub kept : Each (StandsInRows stories rows) shows
 
 -- Runs compose: from a sound folder any number of runs leaves such a one, with all their shows.
 abbrev pub RunsCompose : Type 0
@@ -105,4 +105,4 @@ abbrev pub NextRunGoesOn : Type 0
 NextRunGoesOn =
     (stories : List Story) (given : FolderImage) (run : Run) (r : RunLeaves stories given run)
     (next : List Row) → SpellsRows run.left.journal next → AgreeWith stories r.rows given.snaps
-    → Each (IsKept stories next) run.shows
+    → Each (StandsInRows stories next) run.shows

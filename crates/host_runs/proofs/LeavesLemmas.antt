@@ -25,7 +25,7 @@ use Rattle.session_saves.specs.Agreement.{IsAgreedFile, opens_of}
 use Rattle.gate_journal.specs.Rows.{commands_of}
 use Rattle.story_run.specs.declared.story.Story.{Story}
 use Rattle.folder_runs.specs.Folder.{AgreeWith, FolderImage}
-use Rattle.folder_runs.specs.Runs.{IsKept, RunLeaves, Shown}
+use Rattle.folder_runs.specs.Runs.{StandsInRows, RunLeaves, Shown}
 use Rattle.host_runs.specs.Shows.{shows_met}
 use Rattle.host_runs.proofs.ShowLemmas.{shows_kept}
 use Rattle.host_runs.specs.Leaves.{IsFound, LinksLeave, MayBeLeft, PipeLeaves, RefusalLeaves}
@@ -74,7 +74,7 @@ module _ {D : Type 0} (disks : DiskWords D) where
       → JournalBack disks rows journal uncertain back
       → StoresBack disks stories rows (rows_of journal) givens backs
       → (AreAgreed disks.tells disks.seen stories rows givens
-      → Each (IsKept stories (rows_of journal)) shows)
+      → Each (StandsInRows stories (rows_of journal)) shows)
       → RunLeaves stories first (record {
         left = left;
         shows = shows;
@@ -100,7 +100,7 @@ module _ {D : Type 0} (disks : DiskWords D) where
             (λ s file at. let disk = leaves.snaps s file at in
             stores.agreed (agreed stories rows given givens first found agree) s disk.0 disk.1
             disk.2.0 file disk.2.1);
-        shown = λ agree. subst (λ (rows : List Row). Each (IsKept stories rows) shows) grows
+        shown = λ agree. subst (λ (rows : List Row). Each (StandsInRows stories rows) shows) grows
             (shown (agreed stories rows given givens first found agree));
       }
 

@@ -36,7 +36,7 @@ use Rattle.session_core.specs.Hosts.{entries_of, session_in, session_on}
 use Rattle.session_core.specs.Sessions.{with_budget}
 use Rattle.session_core.specs.Turning.{Turned, commands_in, decided_by, decision_on, turn_met}
 use Rattle.story_watch.specs.Watch.{reply_unless, seen_reply, watch_checks, watch_reply}
-use Rattle.folder_runs.specs.Runs.{IsKept}
+use Rattle.folder_runs.specs.Runs.{StandsInRows}
 use Rattle.host_runs.specs.Shows.{ShowsAreKept, show_in_reply, shows_met}
 
 -- ---- one entry more
@@ -319,7 +319,7 @@ module _ (stories : List Story) (budget : ℕ) (by : ℕ) where
       → ((s : ℕ) → s < 64 → commands_of rows s ≡ cmds final s)
       → ((s : ℕ) → s < 64 → Longer (cmds final s) (cmds (then histories line outcome) s))
       → (turned histories line outcome).reply ≡ reply
-      → Each (IsKept stories rows)
+      → Each (StandsInRows stories rows)
       (show_in_reply (session_on line) (commands_in (turned histories line outcome).history) reply)
   one_kept histories final line outcome rows (No why) many have on is = tt
   one_kept histories final line outcome rows (Seen t from to text) many have on is = tt
@@ -357,13 +357,13 @@ module _ (stories : List Story) (budget : ℕ) (by : ℕ) where
       → ((s : ℕ) → s < 64
       → commands_of rows s
       ≡ cmds (histories_met stories budget histories by lines outcomes) s)
-      → Each (IsKept stories rows) (shows_met stories budget histories by lines outcomes)
+      → Each (StandsInRows stories rows) (shows_met stories budget histories by lines outcomes)
   all_kept [] outcomes histories rows many have = tt
   all_kept (line ∷ lines) [] histories rows many have = tt
   all_kept (line ∷ lines) (outcome ∷ outcomes) histories rows many have =
       let mid = then histories line outcome in
       let wide = as_many histories line outcome many in
-      each_append (IsKept stories rows)
+      each_append (StandsInRows stories rows)
       (show_in_reply (session_on line) (commands_in (turned histories line outcome).history)
       (turned histories line outcome).reply)
       (shows_met stories budget mid by lines outcomes)

@@ -12,7 +12,7 @@ use Rattle.session_core.specs.Turning.{commands_in}
 use Rattle.session_core.specs.declared.entry.Entry.{Entry}
 use Rattle.session_core.specs.declared.entry.Outcome.{Outcome}
 use Rattle.story_run.specs.declared.story.Story.{Story}
-use Rattle.folder_runs.specs.Runs.{IsKept, Shown}
+use Rattle.folder_runs.specs.Runs.{StandsInRows, Shown}
 
 -- the show in a reply to this session, with these commands, if it is one
 abbrev pub show_in_reply : ℕ → List Command → Reply → List Shown
@@ -41,4 +41,4 @@ ShowsAreKept =
     → ((s : ℕ) → s < 64
     → commands_of rows s
     ≡ commands_in (entries_of (histories_met stories budget histories by lines outcomes) s))
-    → Each (IsKept stories rows) (shows_met stories budget histories by lines outcomes)
+    → Each (StandsInRows stories rows) (shows_met stories budget histories by lines outcomes)

@@ -8,7 +8,7 @@ use Rattle.std.proofs.lemmas.List.{take-append-drop}
 use Rattle.std.proofs.lemmas.Option.{slice_get-get_or}
 use Rattle.disk_model.specs.Plain.{is_image}
 use Rattle.story_run.specs.declared.story.Story.{Story}
-use Rattle.store_events.specs.declared.event.Event.TheVariants as files
+use Rattle.store_events.specs.declared.event.FileEvent.TheVariants as files
 use Rattle.store_events.specs.declared.state.StoreState.{StoreState}
 use Rattle.store_events.specs.Events.{begins_opening}
 use Rattle.store_events.specs.Events.{file_after}

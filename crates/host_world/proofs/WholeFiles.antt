@@ -11,8 +11,8 @@ use Rattle.gate_journal.specs.Rows.{IsJournal, IsNext}
 use Rattle.gate_journal.specs.declared.row.Row.{Row}
 use Rattle.story_run.specs.declared.story.Story.{Story}
 use Rattle.session_saves.specs.Agreement.{Agrees}
-use Rattle.store_events.specs.declared.event.Event.{Event as FileEvent}
-use Rattle.store_events.specs.declared.event.Event.TheVariants as files
+use Rattle.store_events.specs.declared.event.FileEvent.{FileEvent}
+use Rattle.store_events.specs.declared.event.FileEvent.TheVariants as files
 use Rattle.store_events.specs.declared.state.StoreState.{StoreState}
 use Rattle.store_events.specs.Events.{begins_opening}
 use Rattle.store_events.specs.Events.{file_after}

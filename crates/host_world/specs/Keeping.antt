@@ -16,8 +16,8 @@ use Rattle.session_core.specs.History.{game_of, is_in_use, world_of}
 use Rattle.session_saves.specs.Agreement.{last_row, opens_of}
 use Rattle.session_saves.specs.Game.{inputs_of}
 use Rattle.session_saves.specs.Saves.{due_in}
-use Rattle.store_events.specs.declared.event.Event.{Event as FileEvent}
-use Rattle.store_events.specs.declared.event.Event.TheVariants.{Keep}
+use Rattle.store_events.specs.declared.event.FileEvent.{FileEvent}
+use Rattle.store_events.specs.declared.event.FileEvent.TheVariants.{Keep}
 use Rattle.store_events.specs.declared.state.StoreState.{StoreState}
 use Rattle.store_events.specs.Events.{file_after}
 use Rattle.store_events.specs.Rows.{session_in_rows}

@@ -4,7 +4,7 @@ use Rattle.std.specs.Prelude.{List, [], ◌∷◌, ◌++◌, map, Option, Some, 
 use Rattle.std.specs.List.{slice_get}
 use Rattle.disk_model.specs.Plain.{is_image}
 use Rattle.story_run.specs.declared.story.Story.{Story}
-use Rattle.store_events.specs.declared.event.Event.TheVariants as files
+use Rattle.store_events.specs.declared.event.FileEvent.TheVariants as files
 use Rattle.store_events.specs.declared.state.StoreState.{StoreState}
 use Rattle.store_events.specs.Events.{is_opening, is_putting, begins_opening}
 use Rattle.store_events.specs.Events.{file_after}

@@ -3,7 +3,7 @@
 ghost use Rattle.std.specs.Prelude.{◌≡◌, IfOk, OnOk, Some, map};
 ghost use Rattle.std.specs.List.{slice_get};
 ghost use Rattle.store_events.specs.Events.{begins_opening};
-ghost use Rattle.store_events.specs.declared.event.Event.TheVariants as FileEvent;
+ghost use Rattle.store_events.specs.declared.event.FileEvent.TheVariants as FileEvent;
 ghost use Rattle.host_world.specs.Keeping.{put_begun, with_event};
 ghost use Rattle.host_world.specs.Whole.{all_up, are_images, fails_at, file_over, no_put};
 ghost use Rattle.host_world.specs.Whole.{stopped_files};

@@ -8,7 +8,7 @@ ghost use Rattle.story_run.specs.declared.story.Story.{Story};
 ghost use Rattle.gate_journal.specs.Command.{IsBudget};
 ghost use Rattle.store_events.specs.Events.{begins_opening};
 ghost use Rattle.store_events.specs.declared.state.StoreState.{StoreState};
-ghost use Rattle.store_events.specs.declared.event.Event.TheVariants as FileEvent;
+ghost use Rattle.store_events.specs.declared.event.FileEvent.TheVariants as FileEvent;
 ghost use Rattle.disk_model.specs.Plain.{is_image};
 ghost use Rattle.host_world.specs.Events.{after, run};
 ghost use Rattle.host_world.specs.Keeping.{IsOwnSnapshot, with_event};

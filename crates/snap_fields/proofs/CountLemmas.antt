@@ -6,14 +6,14 @@ use Rattle.snap_fields.specs.Counts.{CountsRequest, CountsTarget, HasCounts}
 use Rattle.snap_fields.specs.Numbers.{IsListOf}
 use Rattle.snap_fields.specs.Printable.{IsContent, IsGlkRequest, IsWindow, IsTarget, IsPrintable}
 use Rattle.snap_fields.specs.declared.fields.Fields.{Fields}
-use Rattle.snap_fields.specs.declared.glk.Area.{Area}
-use Rattle.snap_fields.specs.declared.glk.Content.{Content}
-use Rattle.snap_fields.specs.declared.glk.Content.TheVariants.{Pair, Blank, Buffer, Grid}
-use Rattle.snap_fields.specs.declared.glk.Request.{Request}
-use Rattle.snap_fields.specs.declared.glk.Request.TheVariants.{Nothing, Line, Char}
-use Rattle.snap_fields.specs.declared.glk.Target.{Target}
-use Rattle.snap_fields.specs.declared.glk.Target.TheVariants as target
-use Rattle.snap_fields.specs.declared.glk.Window.{Window}
+use Rattle.snap_fields.specs.declared.glk.SnapArea.{SnapArea}
+use Rattle.snap_fields.specs.declared.glk.SnapContent.{SnapContent}
+use Rattle.snap_fields.specs.declared.glk.SnapContent.TheVariants.{Pair, Blank, Buffer, Grid}
+use Rattle.snap_fields.specs.declared.glk.SnapRequest.{SnapRequest}
+use Rattle.snap_fields.specs.declared.glk.SnapRequest.TheVariants.{Nothing, Line, Char}
+use Rattle.snap_fields.specs.declared.glk.SnapTarget.{SnapTarget}
+use Rattle.snap_fields.specs.declared.glk.SnapTarget.TheVariants as target
+use Rattle.snap_fields.specs.declared.glk.SnapWindow.{SnapWindow}
 
 each : {A : Type 0} (P Q : A → Type 0) → ((x : A) → P x → Q x) → (xs : List A)
     → AllByRecursion P xs → AllByRecursion Q xs
@@ -24,23 +24,23 @@ list : {A : Type 0} (Is Counts : A → Type 0) → ((x : A) → Is x → Counts 
     → IsListOf Is xs → CountsList Counts xs
 list Is Counts f xs h = record { count = h.0; items = each Is Counts f xs h.1 }
 
-cells : (area : Area) (content : Content) → IsContent area content → HasCells area content
+cells : (area : SnapArea) (content : SnapContent) → IsContent area content → HasCells area content
 cells area (Pair method size key first second) h = tt
 cells area Blank h = tt
 cells area Buffer h = tt
 cells area (Grid x y codes) h = h.2
 
-request : (r : Request) → IsGlkRequest r → CountsRequest r
+request : (r : SnapRequest) → IsGlkRequest r → CountsRequest r
 request Nothing h = tt
 request (Line unicode buffer maximum initial echo terminators) h = h.3.0
 request (Char unicode) h = tt
 
-goes_to : (t : Target) → IsTarget t → CountsTarget t
+goes_to : (t : SnapTarget) → IsTarget t → CountsTarget t
 goes_to target.Window h = tt
 goes_to (target.Memory buffer size) h = tt
 goes_to (target.File usage name) h = h.1.0
 
-window : (w : Window) → IsWindow w → CountsWindow w
+window : (w : SnapWindow) → IsWindow w → CountsWindow w
 window w h = record {
   terminators = h.terminators.0;
   cells = cells w.area w.content h.content;

@@ -6,12 +6,12 @@ use Rattle.std.proofs.lemmas.Bool.Decides.{nat_tests}
 use Rattle.snap_fields.specs.Numbers.{n1, n4, flag, IsByte, IsWord, IsListOf, list_of}
 use Rattle.snap_fields.specs.Reading.{n1_at}
 use Rattle.snap_fields.specs.Reading.{n4_at, list_at}
-use Rattle.snap_fields.specs.declared.glk.Area.{Area}
-use Rattle.snap_fields.specs.declared.glk.Content.{Content}
-use Rattle.snap_fields.specs.declared.glk.Content.TheVariants.{Pair, Blank, Buffer, Grid}
-use Rattle.snap_fields.specs.declared.glk.Request.{Request}
-use Rattle.snap_fields.specs.declared.glk.Request.TheVariants.{Nothing, Line, Char}
-use Rattle.snap_fields.specs.declared.glk.Window.{Window}
+use Rattle.snap_fields.specs.declared.glk.SnapArea.{SnapArea}
+use Rattle.snap_fields.specs.declared.glk.SnapContent.{SnapContent}
+use Rattle.snap_fields.specs.declared.glk.SnapContent.TheVariants.{Pair, Blank, Buffer, Grid}
+use Rattle.snap_fields.specs.declared.glk.SnapRequest.{SnapRequest}
+use Rattle.snap_fields.specs.declared.glk.SnapRequest.TheVariants.{Nothing, Line, Char}
+use Rattle.snap_fields.specs.declared.glk.SnapWindow.{SnapWindow}
 use Rattle.snap_fields.specs.Printing.{type_of, print_area, print_content, print_glk_request}
 use Rattle.snap_fields.specs.Printing.{print_window}
 use Rattle.snap_fields.specs.Printable.{IsArea, IsContent, IsGlkRequest, IsWindow}
@@ -28,7 +28,7 @@ codes_reads = list_reads n4 IsWord n4_at n4_reads
 
 -- ---- 7. windows
 
-pub area_reads : IsReader Area print_area IsArea area_at
+pub area_reads : IsReader SnapArea print_area IsArea area_at
 unfolding area_at
 area_reads =
     made_reads print_area IsArea area_item
@@ -37,43 +37,43 @@ area_reads =
     (λ x h. record { x = h.0; y = h.1.0; w = h.1.1.0; h = h.1.1.1 })
     (λ x h. refl)
 
-abbrev Holds : Area → ℕ → Content → Type 0
+abbrev Holds : SnapArea → ℕ → SnapContent → Type 0
 Holds area type content = (type_of content ≡ type) × IsContent area content
 
-pair_only : (area : Area) (n : ℕ) → n ≡ 1 → (c : Content) → Holds area n c
+pair_only : (area : SnapArea) (n : ℕ) → n ≡ 1 → (c : SnapContent) → Holds area n c
     → (x : ℕ × (ℕ × (ℕ × (ℕ × ℕ)))) × (pair_item x ≡ c)
     × (IsWord x.0 × (IsWord x.1.0 × (IsWord x.1.1.0 × (IsWord x.1.1.1.0 × IsWord x.1.1.1.1))))
 pair_only area n e (Pair method size key first second) h =
     ((method, (size, (key, (first, second)))), refl, (h.1.0, (h.1.1, (h.1.2, (h.1.3, h.1.4)))))
 pair_only area n e c h = absurd (omega (arith, e, h.0))
 
-blank_only : (area : Area) (n : ℕ) → n ≡ 2 → (c : Content) → Holds area n c → Blank ≡ c
+blank_only : (area : SnapArea) (n : ℕ) → n ≡ 2 → (c : SnapContent) → Holds area n c → Blank ≡ c
 blank_only area n e Blank h = refl
 blank_only area n e c h = absurd (omega (arith, e, h.0))
 
-buffer_only : (area : Area) (n : ℕ) → n ≡ 3 → (c : Content) → Holds area n c → Buffer ≡ c
+buffer_only : (area : SnapArea) (n : ℕ) → n ≡ 3 → (c : SnapContent) → Holds area n c → Buffer ≡ c
 buffer_only area n e Buffer h = refl
 buffer_only area n e c h = absurd (omega (arith, e, h.0))
 
-abbrev Cells : Area → List ℕ → Type 0
+abbrev Cells : SnapArea → List ℕ → Type 0
 Cells area cells = (length cells ≡ area.w * area.h) × AllByRecursion IsWord cells
 
-grid_only : (area : Area) (n : ℕ) → n ≡ 4 → (c : Content) → Holds area n c
+grid_only : (area : SnapArea) (n : ℕ) → n ≡ 4 → (c : SnapContent) → Holds area n c
     → (x : ℕ × (ℕ × List ℕ)) × (grid_of x ≡ c)
     × (IsWord x.0 × (IsWord x.1.0 × Cells area x.1.1))
 grid_only area n e (Grid x y cells) h =
     ((x, (y, cells)), refl, (h.1.0, (h.1.1, (h.1.2, h.1.3))))
 grid_only area n e c h = absurd (omega (arith, e, h.0))
 
-no_type : (area : Area) (n : ℕ) → (n == 1) ≡ false → (n == 2) ≡ false → (n == 3) ≡ false
-    → (n == 4) ≡ false → (c : Content) → Holds area n c → ⊥
+no_type : (area : SnapArea) (n : ℕ) → (n == 1) ≡ false → (n == 2) ≡ false → (n == 3) ≡ false
+    → (n == 4) ≡ false → (c : SnapContent) → Holds area n c → ⊥
 no_type area n a b c d (Pair method size key first second) h = grind (arith, nat_tests, a, h.0)
 no_type area n a b c d Blank h = grind (arith, nat_tests, b, h.0)
 no_type area n a b c d Buffer h = grind (arith, nat_tests, c, h.0)
 no_type area n a b c d (Grid x y cells) h = grind (arith, nat_tests, d, h.0)
 
-pub content_reads : (n : ℕ) (area : Area)
-    → IsReader Content print_content (Holds area n) (content_at n area)
+pub content_reads : (n : ℕ) (area : SnapArea)
+    → IsReader SnapContent print_content (Holds area n) (content_at n area)
 unfolding content_at
 content_reads n area =
     if_reads print_content (Holds area n) (n == 1) _ _
@@ -96,36 +96,36 @@ content_reads n area =
     (λ x h. (sym is, (h.0, h.1.0, h.1.1.0, h.1.1.1))) (λ x h. refl))
     (λ d. none_reads print_content (Holds area n) (no_type area n a b c d)))))
 
-abbrev kind_in : Request → ℕ
+abbrev kind_in : SnapRequest → ℕ
 kind_in Nothing = 0
 kind_in (Line unicode buffer maximum initial echo terminators) = 1
 kind_in (Char unicode) = 2
 
-abbrev behind_kind : Request → List ℕ
+abbrev behind_kind : SnapRequest → List ℕ
 behind_kind Nothing = []
 behind_kind (Line unicode buffer maximum initial echo terminators) =
     n1 (flag unicode) ++ (n4 buffer ++ (n4 maximum ++ (n4 initial
     ++ (n1 (flag echo) ++ list_of n4 terminators))))
 behind_kind (Char unicode) = n1 (flag unicode)
 
-abbrev Asks : ℕ → Request → Type 0
+abbrev Asks : ℕ → SnapRequest → Type 0
 Asks kind r = (kind_in r ≡ kind) × IsGlkRequest r
 
-kind_small : (r : Request) → IsGlkRequest r → IsByte (kind_in r)
+kind_small : (r : SnapRequest) → IsGlkRequest r → IsByte (kind_in r)
 kind_small Nothing h = omega arith
 kind_small (Line unicode buffer maximum initial echo terminators) h = omega arith
 kind_small (Char unicode) h = omega arith
 
-led : (r : Request) → print_glk_request r ≡ n1 (kind_in r) ++ behind_kind r
+led : (r : SnapRequest) → print_glk_request r ≡ n1 (kind_in r) ++ behind_kind r
 led Nothing = refl
 led (Line unicode buffer maximum initial echo terminators) = refl
 led (Char unicode) = refl
 
-nothing_only : (n : ℕ) → n ≡ 0 → (r : Request) → Asks n r → Nothing ≡ r
+nothing_only : (n : ℕ) → n ≡ 0 → (r : SnapRequest) → Asks n r → Nothing ≡ r
 nothing_only n e Nothing h = refl
 nothing_only n e r h = absurd (omega (arith, e, h.0))
 
-line_only : (n : ℕ) → n ≡ 1 → (r : Request) → Asks n r
+line_only : (n : ℕ) → n ≡ 1 → (r : SnapRequest) → Asks n r
     → (x : Bool × (ℕ × (ℕ × (ℕ × (Bool × List ℕ))))) × (line_item x ≡ r)
     × (Unit {0} × (IsWord x.1.0 × (IsWord x.1.1.0 × (IsWord x.1.1.1.0
     × (Unit {0} × IsListOf IsWord x.1.1.1.1.1)))))
@@ -136,19 +136,19 @@ line_only n e (Line unicode buffer maximum initial echo terminators) h = (
 )
 line_only n e r h = absurd (omega (arith, e, h.0))
 
-char_only : (n : ℕ) → n ≡ 2 → (r : Request) → Asks n r
+char_only : (n : ℕ) → n ≡ 2 → (r : SnapRequest) → Asks n r
     → (unicode : Bool) × (Char unicode ≡ r) × Unit {0}
 char_only n e (Char unicode) h = (unicode, refl, tt)
 char_only n e r h = absurd (omega (arith, e, h.0))
 
 no_request : (n : ℕ) → (n == 0) ≡ false → (n == 1) ≡ false → (n == 2) ≡ false
-    → (r : Request) → Asks n r → ⊥
+    → (r : SnapRequest) → Asks n r → ⊥
 no_request n a b c Nothing h = grind (arith, nat_tests, a, h.0)
 no_request n a b c (Line unicode buffer maximum initial echo terminators) h =
     grind (arith, nat_tests, b, h.0)
 no_request n a b c (Char unicode) h = grind (arith, nat_tests, c, h.0)
 
-request_with_reads : (n : ℕ) → IsReader Request behind_kind (Asks n) (request_with n)
+request_with_reads : (n : ℕ) → IsReader SnapRequest behind_kind (Asks n) (request_with n)
 request_with_reads n =
     if_reads behind_kind (Asks n) (n == 0) _ _
     (λ e. let is = equal n 0 e in
@@ -166,7 +166,7 @@ request_with_reads n =
     (λ x h. (sym is, tt)) (λ x h. refl))
     (λ c. none_reads behind_kind (Asks n) (no_request n a b c))))
 
-pub request_reads : IsReader Request print_glk_request IsGlkRequest request_at
+pub request_reads : IsReader SnapRequest print_glk_request IsGlkRequest request_at
 unfolding request_at
 request_reads =
     led_reads n1 IsByte print_glk_request behind_kind IsGlkRequest kind_in n1_at request_with
@@ -189,26 +189,26 @@ head_reads =
     n4_reads before n4_reads before n4_reads before n4_reads before n4_reads before n4_reads
     before flag4_reads before codes_reads before area_reads
 
-abbrev print_behind : Content × Request → List ℕ
+abbrev print_behind : SnapContent × SnapRequest → List ℕ
 print_behind p = print_content p.0 ++ print_glk_request p.1
 
-abbrev IsBehind : Head → Content × Request → Type 0
+abbrev IsBehind : Head → SnapContent × SnapRequest → Type 0
 IsBehind (number, (type, (rock, (stream, (echo_stream, (parent, (echo, (terminators, area))))))))
     p = Holds area type p.0 × IsGlkRequest p.1
 
-behind_reads : (head : Head) → IsReader (Content × Request) print_behind (IsBehind head)
+behind_reads : (head : Head) → IsReader (SnapContent × SnapRequest) print_behind (IsBehind head)
     (behind_head head)
 behind_reads
     (number, (type, (rock, (stream, (echo_stream, (parent, (echo, (terminators, area)))))))) =
     content_reads type area before request_reads
 
-type_small : (content : Content) → IsWord (type_of content)
+type_small : (content : SnapContent) → IsWord (type_of content)
 type_small (Pair method size key first second) = omega arith
 type_small Blank = omega arith
 type_small Buffer = omega arith
 type_small (Grid x y cells) = omega arith
 
-pub window_reads : IsReader Window print_window IsWindow window_item_at
+pub window_reads : IsReader SnapWindow print_window IsWindow window_item_at
 unfolding window_item_at
 window_reads =
     made_reads print_window IsWindow window_item

@@ -5,15 +5,15 @@ use Rattle.std.proofs.lemmas.Bool.Decides.{nat_tests}
 use Rattle.vm_heap.specs.declared.block.Block.{Block}
 use Rattle.snap_fields.specs.Numbers.{n1, n4, IsByte, IsWord}
 use Rattle.snap_fields.specs.Reading.{n1_at}
-use Rattle.snap_fields.specs.declared.fields.Machine.{Machine}
+use Rattle.snap_fields.specs.declared.fields.SnapMachine.{SnapMachine}
 use Rattle.snap_fields.specs.declared.fields.Numbers.{Numbers}
-use Rattle.snap_fields.specs.declared.fields.Random.{Random}
+use Rattle.snap_fields.specs.declared.fields.SnapRandom.{SnapRandom}
 use Rattle.snap_fields.specs.declared.fields.Settings.{Settings}
-use Rattle.snap_fields.specs.declared.fields.Setup.{Setup}
-use Rattle.snap_fields.specs.declared.fields.Store.{Store}
+use Rattle.snap_fields.specs.declared.fields.SnapSetup.{SnapSetup}
+use Rattle.snap_fields.specs.declared.fields.SnapStub.{SnapStub}
 use Rattle.snap_fields.specs.declared.fields.UndoState.{UndoState}
-use Rattle.snap_fields.specs.declared.fields.Waiting.{Waiting}
-use Rattle.snap_fields.specs.declared.fields.Waiting.TheVariants.{Quit, Fault, Select, Prompt}
+use Rattle.snap_fields.specs.declared.fields.SnapWaiting.{SnapWaiting}
+use Rattle.snap_fields.specs.declared.fields.SnapWaiting.TheVariants.{Quit, Fault, Select, Prompt}
 use Rattle.snap_fields.specs.Printing.{print_setup, print_block, print_machine, print_settings}
 use Rattle.snap_fields.specs.Printing.{print_random, print_store, print_waiting, print_numbers}
 use Rattle.snap_fields.specs.Printing.{print_undo_state}
@@ -31,7 +31,7 @@ use Rattle.snap_fields.proofs.Lists.{list_reads, bytes_reads}
 
 -- ---- 1. the beginning
 
-pub setup_reads : IsReader Setup print_setup IsSetup setup_at
+pub setup_reads : IsReader SnapSetup print_setup IsSetup setup_at
 unfolding setup_at
 setup_reads =
     made_reads print_setup IsSetup setup_item
@@ -48,7 +48,7 @@ block_reads =
     made_reads print_block IsBlock block_of (n4_reads before n4_reads)
     (λ b h. ((b.at, b.length), refl, h)) (λ x h. h) (λ x h. refl)
 
-pub machine_reads : IsReader Machine print_machine IsMachine machine_at
+pub machine_reads : IsReader SnapMachine print_machine IsMachine machine_at
 unfolding machine_at
 machine_reads =
     made_reads print_machine IsMachine machine_item
@@ -90,7 +90,7 @@ settings_reads =
     })
     (λ x h. refl)
 
-pub random_reads : IsReader Random print_random IsRandom random_at
+pub random_reads : IsReader SnapRandom print_random IsRandom random_at
 unfolding random_at
 random_reads =
     made_reads print_random IsRandom random_of
@@ -121,63 +121,63 @@ undo_state_reads =
 
 -- ---- 5. what the story waits for, or how it ended
 
-pub store_reads : IsReader Store print_store IsStoreFields store_at
+pub store_reads : IsReader SnapStub print_store IsStoreFields store_at
 unfolding store_at
 store_reads =
     made_reads print_store IsStoreFields store_item (n4_reads before n4_reads)
     (λ s h. ((s.kind, s.address), refl, h)) (λ x h. h) (λ x h. refl)
 
-abbrev kind_in : Waiting → ℕ
+abbrev kind_in : SnapWaiting → ℕ
 kind_in Quit = 0
 kind_in (Fault code) = 1
 kind_in (Select reference store) = 2
 kind_in (Prompt usage mode rock store) = 3
 
-abbrev behind_kind : Waiting → List ℕ
+abbrev behind_kind : SnapWaiting → List ℕ
 behind_kind Quit = []
 behind_kind (Fault code) = n1 code
 behind_kind (Select reference store) = n4 reference ++ print_store store
 behind_kind (Prompt usage mode rock store) =
     n4 usage ++ (n4 mode ++ (n4 rock ++ print_store store))
 
-abbrev Waits : ℕ → Waiting → Type 0
+abbrev Waits : ℕ → SnapWaiting → Type 0
 Waits kind w = (kind_in w ≡ kind) × IsWaitingFields w
 
-kind_small : (w : Waiting) → IsWaitingFields w → IsByte (kind_in w)
+kind_small : (w : SnapWaiting) → IsWaitingFields w → IsByte (kind_in w)
 kind_small Quit h = omega arith
 kind_small (Fault code) h = omega arith
 kind_small (Select reference store) h = omega arith
 kind_small (Prompt usage mode rock store) h = omega arith
 
-led : (w : Waiting) → print_waiting w ≡ n1 (kind_in w) ++ behind_kind w
+led : (w : SnapWaiting) → print_waiting w ≡ n1 (kind_in w) ++ behind_kind w
 led Quit = refl
 led (Fault code) = refl
 led (Select reference store) = refl
 led (Prompt usage mode rock store) = refl
 
-quit_only : (n : ℕ) → n ≡ 0 → (w : Waiting) → Waits n w → Quit ≡ w
+quit_only : (n : ℕ) → n ≡ 0 → (w : SnapWaiting) → Waits n w → Quit ≡ w
 quit_only n e Quit h = refl
 quit_only n e w h = absurd (omega (arith, e, h.0))
 
-fault_only : (n : ℕ) → n ≡ 1 → (w : Waiting) → Waits n w
+fault_only : (n : ℕ) → n ≡ 1 → (w : SnapWaiting) → Waits n w
     → (code : ℕ) × (Fault code ≡ w) × IsByte code
 fault_only n e (Fault code) h = (code, refl, h.1)
 fault_only n e w h = absurd (omega (arith, e, h.0))
 
-select_only : (n : ℕ) → n ≡ 2 → (w : Waiting) → Waits n w
-    → (x : ℕ × Store) × (select_of x ≡ w) × (IsWord x.0 × IsStoreFields x.1)
+select_only : (n : ℕ) → n ≡ 2 → (w : SnapWaiting) → Waits n w
+    → (x : ℕ × SnapStub) × (select_of x ≡ w) × (IsWord x.0 × IsStoreFields x.1)
 select_only n e (Select reference store) h = ((reference, store), refl, h.1)
 select_only n e w h = absurd (omega (arith, e, h.0))
 
-prompt_only : (n : ℕ) → n ≡ 3 → (w : Waiting) → Waits n w
-    → (x : ℕ × (ℕ × (ℕ × Store))) × (prompt_of x ≡ w)
+prompt_only : (n : ℕ) → n ≡ 3 → (w : SnapWaiting) → Waits n w
+    → (x : ℕ × (ℕ × (ℕ × SnapStub))) × (prompt_of x ≡ w)
     × (IsWord x.0 × (IsWord x.1.0 × (IsWord x.1.1.0 × IsStoreFields x.1.1.1)))
 prompt_only n e (Prompt usage mode rock store) h =
     ((usage, (mode, (rock, store))), refl, (h.1.0, (h.1.1, (h.1.2, h.1.3))))
 prompt_only n e w h = absurd (omega (arith, e, h.0))
 
 no_kind : (n : ℕ) → (n == 0) ≡ false → (n == 1) ≡ false → (n == 2) ≡ false → (n == 3) ≡ false
-    → (w : Waiting) → Waits n w → ⊥
+    → (w : SnapWaiting) → Waits n w → ⊥
 no_kind n a b c d Quit h = grind (arith, nat_tests, a, h.0)
 no_kind n a b c d (Fault code) h = grind (arith, nat_tests, b, h.0)
 no_kind n a b c d (Select reference store) h = grind (arith, nat_tests, c, h.0)
@@ -186,7 +186,7 @@ no_kind n a b c d (Prompt usage mode rock store) h = grind (arith, nat_tests, d,
 pub equal : (n k : ℕ) → (n == k) ≡ true → n ≡ k
 equal n k e = grind (arith, nat_tests, e)
 
-waiting_with_reads : (n : ℕ) → IsReader Waiting behind_kind (Waits n) (waiting_with n)
+waiting_with_reads : (n : ℕ) → IsReader SnapWaiting behind_kind (Waits n) (waiting_with n)
 waiting_with_reads n =
     if_reads behind_kind (Waits n) (n == 0) _ _
     (λ e. let is = equal n 0 e in
@@ -206,7 +206,7 @@ waiting_with_reads n =
     (λ x h. (sym is, (h.0, h.1.0, h.1.1.0, h.1.1.1))) (λ x h. refl))
     (λ d. none_reads behind_kind (Waits n) (no_kind n a b c d)))))
 
-pub waiting_reads : IsReader Waiting print_waiting IsWaitingFields waiting_at
+pub waiting_reads : IsReader SnapWaiting print_waiting IsWaitingFields waiting_at
 unfolding waiting_at
 waiting_reads =
     led_reads n1 IsByte print_waiting behind_kind IsWaitingFields kind_in n1_at waiting_with

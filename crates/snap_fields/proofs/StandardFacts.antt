@@ -3,10 +3,10 @@ use Rattle.std.specs.Prelude.{◌≡◌, ◌++◌, refl, [], ◌∷◌, true, fa
 use Rattle.snap_fields.specs.Numbers.{n1, n4, n8, list_of, bytes_with_count, text_codes}
 use Rattle.snap_fields.specs.Printing.{print_waiting, print_window, print_stream}
 use Rattle.snap_fields.specs.Printing.{print_fields, print_undo_state}
-use Rattle.snap_fields.specs.declared.fields.Waiting.TheVariants.{Quit, Fault, Prompt}
-use Rattle.snap_fields.specs.declared.glk.Content.TheVariants.{Grid}
-use Rattle.snap_fields.specs.declared.glk.Request.TheVariants.{Char}
-use Rattle.snap_fields.specs.declared.glk.Target.TheVariants as target
+use Rattle.snap_fields.specs.declared.fields.SnapWaiting.TheVariants.{Quit, Fault, Prompt}
+use Rattle.snap_fields.specs.declared.glk.SnapContent.TheVariants.{Grid}
+use Rattle.snap_fields.specs.declared.glk.SnapRequest.TheVariants.{Char}
+use Rattle.snap_fields.specs.declared.glk.SnapTarget.TheVariants as target
 
 pub numbers : n1 7 ++ (n4 258 ++ n8 1) ≡ 7 ∷ 0 ∷ 0 ∷ 1 ∷ 2 ∷ 0 ∷ 0 ∷ 0 ∷ 0 ∷ 0 ∷ 0 ∷ 0 ∷ 1 ∷ []
 numbers = refl

@@ -2,11 +2,11 @@
 use Rattle.std.proofs.Common.{◌≡◌, ℕ, ◌==◌, false, List, ◌++◌, refl, sym, arith}
 use Rattle.std.proofs.lemmas.Bool.Decides.{nat_tests}
 use Rattle.snap_fields.specs.Numbers.{n1, n4, flag, IsByte, IsWord, IsListOf}
-use Rattle.snap_fields.specs.declared.glk.File.{File}
-use Rattle.snap_fields.specs.declared.glk.FileRef.{FileRef}
-use Rattle.snap_fields.specs.declared.glk.Stream.{Stream}
-use Rattle.snap_fields.specs.declared.glk.Target.{Target}
-use Rattle.snap_fields.specs.declared.glk.Target.TheVariants as target
+use Rattle.snap_fields.specs.declared.glk.SnapFile.{SnapFile}
+use Rattle.snap_fields.specs.declared.glk.SnapFileRef.{SnapFileRef}
+use Rattle.snap_fields.specs.declared.glk.SnapStream.{SnapStream}
+use Rattle.snap_fields.specs.declared.glk.SnapTarget.{SnapTarget}
+use Rattle.snap_fields.specs.declared.glk.SnapTarget.TheVariants as target
 use Rattle.snap_fields.specs.Printing.{target_kind, print_target, print_stream}
 use Rattle.snap_fields.specs.Printing.{print_fileref, print_file}
 use Rattle.snap_fields.specs.Printable.{IsTarget, IsStream, IsFileRef, IsFile}
@@ -21,30 +21,30 @@ use Rattle.snap_fields.proofs.GlkLaws.{codes_reads}
 
 -- ---- 8. streams
 
-abbrev GoesTo : ℕ → Target → Type 0
+abbrev GoesTo : ℕ → SnapTarget → Type 0
 GoesTo kind t = (target_kind t ≡ kind) × IsTarget t
 
-window_only : (n : ℕ) → n ≡ 0 → (t : Target) → GoesTo n t → target.Window ≡ t
+window_only : (n : ℕ) → n ≡ 0 → (t : SnapTarget) → GoesTo n t → target.Window ≡ t
 window_only n e target.Window h = refl
 window_only n e t h = absurd (omega (arith, e, h.0))
 
-memory_only : (n : ℕ) → n ≡ 1 → (t : Target) → GoesTo n t
+memory_only : (n : ℕ) → n ≡ 1 → (t : SnapTarget) → GoesTo n t
     → (x : ℕ × ℕ) × (memory_item x ≡ t) × (IsWord x.0 × IsWord x.1)
 memory_only n e (target.Memory buffer size) h = ((buffer, size), refl, h.1)
 memory_only n e t h = absurd (omega (arith, e, h.0))
 
-file_only : (n : ℕ) → n ≡ 2 → (t : Target) → GoesTo n t
+file_only : (n : ℕ) → n ≡ 2 → (t : SnapTarget) → GoesTo n t
     → (x : ℕ × List ℕ) × (file_target_of x ≡ t) × (IsWord x.0 × IsListOf IsWord x.1)
 file_only n e (target.File usage name) h = ((usage, name), refl, h.1)
 file_only n e t h = absurd (omega (arith, e, h.0))
 
 no_target : (n : ℕ) → (n == 0) ≡ false → (n == 1) ≡ false → (n == 2) ≡ false
-    → (t : Target) → GoesTo n t → ⊥
+    → (t : SnapTarget) → GoesTo n t → ⊥
 no_target n a b c target.Window h = grind (arith, nat_tests, a, h.0)
 no_target n a b c (target.Memory buffer size) h = grind (arith, nat_tests, b, h.0)
 no_target n a b c (target.File usage name) h = grind (arith, nat_tests, c, h.0)
 
-target_reads : (n : ℕ) → IsReader Target print_target (GoesTo n) (target_at n)
+target_reads : (n : ℕ) → IsReader SnapTarget print_target (GoesTo n) (target_at n)
 unfolding target_at
 target_reads n =
     if_reads print_target (GoesTo n) (n == 0) _ _
@@ -77,19 +77,19 @@ stream_head_reads =
     n4_reads before n1_reads before n4_reads before n4_reads before n4_reads before n4_reads
     before n4_reads before n4_reads before flag1_reads
 
-abbrev IsBehindStream : StreamHead → Target → Type 0
+abbrev IsBehindStream : StreamHead → SnapTarget → Type 0
 IsBehindStream head t = GoesTo head.1.0 t
 
 behind_stream_reads : (head : StreamHead)
-    → IsReader Target print_target (IsBehindStream head) (behind_stream head)
+    → IsReader SnapTarget print_target (IsBehindStream head) (behind_stream head)
 behind_stream_reads head = target_reads head.1.0
 
-target_small : (t : Target) → IsByte (target_kind t)
+target_small : (t : SnapTarget) → IsByte (target_kind t)
 target_small target.Window = omega arith
 target_small (target.Memory buffer size) = omega arith
 target_small (target.File usage name) = omega arith
 
-pub stream_reads : IsReader Stream print_stream IsStream stream_item_at
+pub stream_reads : IsReader SnapStream print_stream IsStream stream_item_at
 unfolding stream_item_at
 stream_reads =
     made_reads print_stream IsStream stream_item
@@ -162,7 +162,7 @@ stream_reads =
 
 -- ---- 9. file references and files
 
-pub fileref_reads : IsReader FileRef print_fileref IsFileRef fileref_at
+pub fileref_reads : IsReader SnapFileRef print_fileref IsFileRef fileref_at
 unfolding fileref_at
 fileref_reads =
     made_reads print_fileref IsFileRef fileref_of
@@ -175,7 +175,7 @@ fileref_reads =
     (λ x h. record { number = h.0; usage = h.1.0; rock = h.1.1.0; name = h.1.1.1 })
     (λ x h. refl)
 
-pub file_reads : IsReader File print_file IsFile file_at
+pub file_reads : IsReader SnapFile print_file IsFile file_at
 unfolding file_at
 file_reads =
     made_reads print_file IsFile file_item (n4_reads before codes_reads before bytes_reads)

@@ -3,19 +3,19 @@ use Rattle.std.specs.Prelude.{◌≡◌, ◌*◌, List, length}
 use Rattle.std.specs.List.{AllByRecursion}
 use Rattle.snap_fields.specs.Numbers.{IsCounted}
 use Rattle.snap_fields.specs.declared.fields.Fields.{Fields}
-use Rattle.snap_fields.specs.declared.fields.Machine.{Machine}
+use Rattle.snap_fields.specs.declared.fields.SnapMachine.{SnapMachine}
 use Rattle.snap_fields.specs.declared.fields.UndoState.{UndoState}
-use Rattle.snap_fields.specs.declared.glk.Area.{Area}
-use Rattle.snap_fields.specs.declared.glk.Content.{Content}
-use Rattle.snap_fields.specs.declared.glk.Content.TheVariants.{Pair, Blank, Buffer, Grid}
-use Rattle.snap_fields.specs.declared.glk.File.{File}
-use Rattle.snap_fields.specs.declared.glk.FileRef.{FileRef}
-use Rattle.snap_fields.specs.declared.glk.Request.{Request}
-use Rattle.snap_fields.specs.declared.glk.Request.TheVariants.{Nothing, Line, Char}
-use Rattle.snap_fields.specs.declared.glk.Stream.{Stream}
-use Rattle.snap_fields.specs.declared.glk.Target.{Target}
-use Rattle.snap_fields.specs.declared.glk.Target.TheVariants as target
-use Rattle.snap_fields.specs.declared.glk.Window.{Window}
+use Rattle.snap_fields.specs.declared.glk.SnapArea.{SnapArea}
+use Rattle.snap_fields.specs.declared.glk.SnapContent.{SnapContent}
+use Rattle.snap_fields.specs.declared.glk.SnapContent.TheVariants.{Pair, Blank, Buffer, Grid}
+use Rattle.snap_fields.specs.declared.glk.SnapFile.{SnapFile}
+use Rattle.snap_fields.specs.declared.glk.SnapFileRef.{SnapFileRef}
+use Rattle.snap_fields.specs.declared.glk.SnapRequest.{SnapRequest}
+use Rattle.snap_fields.specs.declared.glk.SnapRequest.TheVariants.{Nothing, Line, Char}
+use Rattle.snap_fields.specs.declared.glk.SnapStream.{SnapStream}
+use Rattle.snap_fields.specs.declared.glk.SnapTarget.{SnapTarget}
+use Rattle.snap_fields.specs.declared.glk.SnapTarget.TheVariants as target
+use Rattle.snap_fields.specs.declared.glk.SnapWindow.{SnapWindow}
 
 -- a value without lists
 abbrev pub HasNoList : {A : Type 0} → A → Type 0
@@ -26,7 +26,7 @@ pub record CountsList {A : Type 0} (Counts : A → Type 0) (xs : List A) : Type 
   pub count : IsCounted xs
   pub items : AllByRecursion Counts xs
 
-pub record CountsMachine (m : Machine) : Type 0 where
+pub record CountsMachine (m : SnapMachine) : Type 0 where
   pub memory : IsCounted m.memory
   pub stack : IsCounted m.stack
   pub heap : IsCounted m.heap
@@ -37,34 +37,34 @@ pub record CountsUndoState (s : UndoState) : Type 0 where
   pub heap : IsCounted s.heap
 
 -- a grid has a cell for each place of its rectangle
-abbrev pub HasCells : Area → Content → Type 0
+abbrev pub HasCells : SnapArea → SnapContent → Type 0
 HasCells area (Pair method size key first second) = Unit {0}
 HasCells area Blank = Unit {0}
 HasCells area Buffer = Unit {0}
 HasCells area (Grid x y cells) = length cells ≡ area.w * area.h
 
-abbrev pub CountsRequest : Request → Type 0
+abbrev pub CountsRequest : SnapRequest → Type 0
 CountsRequest Nothing = Unit {0}
 CountsRequest (Line unicode buffer maximum initial echo terminators) = IsCounted terminators
 CountsRequest (Char unicode) = Unit {0}
 
-pub record CountsWindow (w : Window) : Type 0 where
+pub record CountsWindow (w : SnapWindow) : Type 0 where
   pub terminators : IsCounted w.terminators
   pub cells : HasCells w.area w.content
   pub request : CountsRequest w.request
 
-abbrev pub CountsTarget : Target → Type 0
+abbrev pub CountsTarget : SnapTarget → Type 0
 CountsTarget target.Window = Unit {0}
 CountsTarget (target.Memory buffer length) = Unit {0}
 CountsTarget (target.File usage name) = IsCounted name
 
-abbrev pub CountsStream : Stream → Type 0
+abbrev pub CountsStream : SnapStream → Type 0
 CountsStream s = CountsTarget s.target
 
-abbrev pub CountsFileRef : FileRef → Type 0
+abbrev pub CountsFileRef : SnapFileRef → Type 0
 CountsFileRef r = IsCounted r.name
 
-pub record CountsFile (f : File) : Type 0 where
+pub record CountsFile (f : SnapFile) : Type 0 where
   pub name : IsCounted f.name
   pub bytes : IsCounted f.bytes
 

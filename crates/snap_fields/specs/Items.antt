@@ -4,23 +4,23 @@ use Rattle.vm_heap.specs.declared.block.Block.{Block}
 use Rattle.snap_fields.specs.Reading.{Reader, ◌then◌, led_by, reader_made, none_at, pure_at}
 use Rattle.snap_fields.specs.Reading.{n1_at, n4_at, n8_at, list_at}
 use Rattle.snap_fields.specs.Reading.{bytes_at}
-use Rattle.snap_fields.specs.declared.fields.Machine.{Machine}
+use Rattle.snap_fields.specs.declared.fields.SnapMachine.{SnapMachine}
 use Rattle.snap_fields.specs.declared.fields.Numbers.{Numbers}
-use Rattle.snap_fields.specs.declared.fields.Random.{Random}
+use Rattle.snap_fields.specs.declared.fields.SnapRandom.{SnapRandom}
 use Rattle.snap_fields.specs.declared.fields.Settings.{Settings}
-use Rattle.snap_fields.specs.declared.fields.Setup.{Setup}
-use Rattle.snap_fields.specs.declared.fields.Store.{Store}
+use Rattle.snap_fields.specs.declared.fields.SnapSetup.{SnapSetup}
+use Rattle.snap_fields.specs.declared.fields.SnapStub.{SnapStub}
 use Rattle.snap_fields.specs.declared.fields.UndoState.{UndoState}
-use Rattle.snap_fields.specs.declared.fields.Waiting.{Waiting}
-use Rattle.snap_fields.specs.declared.fields.Waiting.TheVariants.{Quit, Fault, Select, Prompt}
+use Rattle.snap_fields.specs.declared.fields.SnapWaiting.{SnapWaiting}
+use Rattle.snap_fields.specs.declared.fields.SnapWaiting.TheVariants.{Quit, Fault, Select, Prompt}
 
 -- ---- 1. the beginning
 
-abbrev pub setup_item : ℕ × (ℕ × (ℕ × ℕ)) → Setup
+abbrev pub setup_item : ℕ × (ℕ × (ℕ × ℕ)) → SnapSetup
 setup_item (seed, (cols, (rows, budget))) =
     record { seed = seed; cols = cols; rows = rows; budget = budget }
 
-unfoldable pub setup_at : Reader Setup
+unfoldable pub setup_at : Reader SnapSetup
 setup_at = reader_made setup_item (n8_at then n1_at then n1_at then n8_at)
 
 -- ---- 2. the machine
@@ -32,7 +32,7 @@ unfoldable pub block_at : Reader Block
 block_at = reader_made block_of (n4_at then n4_at)
 
 abbrev pub machine_item
-    : ℕ × (ℕ × (List ℕ × (List ℕ × (ℕ × List Block)))) → Machine
+    : ℕ × (ℕ × (List ℕ × (List ℕ × (ℕ × List Block)))) → SnapMachine
 machine_item (pc, (frame, (memory, (stack, (heap_start, heap))))) = record {
   pc = pc;
   frame = frame;
@@ -42,7 +42,7 @@ machine_item (pc, (frame, (memory, (stack, (heap_start, heap))))) = record {
   heap = heap;
 }
 
-unfoldable pub machine_at : Reader Machine
+unfoldable pub machine_at : Reader SnapMachine
 machine_at =
     reader_made machine_item
     (n4_at then n4_at then bytes_at then bytes_at then n4_at then list_at block_at)
@@ -61,11 +61,11 @@ settings_item (mode, (rock, (string_table, (start, length)))) = record {
 unfoldable pub settings_at : Reader Settings
 settings_at = reader_made settings_item (n4_at then n4_at then n4_at then n4_at then n4_at)
 
-abbrev pub random_of : ℕ × (ℕ × (ℕ × ℕ)) → Random
+abbrev pub random_of : ℕ × (ℕ × (ℕ × ℕ)) → SnapRandom
 random_of (start, (stream, (taken, fresh))) =
     record { start = start; stream = stream; taken = taken; fresh = fresh }
 
-unfoldable pub random_at : Reader Random
+unfoldable pub random_at : Reader SnapRandom
 random_at = reader_made random_of (n8_at then n8_at then n8_at then n8_at)
 
 -- ---- 4. the states that undo keeps
@@ -80,19 +80,19 @@ undo_state_at =
 
 -- ---- 5. what the story waits for, or how it ended
 
-abbrev pub store_item : ℕ × ℕ → Store
+abbrev pub store_item : ℕ × ℕ → SnapStub
 store_item (kind, address) = record { kind = kind; address = address }
 
-unfoldable pub store_at : Reader Store
+unfoldable pub store_at : Reader SnapStub
 store_at = reader_made store_item (n4_at then n4_at)
 
-abbrev pub select_of : ℕ × Store → Waiting
+abbrev pub select_of : ℕ × SnapStub → SnapWaiting
 select_of (reference, store) = Select reference store
 
-abbrev pub prompt_of : ℕ × (ℕ × (ℕ × Store)) → Waiting
+abbrev pub prompt_of : ℕ × (ℕ × (ℕ × SnapStub)) → SnapWaiting
 prompt_of (usage, (mode, (rock, store))) = Prompt usage mode rock store
 
-abbrev pub waiting_with : ℕ → Reader Waiting
+abbrev pub waiting_with : ℕ → Reader SnapWaiting
 waiting_with kind =
     if kind == 0 then pure_at Quit
     else (if kind == 1 then reader_made Fault n1_at
@@ -100,7 +100,7 @@ waiting_with kind =
     else (if kind == 3 then reader_made prompt_of (n4_at then n4_at then n4_at then store_at)
     else none_at)))
 
-unfoldable pub waiting_at : Reader Waiting
+unfoldable pub waiting_at : Reader SnapWaiting
 waiting_at = led_by n1_at waiting_with
 
 -- ---- 6. numbers of objects

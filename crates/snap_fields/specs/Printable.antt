@@ -4,29 +4,29 @@ use Rattle.std.specs.List.{AllByRecursion}
 use Rattle.vm_heap.specs.declared.block.Block.{Block}
 use Rattle.snap_fields.specs.Numbers.{IsByte, IsWord, IsLong, IsListOf}
 use Rattle.snap_fields.specs.declared.fields.Fields.{Fields}
-use Rattle.snap_fields.specs.declared.fields.Machine.{Machine}
+use Rattle.snap_fields.specs.declared.fields.SnapMachine.{SnapMachine}
 use Rattle.snap_fields.specs.declared.fields.Numbers.{Numbers}
-use Rattle.snap_fields.specs.declared.fields.Random.{Random}
+use Rattle.snap_fields.specs.declared.fields.SnapRandom.{SnapRandom}
 use Rattle.snap_fields.specs.declared.fields.Settings.{Settings}
-use Rattle.snap_fields.specs.declared.fields.Setup.{Setup}
-use Rattle.snap_fields.specs.declared.fields.Store.{Store}
+use Rattle.snap_fields.specs.declared.fields.SnapSetup.{SnapSetup}
+use Rattle.snap_fields.specs.declared.fields.SnapStub.{SnapStub}
 use Rattle.snap_fields.specs.declared.fields.UndoState.{UndoState}
-use Rattle.snap_fields.specs.declared.fields.Waiting.{Waiting}
-use Rattle.snap_fields.specs.declared.fields.Waiting.TheVariants.{Quit, Fault, Select, Prompt}
-use Rattle.snap_fields.specs.declared.glk.Area.{Area}
-use Rattle.snap_fields.specs.declared.glk.Content.{Content}
-use Rattle.snap_fields.specs.declared.glk.Content.TheVariants.{Pair, Blank, Buffer, Grid}
-use Rattle.snap_fields.specs.declared.glk.File.{File}
-use Rattle.snap_fields.specs.declared.glk.FileRef.{FileRef}
-use Rattle.snap_fields.specs.declared.glk.Request.{Request}
-use Rattle.snap_fields.specs.declared.glk.Request.TheVariants.{Nothing, Line, Char}
-use Rattle.snap_fields.specs.declared.glk.Stream.{Stream}
-use Rattle.snap_fields.specs.declared.glk.Target.{Target}
-use Rattle.snap_fields.specs.declared.glk.Target.TheVariants as target
-use Rattle.snap_fields.specs.declared.glk.Window.{Window}
+use Rattle.snap_fields.specs.declared.fields.SnapWaiting.{SnapWaiting}
+use Rattle.snap_fields.specs.declared.fields.SnapWaiting.TheVariants.{Quit, Fault, Select, Prompt}
+use Rattle.snap_fields.specs.declared.glk.SnapArea.{SnapArea}
+use Rattle.snap_fields.specs.declared.glk.SnapContent.{SnapContent}
+use Rattle.snap_fields.specs.declared.glk.SnapContent.TheVariants.{Pair, Blank, Buffer, Grid}
+use Rattle.snap_fields.specs.declared.glk.SnapFile.{SnapFile}
+use Rattle.snap_fields.specs.declared.glk.SnapFileRef.{SnapFileRef}
+use Rattle.snap_fields.specs.declared.glk.SnapRequest.{SnapRequest}
+use Rattle.snap_fields.specs.declared.glk.SnapRequest.TheVariants.{Nothing, Line, Char}
+use Rattle.snap_fields.specs.declared.glk.SnapStream.{SnapStream}
+use Rattle.snap_fields.specs.declared.glk.SnapTarget.{SnapTarget}
+use Rattle.snap_fields.specs.declared.glk.SnapTarget.TheVariants as target
+use Rattle.snap_fields.specs.declared.glk.SnapWindow.{SnapWindow}
 
 -- each number fits its bytes
-pub record IsSetup (s : Setup) : Type 0 where
+pub record IsSetup (s : SnapSetup) : Type 0 where
   pub seed : IsLong s.seed
   pub cols : IsByte s.cols
   pub rows : IsByte s.rows
@@ -35,7 +35,7 @@ pub record IsSetup (s : Setup) : Type 0 where
 abbrev pub IsBlock : Block → Type 0
 IsBlock b = IsWord b.at × IsWord b.length
 
-pub record IsMachine (m : Machine) : Type 0 where
+pub record IsMachine (m : SnapMachine) : Type 0 where
   pub pc : IsWord m.pc
   pub frame : IsWord m.frame
   pub memory : IsListOf IsByte m.memory
@@ -50,7 +50,7 @@ pub record IsSettings (s : Settings) : Type 0 where
   pub protect_start : IsWord s.protect_start
   pub protect_length : IsWord s.protect_length
 
-pub record IsRandom (r : Random) : Type 0 where
+pub record IsRandom (r : SnapRandom) : Type 0 where
   pub start : IsLong r.start
   pub stream : IsLong r.stream
   pub taken : IsLong r.taken
@@ -62,10 +62,10 @@ pub record IsUndoState (s : UndoState) : Type 0 where
   pub heap_start : IsWord s.heap_start
   pub heap : IsListOf IsBlock s.heap
 
-abbrev pub IsStoreFields : Store → Type 0
+abbrev pub IsStoreFields : SnapStub → Type 0
 IsStoreFields s = IsWord s.kind × IsWord s.address
 
-abbrev pub IsWaitingFields : Waiting → Type 0
+abbrev pub IsWaitingFields : SnapWaiting → Type 0
 IsWaitingFields Quit = Unit {0}
 IsWaitingFields (Fault code) = IsByte code
 IsWaitingFields (Select reference store) = IsWord reference × IsStoreFields store
@@ -79,14 +79,14 @@ pub record IsNumbers (n : Numbers) : Type 0 where
   pub root : IsWord n.root
   pub current : IsWord n.current
 
-pub record IsArea (a : Area) : Type 0 where
+pub record IsArea (a : SnapArea) : Type 0 where
   pub x : IsWord a.x
   pub y : IsWord a.y
   pub w : IsWord a.w
   pub h : IsWord a.h
 
 -- a grid has a cell for each place of its rectangle
-abbrev pub IsContent : Area → Content → Type 0
+abbrev pub IsContent : SnapArea → SnapContent → Type 0
 IsContent area (Pair method size key first second) =
     IsWord method × IsWord size × IsWord key × IsWord first × IsWord second
 IsContent area Blank = Unit {0}
@@ -94,13 +94,13 @@ IsContent area Buffer = Unit {0}
 IsContent area (Grid x y cells) =
     IsWord x × IsWord y × (length cells ≡ area.w * area.h) × AllByRecursion IsWord cells
 
-abbrev pub IsGlkRequest : Request → Type 0
+abbrev pub IsGlkRequest : SnapRequest → Type 0
 IsGlkRequest Nothing = Unit {0}
 IsGlkRequest (Line unicode buffer maximum initial echo terminators) =
     IsWord buffer × IsWord maximum × IsWord initial × IsListOf IsWord terminators
 IsGlkRequest (Char unicode) = Unit {0}
 
-pub record IsWindow (w : Window) : Type 0 where
+pub record IsWindow (w : SnapWindow) : Type 0 where
   pub number : IsWord w.number
   pub rock : IsWord w.rock
   pub stream : IsWord w.stream
@@ -111,12 +111,12 @@ pub record IsWindow (w : Window) : Type 0 where
   pub content : IsContent w.area w.content
   pub request : IsGlkRequest w.request
 
-abbrev pub IsTarget : Target → Type 0
+abbrev pub IsTarget : SnapTarget → Type 0
 IsTarget target.Window = Unit {0}
 IsTarget (target.Memory buffer length) = IsWord buffer × IsWord length
 IsTarget (target.File usage name) = IsWord usage × IsListOf IsWord name
 
-pub record IsStream (s : Stream) : Type 0 where
+pub record IsStream (s : SnapStream) : Type 0 where
   pub number : IsWord s.number
   pub rock : IsWord s.rock
   pub mode : IsWord s.mode
@@ -126,13 +126,13 @@ pub record IsStream (s : Stream) : Type 0 where
   pub position : IsWord s.position
   pub target : IsTarget s.target
 
-pub record IsFileRef (r : FileRef) : Type 0 where
+pub record IsFileRef (r : SnapFileRef) : Type 0 where
   pub number : IsWord r.number
   pub usage : IsWord r.usage
   pub rock : IsWord r.rock
   pub name : IsListOf IsWord r.name
 
-pub record IsFile (f : File) : Type 0 where
+pub record IsFile (f : SnapFile) : Type 0 where
   pub usage : IsWord f.usage
   pub name : IsListOf IsWord f.name
   pub bytes : IsListOf IsByte f.bytes

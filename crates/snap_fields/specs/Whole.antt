@@ -8,23 +8,23 @@ use Rattle.snap_fields.specs.Items.{numbers_at, undo_state_at}
 use Rattle.snap_fields.specs.GlkItems.{window_item_at, stream_item_at, fileref_at, file_at}
 use Rattle.snap_fields.specs.declared.fault.SnapFault.{SnapFault}
 use Rattle.snap_fields.specs.declared.fields.Fields.{Fields}
-use Rattle.snap_fields.specs.declared.fields.Machine.{Machine}
+use Rattle.snap_fields.specs.declared.fields.SnapMachine.{SnapMachine}
 use Rattle.snap_fields.specs.declared.fields.Numbers.{Numbers}
-use Rattle.snap_fields.specs.declared.fields.Random.{Random}
+use Rattle.snap_fields.specs.declared.fields.SnapRandom.{SnapRandom}
 use Rattle.snap_fields.specs.declared.fields.Settings.{Settings}
-use Rattle.snap_fields.specs.declared.fields.Setup.{Setup}
+use Rattle.snap_fields.specs.declared.fields.SnapSetup.{SnapSetup}
 use Rattle.snap_fields.specs.declared.fields.UndoState.{UndoState}
-use Rattle.snap_fields.specs.declared.fields.Waiting.{Waiting}
-use Rattle.snap_fields.specs.declared.glk.File.{File}
-use Rattle.snap_fields.specs.declared.glk.FileRef.{FileRef}
-use Rattle.snap_fields.specs.declared.glk.Stream.{Stream}
-use Rattle.snap_fields.specs.declared.glk.Window.{Window}
+use Rattle.snap_fields.specs.declared.fields.SnapWaiting.{SnapWaiting}
+use Rattle.snap_fields.specs.declared.glk.SnapFile.{SnapFile}
+use Rattle.snap_fields.specs.declared.glk.SnapFileRef.{SnapFileRef}
+use Rattle.snap_fields.specs.declared.glk.SnapStream.{SnapStream}
+use Rattle.snap_fields.specs.declared.glk.SnapWindow.{SnapWindow}
 use Rattle.snap_fields.specs.declared.read.Objects.{Objects}
 use Rattle.snap_fields.specs.declared.read.AfterMachine.{AfterMachine}
 
 -- the objects of Glk, and what was shown last
 abbrev pub ObjectParts : Type 0
-ObjectParts = List Window × (List Stream × (List FileRef × (List File × List ℕ)))
+ObjectParts = List SnapWindow × (List SnapStream × (List SnapFileRef × (List SnapFile × List ℕ)))
 
 unfoldable pub objects_at : Reader ObjectParts
 objects_at =
@@ -37,7 +37,7 @@ object_parts o = (o.windows, (o.streams, (o.filerefs, (o.files, o.show))))
 -- the items behind the machine
 abbrev pub AfterMachineParts : Type 0
 AfterMachineParts =
-    Settings × (Random × (List UndoState × (Waiting × (Numbers × ObjectParts))))
+    Settings × (SnapRandom × (List UndoState × (SnapWaiting × (Numbers × ObjectParts))))
 
 unfoldable pub after_machine_at : Reader AfterMachineParts
 after_machine_at =
@@ -50,7 +50,7 @@ after_machine_parts p =
 
 -- the items behind the signature
 abbrev pub Parts : Type 0
-Parts = Setup × (Machine × AfterMachineParts)
+Parts = SnapSetup × (SnapMachine × AfterMachineParts)
 
 abbrev pub parts_at : Reader Parts
 parts_at = setup_at then machine_at then after_machine_at

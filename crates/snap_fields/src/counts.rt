@@ -6,8 +6,8 @@ ghost use Rattle.snap_fields.specs.Counts.{CountsList, CountsMachine, CountsRequ
 ghost use Rattle.snap_fields.specs.Counts.{HasCells, HasCounts};
 ghost use Rattle.snap_fields.specs.Numbers.{IsCounted};
 
-use crate::fields::{Fields, Machine};
-use crate::glk::{Area, Content, Request, Target};
+use crate::fields::{Fields, SnapMachine};
+use crate::glk::{SnapArea, SnapContent, SnapRequest, SnapTarget};
 use crate::item::Item;
 
 /// Whether four bytes can count them.
@@ -36,7 +36,7 @@ fn list_has_counts<T: Item>(items: &[T]) -> bool
     is_counted(items) && have_counts(items)
 }
 
-fn machine_has_counts(machine: &Machine) -> bool
+fn machine_has_counts(machine: &SnapMachine) -> bool
     ensures { IsTrue result ↔ CountsMachine machine.now }
 {
     is_counted(machine.memory.as_slice())
@@ -45,32 +45,32 @@ fn machine_has_counts(machine: &Machine) -> bool
 }
 
 /// Whether a grid has a cell for each place of its rectangle.
-pub fn has_cells(area: Area, content: &Content) -> bool
+pub fn has_cells(area: SnapArea, content: &SnapContent) -> bool
     ensures { IsTrue result ↔ HasCells area content.now }
 {
     match content {
-        Content::Grid { cells, .. } => {
+        SnapContent::Grid { cells, .. } => {
             cells.as_slice().len() as u64 == u64::from(area.w) * u64::from(area.h)
         }
-        Content::Pair { .. } | Content::Blank | Content::Buffer => true,
+        SnapContent::Pair { .. } | SnapContent::Blank | SnapContent::Buffer => true,
     }
 }
 
-pub fn request_has_counts(request: &Request) -> bool
+pub fn request_has_counts(request: &SnapRequest) -> bool
     ensures { IsTrue result ↔ CountsRequest request.now }
 {
     match request {
-        Request::Line { terminators, .. } => is_counted(terminators.as_slice()),
-        Request::Nothing | Request::Char { .. } => true,
+        SnapRequest::Line { terminators, .. } => is_counted(terminators.as_slice()),
+        SnapRequest::Nothing | SnapRequest::Char { .. } => true,
     }
 }
 
-pub fn target_has_counts(target: &Target) -> bool
+pub fn target_has_counts(target: &SnapTarget) -> bool
     ensures { IsTrue result ↔ CountsTarget target.now }
 {
     match target {
-        Target::File { name, .. } => is_counted(name.as_slice()),
-        Target::Window | Target::Memory { .. } => true,
+        SnapTarget::File { name, .. } => is_counted(name.as_slice()),
+        SnapTarget::Window | SnapTarget::Memory { .. } => true,
     }
 }
 

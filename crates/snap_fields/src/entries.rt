@@ -15,7 +15,7 @@ use crate::counts::{has_cells, is_counted, request_has_counts, target_has_counts
 use crate::cursor::Cursor;
 use crate::fault::SnapFault;
 use crate::fields::UndoState;
-use crate::glk::{File, FileRef, Stream, Window};
+use crate::glk::{SnapFile, SnapFileRef, SnapStream, SnapWindow};
 use crate::glk_reading::{area, content, request, target};
 use crate::glk_writing::{put_area, put_content, put_request, put_target};
 use crate::item::{Item, list, put_list};
@@ -106,7 +106,7 @@ impl Item for Block {
     }
 }
 
-impl Item for Window {
+impl Item for SnapWindow {
     ghost read_as = { window_item_at };
 
     ghost print = { print_window };
@@ -122,7 +122,7 @@ impl Item for Window {
     }
 
     #[tactic(auto, unfolding(crate::specs::GlkItems::window_item_at))]
-    fn read(alloc: Global, from: &mut Cursor<'_>) -> Result<Window, SnapFault> {
+    fn read(alloc: Global, from: &mut Cursor<'_>) -> Result<SnapWindow, SnapFault> {
         let number = from.n4()?;
         let kind = from.n4()?;
         let rock = from.n4()?;
@@ -132,7 +132,7 @@ impl Item for Window {
         let echo = from.flag4()?;
         let terminators = list(alloc, from)?;
         let area = area(from)?;
-        Ok(Window {
+        Ok(SnapWindow {
             number,
             rock,
             stream,
@@ -162,7 +162,7 @@ impl Item for Window {
     }
 }
 
-impl Item for Stream {
+impl Item for SnapStream {
     ghost read_as = { stream_item_at };
 
     ghost print = { print_stream };
@@ -176,10 +176,10 @@ impl Item for Stream {
     }
 
     #[tactic(auto, unfolding(crate::specs::GlkItems::stream_item_at))]
-    fn read(alloc: Global, from: &mut Cursor<'_>) -> Result<Stream, SnapFault> {
+    fn read(alloc: Global, from: &mut Cursor<'_>) -> Result<SnapStream, SnapFault> {
         let number = from.n4()?;
         let kind = from.n1()?;
-        Ok(Stream {
+        Ok(SnapStream {
             number,
             rock: from.n4()?,
             mode: from.n4()?,
@@ -207,7 +207,7 @@ impl Item for Stream {
     }
 }
 
-impl Item for FileRef {
+impl Item for SnapFileRef {
     ghost read_as = { fileref_at };
 
     ghost print = { print_fileref };
@@ -221,8 +221,8 @@ impl Item for FileRef {
     }
 
     #[tactic(auto, unfolding(crate::specs::GlkItems::fileref_at))]
-    fn read(alloc: Global, from: &mut Cursor<'_>) -> Result<FileRef, SnapFault> {
-        Ok(FileRef {
+    fn read(alloc: Global, from: &mut Cursor<'_>) -> Result<SnapFileRef, SnapFault> {
+        Ok(SnapFileRef {
             number: from.n4()?,
             usage: from.n4()?,
             rock: from.n4()?,
@@ -239,7 +239,7 @@ impl Item for FileRef {
     }
 }
 
-impl Item for File {
+impl Item for SnapFile {
     ghost read_as = { file_at };
 
     ghost print = { print_file };
@@ -253,8 +253,8 @@ impl Item for File {
     }
 
     #[tactic(auto, unfolding(crate::specs::GlkItems::file_at))]
-    fn read(alloc: Global, from: &mut Cursor<'_>) -> Result<File, SnapFault> {
-        Ok(File {
+    fn read(alloc: Global, from: &mut Cursor<'_>) -> Result<SnapFile, SnapFault> {
+        Ok(SnapFile {
             usage: from.n4()?,
             name: list(alloc, from)?,
             bytes: from.bytes(alloc)?,

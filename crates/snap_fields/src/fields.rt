@@ -1,13 +1,13 @@
 //! What a world's bytes say, item by item (own).
 
-use crate::glk::{File, FileRef, Stream, Window};
+use crate::glk::{SnapFile, SnapFileRef, SnapStream, SnapWindow};
 use crate::items::Items;
 use vm_heap::Block;
 
 /// What turns go by: the seed of the story's random words, the present screen in characters, and
 /// the budget of a turn in ticks.
 #[derive(Clone, Copy)]
-pub struct Setup {
+pub struct SnapSetup {
     pub seed: u64,
     pub cols: u8,
     pub rows: u8,
@@ -16,7 +16,7 @@ pub struct Setup {
 
 /// Where the story stands. `memory` is the contents of a save's memory chunk.
 #[derive(Drop)]
-pub struct Machine {
+pub struct SnapMachine {
     pub pc: u32,
     pub frame: u32,
     pub memory: Items<u8>,
@@ -47,7 +47,7 @@ pub struct Settings {
 /// The random words: what they began with, their stream, how many were taken of it, and how often
 /// they were started afresh, modulo 2^64.
 #[derive(Clone, Copy)]
-pub struct Random {
+pub struct SnapRandom {
     pub start: u64,
     pub stream: u64,
     pub taken: u64,
@@ -56,25 +56,25 @@ pub struct Random {
 
 /// Where a result is stored: a call stub's type and address.
 #[derive(Clone, Copy)]
-pub struct Store {
+pub struct SnapStub {
     pub kind: u32,
     pub address: u32,
 }
 
 /// What the story waits for, or how it ended.
 #[derive(Clone, Copy)]
-pub enum Waiting {
+pub enum SnapWaiting {
     Quit,
     Fault(u8),
     Select {
         reference: u32,
-        store: Store,
+        store: SnapStub,
     },
     Prompt {
         usage: u32,
         mode: u32,
         rock: u32,
-        store: Store,
+        store: SnapStub,
     },
 }
 
@@ -91,17 +91,17 @@ pub struct Numbers {
 /// What a world's bytes say.
 #[derive(Drop)]
 pub struct Fields {
-    pub setup: Setup,
-    pub machine: Machine,
+    pub setup: SnapSetup,
+    pub machine: SnapMachine,
     pub settings: Settings,
-    pub random: Random,
+    pub random: SnapRandom,
     /// The undo states, the oldest first.
     pub undo: Items<UndoState>,
-    pub waiting: Waiting,
+    pub waiting: SnapWaiting,
     pub numbers: Numbers,
-    pub windows: Items<Window>,
-    pub streams: Items<Stream>,
-    pub filerefs: Items<FileRef>,
-    pub files: Items<File>,
+    pub windows: Items<SnapWindow>,
+    pub streams: Items<SnapStream>,
+    pub filerefs: Items<SnapFileRef>,
+    pub files: Items<SnapFile>,
     pub show: Items<u8>,
 }

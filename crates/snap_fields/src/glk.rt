@@ -4,7 +4,7 @@ use crate::items::Items;
 
 /// A rectangle of the screen, in characters.
 #[derive(Clone, Copy)]
-pub struct Area {
+pub struct SnapArea {
     pub x: u32,
     pub y: u32,
     pub w: u32,
@@ -13,7 +13,7 @@ pub struct Area {
 
 /// What a window holds, by its type. A grid's cells are the codes of its rows.
 #[derive(Drop)]
-pub enum Content {
+pub enum SnapContent {
     Pair {
         method: u32,
         size: u32,
@@ -32,7 +32,7 @@ pub enum Content {
 
 /// What a window asks for.
 #[derive(Drop)]
-pub enum Request {
+pub enum SnapRequest {
     Nothing,
     Line {
         unicode: bool,
@@ -50,7 +50,7 @@ pub enum Request {
 /// A window's number and rock, the streams that it has and echoes to, and its parent, each 0 for
 /// none; `echo` and `terminators` are its settings for later lines.
 #[derive(Drop)]
-pub struct Window {
+pub struct SnapWindow {
     pub number: u32,
     pub rock: u32,
     pub stream: u32,
@@ -58,14 +58,14 @@ pub struct Window {
     pub parent: u32,
     pub echo: bool,
     pub terminators: Items<u32>,
-    pub area: Area,
-    pub content: Content,
-    pub request: Request,
+    pub area: SnapArea,
+    pub content: SnapContent,
+    pub request: SnapRequest,
 }
 
 /// Where a stream's characters go. A window's stream has no more to it.
 #[derive(Drop)]
-pub enum Target {
+pub enum SnapTarget {
     Window,
     Memory { buffer: u32, length: u32 },
     File { usage: u32, name: Items<u32> },
@@ -73,7 +73,7 @@ pub enum Target {
 
 /// A stream.
 #[derive(Drop)]
-pub struct Stream {
+pub struct SnapStream {
     pub number: u32,
     pub rock: u32,
     pub mode: u32,
@@ -82,12 +82,12 @@ pub struct Stream {
     pub written: u32,
     pub position: u32,
     pub unicode: bool,
-    pub target: Target,
+    pub target: SnapTarget,
 }
 
 /// A file reference. A name is the codes of its characters.
 #[derive(Drop)]
-pub struct FileRef {
+pub struct SnapFileRef {
     pub number: u32,
     pub usage: u32,
     pub rock: u32,
@@ -96,7 +96,7 @@ pub struct FileRef {
 
 /// A file.
 #[derive(Drop)]
-pub struct File {
+pub struct SnapFile {
     pub usage: u32,
     pub name: Items<u32>,
     pub bytes: Items<u8>,

@@ -5,15 +5,15 @@ ghost use Rattle.snap_fields.specs.GlkItems.{area_at, content_at, request_at, ta
 
 use crate::cursor::Cursor;
 use crate::fault::SnapFault;
-use crate::glk::{Area, Content, Request, Target};
+use crate::glk::{SnapArea, SnapContent, SnapRequest, SnapTarget};
 use crate::item::{list, many};
 use std::alloc::Global;
 
 #[tactic(auto, unfolding(crate::specs::GlkItems::area_at))]
-pub fn area(from: &mut Cursor<'_>) -> Result<Area, SnapFault>
+pub fn area(from: &mut Cursor<'_>) -> Result<SnapArea, SnapFault>
     ensures { ReadsFront area_at from.old from.new result }
 {
-    Ok(Area {
+    Ok(SnapArea {
         x: from.n4()?,
         y: from.n4()?,
         w: from.n4()?,
@@ -27,21 +27,21 @@ pub fn content(
     alloc: Global,
     from: &mut Cursor<'_>,
     kind: u32,
-    area: Area,
-) -> Result<Content, SnapFault>
+    area: SnapArea,
+) -> Result<SnapContent, SnapFault>
     ensures { ReadsFront (content_at kind area) from.old from.new result }
 {
     match kind {
-        1 => Ok(Content::Pair {
+        1 => Ok(SnapContent::Pair {
             method: from.n4()?,
             size: from.n4()?,
             key: from.n4()?,
             first: from.n4()?,
             second: from.n4()?,
         }),
-        2 => Ok(Content::Blank),
-        3 => Ok(Content::Buffer),
-        4 => Ok(Content::Grid {
+        2 => Ok(SnapContent::Blank),
+        3 => Ok(SnapContent::Buffer),
+        4 => Ok(SnapContent::Grid {
             x: from.n4()?,
             y: from.n4()?,
             cells: many(alloc, from, u64::from(area.w) * u64::from(area.h))?,
@@ -51,12 +51,12 @@ pub fn content(
 }
 
 #[tactic(auto, unfolding(crate::specs::GlkItems::request_at))]
-pub fn request(alloc: Global, from: &mut Cursor<'_>) -> Result<Request, SnapFault>
+pub fn request(alloc: Global, from: &mut Cursor<'_>) -> Result<SnapRequest, SnapFault>
     ensures { ReadsFront request_at from.old from.new result }
 {
     match from.n1()? {
-        0 => Ok(Request::Nothing),
-        1 => Ok(Request::Line {
+        0 => Ok(SnapRequest::Nothing),
+        1 => Ok(SnapRequest::Line {
             unicode: from.flag1()?,
             buffer: from.n4()?,
             maximum: from.n4()?,
@@ -64,7 +64,7 @@ pub fn request(alloc: Global, from: &mut Cursor<'_>) -> Result<Request, SnapFaul
             echo: from.flag1()?,
             terminators: list(alloc, from)?,
         }),
-        2 => Ok(Request::Char {
+        2 => Ok(SnapRequest::Char {
             unicode: from.flag1()?,
         }),
         _ => Err(SnapFault::BadSnap),
@@ -73,16 +73,16 @@ pub fn request(alloc: Global, from: &mut Cursor<'_>) -> Result<Request, SnapFaul
 
 /// Where the characters of a stream of this kind go.
 #[tactic(auto, unfolding(crate::specs::GlkItems::target_at))]
-pub fn target(alloc: Global, from: &mut Cursor<'_>, kind: u8) -> Result<Target, SnapFault>
+pub fn target(alloc: Global, from: &mut Cursor<'_>, kind: u8) -> Result<SnapTarget, SnapFault>
     ensures { ReadsFront (target_at kind) from.old from.new result }
 {
     match kind {
-        0 => Ok(Target::Window),
-        1 => Ok(Target::Memory {
+        0 => Ok(SnapTarget::Window),
+        1 => Ok(SnapTarget::Memory {
             buffer: from.n4()?,
             length: from.n4()?,
         }),
-        2 => Ok(Target::File {
+        2 => Ok(SnapTarget::File {
             usage: from.n4()?,
             name: list(alloc, from)?,
         }),

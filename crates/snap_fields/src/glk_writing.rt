@@ -8,39 +8,39 @@ ghost use Rattle.snap_fields.specs.Printing.{print_glk_request};
 ghost use Rattle.snap_fields.specs.Printing.{print_target, type_of};
 ghost use Rattle.snap_fields.specs.Writing.{PutsBehind};
 
-use crate::glk::{Area, Content, Request, Target};
+use crate::glk::{SnapArea, SnapContent, SnapRequest, SnapTarget};
 use crate::item::{put_list, put_many};
 use crate::put::{put_flag1, put1, put4};
 use std::alloc::AllocError;
 
-impl Content {
+impl SnapContent {
     /// The window's type.
     pub fn kind(&self) -> u32
         ensures { result ≡ type_of self.now }
     {
         match self {
-            Content::Pair { .. } => 1,
-            Content::Blank => 2,
-            Content::Buffer => 3,
-            Content::Grid { .. } => 4,
+            SnapContent::Pair { .. } => 1,
+            SnapContent::Blank => 2,
+            SnapContent::Buffer => 3,
+            SnapContent::Grid { .. } => 4,
         }
     }
 }
 
-impl Target {
+impl SnapTarget {
     /// The stream's kind: 0 of a window, 1 of memory, 2 of a file.
     pub fn kind(&self) -> u8
         ensures { result ≡ target_kind self.now }
     {
         match self {
-            Target::Window => 0,
-            Target::Memory { .. } => 1,
-            Target::File { .. } => 2,
+            SnapTarget::Window => 0,
+            SnapTarget::Memory { .. } => 1,
+            SnapTarget::File { .. } => 2,
         }
     }
 }
 
-pub fn put_area(out: &mut Vec<u8>, area: Area) -> Result<(), AllocError>
+pub fn put_area(out: &mut Vec<u8>, area: SnapArea) -> Result<(), AllocError>
     ensures { OnOk result (PutsBehind print_area IsArea area out.old.items out.new.items) }
 {
     put4(out, area.x)?;
@@ -49,13 +49,17 @@ pub fn put_area(out: &mut Vec<u8>, area: Area) -> Result<(), AllocError>
     put4(out, area.h)
 }
 
-pub fn put_content(out: &mut Vec<u8>, area: Area, content: &Content) -> Result<(), AllocError>
+pub fn put_content(
+    out: &mut Vec<u8>,
+    area: SnapArea,
+    content: &SnapContent,
+) -> Result<(), AllocError>
     requires { HasCells area content.now }
     ensures { OnOk result (PutsBehind print_content (IsContent area) content.now
         out.old.items out.new.items) }
 {
     match content {
-        Content::Pair {
+        SnapContent::Pair {
             method,
             size,
             key,
@@ -69,9 +73,9 @@ pub fn put_content(out: &mut Vec<u8>, area: Area, content: &Content) -> Result<(
             put4(out, *second)?;
             Ok(())
         }
-        Content::Blank => Ok(()),
-        Content::Buffer => Ok(()),
-        Content::Grid { x, y, cells } => {
+        SnapContent::Blank => Ok(()),
+        SnapContent::Buffer => Ok(()),
+        SnapContent::Grid { x, y, cells } => {
             put4(out, *x)?;
             put4(out, *y)?;
             put_many(out, cells.as_slice())
@@ -79,14 +83,14 @@ pub fn put_content(out: &mut Vec<u8>, area: Area, content: &Content) -> Result<(
     }
 }
 
-pub fn put_request(out: &mut Vec<u8>, request: &Request) -> Result<(), AllocError>
+pub fn put_request(out: &mut Vec<u8>, request: &SnapRequest) -> Result<(), AllocError>
     requires { CountsRequest request.now }
     ensures { OnOk result
         (PutsBehind print_glk_request IsGlkRequest request.now out.old.items out.new.items) }
 {
     match request {
-        Request::Nothing => put1(out, 0),
-        Request::Line {
+        SnapRequest::Nothing => put1(out, 0),
+        SnapRequest::Line {
             unicode,
             buffer,
             maximum,
@@ -103,25 +107,25 @@ pub fn put_request(out: &mut Vec<u8>, request: &Request) -> Result<(), AllocErro
             put_list(out, terminators.as_slice())?;
             Ok(())
         }
-        Request::Char { unicode } => {
+        SnapRequest::Char { unicode } => {
             put1(out, 2)?;
             put_flag1(out, *unicode)
         }
     }
 }
 
-pub fn put_target(out: &mut Vec<u8>, target: &Target) -> Result<(), AllocError>
+pub fn put_target(out: &mut Vec<u8>, target: &SnapTarget) -> Result<(), AllocError>
     requires { CountsTarget target.now }
     ensures { OnOk result
         (PutsBehind print_target IsTarget target.now out.old.items out.new.items) }
 {
     match target {
-        Target::Window => Ok(()),
-        Target::Memory { buffer, length } => {
+        SnapTarget::Window => Ok(()),
+        SnapTarget::Memory { buffer, length } => {
             put4(out, *buffer)?;
             put4(out, *length)
         }
-        Target::File { usage, name } => {
+        SnapTarget::File { usage, name } => {
             put4(out, *usage)?;
             put_list(out, name.as_slice())
         }

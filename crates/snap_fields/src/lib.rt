@@ -19,8 +19,12 @@ mod write;
 mod writing;
 
 pub use fault::SnapFault;
-pub use fields::{Fields, Machine, Numbers, Random, Settings, Setup, Store, UndoState, Waiting};
-pub use glk::{Area, Content, File, FileRef, Request, Stream, Target, Window};
+pub use fields::{
+    Fields, Numbers, Settings, SnapMachine, SnapRandom, SnapSetup, SnapStub, SnapWaiting, UndoState,
+};
+pub use glk::{
+    SnapArea, SnapContent, SnapFile, SnapFileRef, SnapRequest, SnapStream, SnapTarget, SnapWindow,
+};
 pub use items::Items;
 pub use laws::{begins_no_other, has_one_spelling, reads_each_spelling};
 pub use read::read_fields;

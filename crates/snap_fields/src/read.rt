@@ -8,8 +8,8 @@ ghost use Rattle.snap_fields.specs.Whole.{objects_at, after_machine_at, after_ma
 
 use crate::cursor::Cursor;
 use crate::fault::SnapFault;
-use crate::fields::{Fields, Numbers, Random, Settings, UndoState, Waiting};
-use crate::glk::{File, FileRef, Stream, Window};
+use crate::fields::{Fields, Numbers, Settings, SnapRandom, SnapWaiting, UndoState};
+use crate::glk::{SnapFile, SnapFileRef, SnapStream, SnapWindow};
 use crate::item::list;
 use crate::items::Items;
 use crate::reading::{machine, numbers, random, settings, setup, waiting};
@@ -21,10 +21,10 @@ pub(crate) const SIGNATURE: u32 = 0x5354_5732;
 /// The objects of Glk, and what was shown last.
 #[derive(Drop)]
 struct Objects {
-    windows: Items<Window>,
-    streams: Items<Stream>,
-    filerefs: Items<FileRef>,
-    files: Items<File>,
+    windows: Items<SnapWindow>,
+    streams: Items<SnapStream>,
+    filerefs: Items<SnapFileRef>,
+    files: Items<SnapFile>,
     show: Items<u8>,
 }
 
@@ -32,9 +32,9 @@ struct Objects {
 #[derive(Drop)]
 struct AfterMachine {
     settings: Settings,
-    random: Random,
+    random: SnapRandom,
     undo: Items<UndoState>,
-    waiting: Waiting,
+    waiting: SnapWaiting,
     numbers: Numbers,
     objects: Objects,
 }

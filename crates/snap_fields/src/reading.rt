@@ -6,15 +6,15 @@ ghost use Rattle.snap_fields.specs.Items.{setup_at, store_at, waiting_at};
 
 use crate::cursor::Cursor;
 use crate::fault::SnapFault;
-use crate::fields::{Machine, Numbers, Random, Settings, Setup, Store, Waiting};
+use crate::fields::{Numbers, Settings, SnapMachine, SnapRandom, SnapSetup, SnapStub, SnapWaiting};
 use crate::item::list;
 use std::alloc::Global;
 
 #[tactic(auto, unfolding(crate::specs::Items::setup_at))]
-pub fn setup(from: &mut Cursor<'_>) -> Result<Setup, SnapFault>
+pub fn setup(from: &mut Cursor<'_>) -> Result<SnapSetup, SnapFault>
     ensures { ReadsFront setup_at from.old from.new result }
 {
-    Ok(Setup {
+    Ok(SnapSetup {
         seed: from.n8()?,
         cols: from.n1()?,
         rows: from.n1()?,
@@ -23,10 +23,10 @@ pub fn setup(from: &mut Cursor<'_>) -> Result<Setup, SnapFault>
 }
 
 #[tactic(auto, unfolding(crate::specs::Items::machine_at))]
-pub fn machine(alloc: Global, from: &mut Cursor<'_>) -> Result<Machine, SnapFault>
+pub fn machine(alloc: Global, from: &mut Cursor<'_>) -> Result<SnapMachine, SnapFault>
     ensures { ReadsFront machine_at from.old from.new result }
 {
-    Ok(Machine {
+    Ok(SnapMachine {
         pc: from.n4()?,
         frame: from.n4()?,
         memory: from.bytes(alloc)?,
@@ -50,10 +50,10 @@ pub fn settings(from: &mut Cursor<'_>) -> Result<Settings, SnapFault>
 }
 
 #[tactic(auto, unfolding(crate::specs::Items::random_at))]
-pub fn random(from: &mut Cursor<'_>) -> Result<Random, SnapFault>
+pub fn random(from: &mut Cursor<'_>) -> Result<SnapRandom, SnapFault>
     ensures { ReadsFront random_at from.old from.new result }
 {
-    Ok(Random {
+    Ok(SnapRandom {
         start: from.n8()?,
         stream: from.n8()?,
         taken: from.n8()?,
@@ -62,27 +62,27 @@ pub fn random(from: &mut Cursor<'_>) -> Result<Random, SnapFault>
 }
 
 #[tactic(auto, unfolding(crate::specs::Items::store_at))]
-fn store(from: &mut Cursor<'_>) -> Result<Store, SnapFault>
+fn store(from: &mut Cursor<'_>) -> Result<SnapStub, SnapFault>
     ensures { ReadsFront store_at from.old from.new result }
 {
-    Ok(Store {
+    Ok(SnapStub {
         kind: from.n4()?,
         address: from.n4()?,
     })
 }
 
 #[tactic(auto, unfolding(crate::specs::Items::waiting_at))]
-pub fn waiting(from: &mut Cursor<'_>) -> Result<Waiting, SnapFault>
+pub fn waiting(from: &mut Cursor<'_>) -> Result<SnapWaiting, SnapFault>
     ensures { ReadsFront waiting_at from.old from.new result }
 {
     match from.n1()? {
-        0 => Ok(Waiting::Quit),
-        1 => Ok(Waiting::Fault(from.n1()?)),
-        2 => Ok(Waiting::Select {
+        0 => Ok(SnapWaiting::Quit),
+        1 => Ok(SnapWaiting::Fault(from.n1()?)),
+        2 => Ok(SnapWaiting::Select {
             reference: from.n4()?,
             store: store(from)?,
         }),
-        3 => Ok(Waiting::Prompt {
+        3 => Ok(SnapWaiting::Prompt {
             usage: from.n4()?,
             mode: from.n4()?,
             rock: from.n4()?,

@@ -9,12 +9,12 @@ ghost use Rattle.snap_fields.specs.Printing.{print_settings, print_setup, print_
 ghost use Rattle.snap_fields.specs.Printing.{print_waiting};
 ghost use Rattle.snap_fields.specs.Writing.{PutsBehind};
 
-use crate::fields::{Machine, Numbers, Random, Settings, Setup, Store, Waiting};
+use crate::fields::{Numbers, Settings, SnapMachine, SnapRandom, SnapSetup, SnapStub, SnapWaiting};
 use crate::item::put_list;
 use crate::put::{put_bytes, put1, put4, put8};
 use std::alloc::AllocError;
 
-pub fn put_setup(out: &mut Vec<u8>, setup: Setup) -> Result<(), AllocError>
+pub fn put_setup(out: &mut Vec<u8>, setup: SnapSetup) -> Result<(), AllocError>
     ensures { OnOk result (PutsBehind print_setup IsSetup setup out.old.items out.new.items) }
 {
     put8(out, setup.seed)?;
@@ -24,7 +24,7 @@ pub fn put_setup(out: &mut Vec<u8>, setup: Setup) -> Result<(), AllocError>
     Ok(())
 }
 
-pub fn put_machine(out: &mut Vec<u8>, machine: &Machine) -> Result<(), AllocError>
+pub fn put_machine(out: &mut Vec<u8>, machine: &SnapMachine) -> Result<(), AllocError>
     requires { CountsMachine machine.now }
     ensures { OnOk result
         (PutsBehind print_machine IsMachine machine.now out.old.items out.new.items) }
@@ -50,7 +50,7 @@ pub fn put_settings(out: &mut Vec<u8>, settings: Settings) -> Result<(), AllocEr
     Ok(())
 }
 
-pub fn put_random(out: &mut Vec<u8>, random: Random) -> Result<(), AllocError>
+pub fn put_random(out: &mut Vec<u8>, random: SnapRandom) -> Result<(), AllocError>
     ensures { OnOk result (PutsBehind print_random IsRandom random out.old.items out.new.items) }
 {
     put8(out, random.start)?;
@@ -59,29 +59,29 @@ pub fn put_random(out: &mut Vec<u8>, random: Random) -> Result<(), AllocError>
     put8(out, random.fresh)
 }
 
-fn put_store(out: &mut Vec<u8>, store: Store) -> Result<(), AllocError>
+fn put_store(out: &mut Vec<u8>, store: SnapStub) -> Result<(), AllocError>
     ensures { OnOk result (PutsBehind print_store IsStoreFields store out.old.items out.new.items) }
 {
     put4(out, store.kind)?;
     put4(out, store.address)
 }
 
-pub fn put_waiting(out: &mut Vec<u8>, waiting: Waiting) -> Result<(), AllocError>
+pub fn put_waiting(out: &mut Vec<u8>, waiting: SnapWaiting) -> Result<(), AllocError>
     ensures { OnOk result
         (PutsBehind print_waiting IsWaitingFields waiting out.old.items out.new.items) }
 {
     match waiting {
-        Waiting::Quit => put1(out, 0),
-        Waiting::Fault(code) => {
+        SnapWaiting::Quit => put1(out, 0),
+        SnapWaiting::Fault(code) => {
             put1(out, 1)?;
             put1(out, code)
         }
-        Waiting::Select { reference, store } => {
+        SnapWaiting::Select { reference, store } => {
             put1(out, 2)?;
             put4(out, reference)?;
             put_store(out, store)
         }
-        Waiting::Prompt {
+        SnapWaiting::Prompt {
             usage,
             mode,
             rock,

@@ -11,10 +11,10 @@ use Rattle.glk_streams.specs.Files.{sum_of_bytes}
 use Rattle.glk_streams.specs.Streams.{StreamTable}
 use Rattle.glk_streams.specs.Valid as streams
 use Rattle.glk_streams.specs.declared.file.TheConstants.{MAX_FILES, MAX_FILE_BYTES}
-use Rattle.snap_fields.specs.declared.glk.File.{File}
-use Rattle.snap_fields.specs.declared.glk.Request.{Request}
-use Rattle.snap_fields.specs.declared.glk.Request.TheVariants.{Nothing, Line, Char}
-use Rattle.snap_fields.specs.declared.glk.Window.{Window}
+use Rattle.snap_fields.specs.declared.glk.SnapFile.{SnapFile}
+use Rattle.snap_fields.specs.declared.glk.SnapRequest.{SnapRequest}
+use Rattle.snap_fields.specs.declared.glk.SnapRequest.TheVariants.{Nothing, Line, Char}
+use Rattle.snap_fields.specs.declared.glk.SnapWindow.{SnapWindow}
 use Rattle.snap_glk.specs.Made.{file_made, input_made, request_made}
 use Rattle.snap_glk.specs.Making.{MakesIfFit, MakesSound, has_few, has_few_keys, is_valid_file}
 use Rattle.snap_glk.specs.Texts.{is_text_of_file}
@@ -26,13 +26,13 @@ both a b h k = rw (h, k) refl
 
 -- ---- terminators
 
-request-few : (r : Request) → inputs.is_request (request_made r) ≡ true → has_few r ≡ true
+request-few : (r : SnapRequest) → inputs.is_request (request_made r) ≡ true → has_few r ≡ true
 request-few Nothing e = refl
 request-few (Line unicode buffer maximum initial echo terminators) e =
     (and_parts (nat_le initial maximum && nat_le initial 1024) (inputs.are_few terminators) e).1
 request-few (Char unicode) e = refl
 
-windows-few : (ws : List Window) → inputs.are_windows (map input_made ws) ≡ true
+windows-few : (ws : List SnapWindow) → inputs.are_windows (map input_made ws) ≡ true
     → list_all has_few_keys ws ≡ true
 windows-few [] e = refl
 windows-few (w ∷ ws) e =
@@ -44,7 +44,7 @@ windows-few (w ∷ ws) e =
     (both (inputs.are_few w.terminators) (has_few w.request) q.0 (request-few w.request q.1))
     (windows-few ws p.1)
 
-pub are-few : (ws : List Window) → inputs.are_valid_inputs (map input_made ws) ≡ true
+pub are-few : (ws : List SnapWindow) → inputs.are_valid_inputs (map input_made ws) ≡ true
     → list_all has_few_keys ws ≡ true
 are-few ws e =
     windows-few ws (and_parts (ascends input_window_number 0 4294967295 (map input_made ws))
@@ -52,7 +52,7 @@ are-few ws e =
 
 -- ---- files
 
-file-bytes : (fs : List File) → sum_of_bytes (map file_made fs) ≤ MAX_FILE_BYTES
+file-bytes : (fs : List SnapFile) → sum_of_bytes (map file_made fs) ≤ MAX_FILE_BYTES
     → list_all is_text_of_file fs ≡ true → list_all is_valid_file fs ≡ true
 unfolding sum_of_bytes
 file-bytes [] l t = refl
@@ -65,7 +65,7 @@ file-bytes (f ∷ fs) l t =
     (both (is_text_of_file f) (nat_le (length f.bytes) MAX_FILE_BYTES) p.0 few)
     (file-bytes fs rest p.1)
 
-pub are-files : (t : StreamTable) (fs : List File) → t.files ≡ map file_made fs
+pub are-files : (t : StreamTable) (fs : List SnapFile) → t.files ≡ map file_made fs
     → streams.are_valid_streams t ≡ true
     → list_all is_text_of_file fs ≡ true
     → list_all is_valid_file fs ≡ true

@@ -13,10 +13,10 @@ use Rattle.glk_streams.specs.declared.stream.Target as target
 use Rattle.glk_streams.specs.declared.stream.Target.TheVariants as to
 use Rattle.glk_input.specs.Request as requests
 use Rattle.glk_input.specs.declared.request.WindowInput.{WindowInput}
-use Rattle.snap_fields.specs.declared.glk.Stream.{Stream}
-use Rattle.snap_fields.specs.declared.glk.Target.{Target}
-use Rattle.snap_fields.specs.declared.glk.Target.TheVariants as told
-use Rattle.snap_fields.specs.declared.glk.Window.{Window}
+use Rattle.snap_fields.specs.declared.glk.SnapStream.{SnapStream}
+use Rattle.snap_fields.specs.declared.glk.SnapTarget.{SnapTarget}
+use Rattle.snap_fields.specs.declared.glk.SnapTarget.TheVariants as told
+use Rattle.snap_fields.specs.declared.glk.SnapWindow.{SnapWindow}
 use Rattle.snap_glk.specs.Made.{stream_made, target_made, window_with}
 use Rattle.snap_glk.specs.Told.{stream_told, target_told, window_told}
 use Rattle.snap_glk.proofs.WindowLemmas.{numbers}
@@ -47,22 +47,22 @@ window-found (w ∷ ws) (i ∷ is) stream n v e a f = elim (cases_Bool (w.number
 ]
 
 -- the fields of windows tell the window of this stream, where it is a window's
-abbrev pub IsTold : List Window → stream.Stream → Type 0
+abbrev pub IsTold : List SnapWindow → stream.Stream → Type 0
 IsTold ws s = (n : ℕ) → s.target ≡ to.Window n → window_with ws s.number ≡ n
 
-target-back : (ws : List Window) (stream : ℕ) (t : target.Target)
+target-back : (ws : List SnapWindow) (stream : ℕ) (t : target.Target)
     → ((n : ℕ) → t ≡ to.Window n → window_with ws stream ≡ n)
     → target_made ws stream (target_told t) ≡ t
 target-back ws stream (to.Window n) h = ap to.Window (h n refl)
 target-back ws stream (to.Memory buf len) h = refl
 target-back ws stream (to.File usage name) h = refl
 
-stream-back : (ws : List Window) (s : stream.Stream) → IsTold ws s
+stream-back : (ws : List SnapWindow) (s : stream.Stream) → IsTold ws s
     → stream_made ws (stream_told s) ≡ s
 stream-back ws s h = ap (λ (t : target.Target). record s { target = t })
     (target-back ws s.number s.target h)
 
-pub streams-back : (ws : List Window) (ss : List stream.Stream) → AllByRecursion (IsTold ws) ss
+pub streams-back : (ws : List SnapWindow) (ss : List stream.Stream) → AllByRecursion (IsTold ws) ss
     → map (stream_made ws) (map stream_told ss) ≡ ss
 streams-back ws [] a = refl
 streams-back ws (s ∷ ss) a =
@@ -70,12 +70,12 @@ streams-back ws (s ∷ ss) a =
     (stream-back ws s a.0)
     ∙ ap (λ (ts : List stream.Stream). s ∷ ts) (streams-back ws ss a.1)
 
-target-again : (ws : List Window) (stream : ℕ) (t : Target)
+target-again : (ws : List SnapWindow) (stream : ℕ) (t : SnapTarget)
     → target_told (target_made ws stream t) ≡ t
 target-again ws stream told.Window = refl
 target-again ws stream (told.Memory buffer length) = refl
 target-again ws stream (told.File usage name) = refl
 
-pub stream-again : (ws : List Window) (s : Stream) → stream_told (stream_made ws s) ≡ s
-stream-again ws s = ap (λ (t : Target). record s { target = t })
+pub stream-again : (ws : List SnapWindow) (s : SnapStream) → stream_told (stream_made ws s) ≡ s
+stream-again ws s = ap (λ (t : SnapTarget). record s { target = t })
     (target-again ws s.number s.target)

@@ -15,12 +15,12 @@ use Rattle.glk_input.specs.Request as requests
 use Rattle.glk_input.specs.declared.request.Request as request
 use Rattle.glk_input.specs.declared.request.Request.TheVariants as asks
 use Rattle.glk_input.specs.declared.request.WindowInput.{WindowInput}
-use Rattle.snap_fields.specs.declared.glk.Content.{Content}
-use Rattle.snap_fields.specs.declared.glk.Content.TheVariants.{Pair, Blank, Buffer, Grid}
-use Rattle.snap_fields.specs.declared.glk.Area.{Area}
-use Rattle.snap_fields.specs.declared.glk.Request.{Request}
-use Rattle.snap_fields.specs.declared.glk.Request.TheVariants.{Nothing, Line, Char}
-use Rattle.snap_fields.specs.declared.glk.Window.{Window}
+use Rattle.snap_fields.specs.declared.glk.SnapContent.{SnapContent}
+use Rattle.snap_fields.specs.declared.glk.SnapContent.TheVariants.{Pair, Blank, Buffer, Grid}
+use Rattle.snap_fields.specs.declared.glk.SnapArea.{SnapArea}
+use Rattle.snap_fields.specs.declared.glk.SnapRequest.{SnapRequest}
+use Rattle.snap_fields.specs.declared.glk.SnapRequest.TheVariants.{Nothing, Line, Char}
+use Rattle.snap_fields.specs.declared.glk.SnapWindow.{SnapWindow}
 use Rattle.snap_glk.specs.Made.{content_made, input_made, request_made, window_made}
 use Rattle.snap_glk.specs.Told.{area_told, content_told, request_told, window_told}
 
@@ -94,41 +94,41 @@ inputs-back (w ∷ ws) (i ∷ is) n =
 
 -- ---- from fields and back
 
-content-again : (a : Area) (c : Content) → content_told (content_made a c) ≡ c
+content-again : (a : SnapArea) (c : SnapContent) → content_told (content_made a c) ≡ c
 content-again a (Pair method size key first second) = refl
 content-again a Blank = refl
 content-again a Buffer = refl
 content-again a (Grid x y cells) = refl
 
-request-again : (r : Request) → request_told (request_made r) ≡ r
+request-again : (r : SnapRequest) → request_told (request_made r) ≡ r
 request-again Nothing = refl
 request-again (Line unicode buffer maximum initial echo terminators) = refl
 request-again (Char unicode) = refl
 
-window-again : (w : Window) → window_told (window_made w, input_made w) ≡ w
+window-again : (w : SnapWindow) → window_told (window_made w, input_made w) ≡ w
 window-again w = rw (content-again w.area w.content, request-again w.request) refl
 
-pub windows-again : (ws : List Window)
+pub windows-again : (ws : List SnapWindow)
     → map window_told (zip (map window_made ws) (map input_made ws)) ≡ ws
 windows-again [] = refl
 windows-again (w ∷ ws) =
-    ap (λ (v : Window). v ∷ map window_told (zip (map window_made ws) (map input_made ws)))
+    ap (λ (v : SnapWindow). v ∷ map window_told (zip (map window_made ws) (map input_made ws)))
     (window-again w)
-    ∙ ap (λ (vs : List Window). w ∷ vs) (windows-again ws)
+    ∙ ap (λ (vs : List SnapWindow). w ∷ vs) (windows-again ws)
 
 -- ---- between two turns
 
-content-begun : (a : Area) (c : Content) → content_kept (content_made a c) ≡ content_made a c
+content-begun : (a : SnapArea) (c : SnapContent) → content_kept (content_made a c) ≡ content_made a c
 content-begun a (Pair method size key first second) = refl
 content-begun a Blank = refl
 content-begun a Buffer = refl
 content-begun a (Grid x y cells) = refl
 
-window-begun : (w : Window) → window_kept (window_made w) ≡ window_made w
+window-begun : (w : SnapWindow) → window_kept (window_made w) ≡ window_made w
 window-begun w = ap (λ (c : content.Content). record (window_made w) { content = c })
     (content-begun w.area w.content)
 
-pub windows-begun : (ws : List Window) → map window_kept (map window_made ws) ≡ map window_made ws
+pub windows-begun : (ws : List SnapWindow) → map window_kept (map window_made ws) ≡ map window_made ws
 windows-begun [] = refl
 windows-begun (w ∷ ws) =
     ap (λ (v : window.Window). v ∷ map window_kept (map window_made ws)) (window-begun w)

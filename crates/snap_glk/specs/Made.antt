@@ -19,26 +19,26 @@ use Rattle.glk_input.specs.declared.request.WindowInput.{WindowInput}
 use Rattle.glk_dispatch.specs.Fields.{glk_with}
 use Rattle.glk_dispatch.specs.declared.glk.Glk.{Glk}
 use Rattle.glk_dispatch.specs.declared.glk.Prompt.{Prompt}
-use Rattle.snap_fields.specs.declared.glk.Area.{Area}
-use Rattle.snap_fields.specs.declared.glk.Content.{Content}
-use Rattle.snap_fields.specs.declared.glk.Content.TheVariants.{Pair, Blank, Buffer, Grid}
-use Rattle.snap_fields.specs.declared.glk.File.{File}
-use Rattle.snap_fields.specs.declared.glk.FileRef.{FileRef}
-use Rattle.snap_fields.specs.declared.glk.Request.{Request}
-use Rattle.snap_fields.specs.declared.glk.Request.TheVariants.{Nothing, Line, Char}
-use Rattle.snap_fields.specs.declared.glk.Stream.{Stream}
-use Rattle.snap_fields.specs.declared.glk.Target.{Target}
-use Rattle.snap_fields.specs.declared.glk.Target.TheVariants as told
-use Rattle.snap_fields.specs.declared.glk.Window.{Window}
+use Rattle.snap_fields.specs.declared.glk.SnapArea.{SnapArea}
+use Rattle.snap_fields.specs.declared.glk.SnapContent.{SnapContent}
+use Rattle.snap_fields.specs.declared.glk.SnapContent.TheVariants.{Pair, Blank, Buffer, Grid}
+use Rattle.snap_fields.specs.declared.glk.SnapFile.{SnapFile}
+use Rattle.snap_fields.specs.declared.glk.SnapFileRef.{SnapFileRef}
+use Rattle.snap_fields.specs.declared.glk.SnapRequest.{SnapRequest}
+use Rattle.snap_fields.specs.declared.glk.SnapRequest.TheVariants.{Nothing, Line, Char}
+use Rattle.snap_fields.specs.declared.glk.SnapStream.{SnapStream}
+use Rattle.snap_fields.specs.declared.glk.SnapTarget.{SnapTarget}
+use Rattle.snap_fields.specs.declared.glk.SnapTarget.TheVariants as told
+use Rattle.snap_fields.specs.declared.glk.SnapWindow.{SnapWindow}
 use Rattle.snap_glk.specs.declared.fields.GlkFields.{GlkFields}
 
 -- ---- windows, and their entries for input
 
-abbrev pub area_made : Area → area.Area
+abbrev pub area_made : SnapArea → area.Area
 area_made a = record { x = a.x; y = a.y; w = a.w; h = a.h }
 
 -- a buffer without text and not cleared, a grid of the size of its rectangle
-abbrev pub content_made : Area → Content → content.Content
+abbrev pub content_made : SnapArea → SnapContent → content.Content
 content_made a (Pair method size key first second) = holds.Pair (record {
   method = method;
   size = size;
@@ -51,7 +51,7 @@ content_made a Buffer = holds.Buffer (record { cleared = false; runs = [] })
 content_made a (Grid x y cells) =
     holds.Grid (record { w = a.w; h = a.h; x = x; y = y; cells = cells })
 
-abbrev pub window_made : Window → window.Window
+abbrev pub window_made : SnapWindow → window.Window
 window_made w = record {
   number = w.number;
   rock = w.rock;
@@ -62,7 +62,7 @@ window_made w = record {
   content = content_made w.area w.content;
 }
 
-abbrev pub request_made : Request → Option request.Request
+abbrev pub request_made : SnapRequest → Option request.Request
 request_made Nothing = None
 request_made (Line unicode buffer maximum initial echo terminators) = Some (asks.Line (record {
   buf = buffer;
@@ -74,7 +74,7 @@ request_made (Line unicode buffer maximum initial echo terminators) = Some (asks
 }))
 request_made (Char unicode) = Some (asks.Char unicode)
 
-abbrev pub input_made : Window → WindowInput
+abbrev pub input_made : SnapWindow → WindowInput
 input_made w = record {
   win = w.number;
   echo = w.echo;
@@ -85,16 +85,16 @@ input_made w = record {
 -- ---- streams, file references and files
 
 -- the first window that has this stream, or 0
-unfoldable pub window_with : List Window → ℕ → ℕ
+unfoldable pub window_with : List SnapWindow → ℕ → ℕ
 window_with [] stream = 0
 window_with (w ∷ ws) stream = if w.stream == stream then w.number else window_with ws stream
 
-abbrev pub target_made : List Window → ℕ → Target → target.Target
+abbrev pub target_made : List SnapWindow → ℕ → SnapTarget → target.Target
 target_made ws stream told.Window = to.Window (window_with ws stream)
 target_made ws stream (told.Memory buffer length) = to.Memory buffer length
 target_made ws stream (told.File usage name) = to.File usage name
 
-abbrev pub stream_made : List Window → Stream → stream.Stream
+abbrev pub stream_made : List SnapWindow → SnapStream → stream.Stream
 stream_made ws s = record {
   number = s.number;
   rock = s.rock;
@@ -107,10 +107,10 @@ stream_made ws s = record {
   target = target_made ws s.number s.target;
 }
 
-abbrev pub fileref_made : FileRef → fileref.FileRef
+abbrev pub fileref_made : SnapFileRef → fileref.FileRef
 fileref_made r = record { number = r.number; usage = r.usage; rock = r.rock; name = r.name }
 
-abbrev pub file_made : File → file.File
+abbrev pub file_made : SnapFile → file.File
 file_made f = record { usage = f.usage; name = f.name; bytes = f.bytes }
 
 -- ---- the whole

@@ -4,25 +4,25 @@ use Rattle.std.specs.Prelude.{Result, Ok, Err}
 use Rattle.glk_input.specs.Valid.{are_few, are_valid_inputs}
 use Rattle.glk_input.specs.declared.request.WindowInput.{WindowInput}
 use Rattle.glk_streams.specs.declared.file.TheConstants.{MAX_FILE_BYTES}
-use Rattle.snap_fields.specs.declared.glk.File.{File}
-use Rattle.snap_fields.specs.declared.glk.Request.{Request}
-use Rattle.snap_fields.specs.declared.glk.Request.TheVariants.{Nothing, Line, Char}
-use Rattle.snap_fields.specs.declared.glk.Window.{Window}
+use Rattle.snap_fields.specs.declared.glk.SnapFile.{SnapFile}
+use Rattle.snap_fields.specs.declared.glk.SnapRequest.{SnapRequest}
+use Rattle.snap_fields.specs.declared.glk.SnapRequest.TheVariants.{Nothing, Line, Char}
+use Rattle.snap_fields.specs.declared.glk.SnapWindow.{SnapWindow}
 use Rattle.snap_glk.specs.Texts.{is_text_of_file}
 use Rattle.snap_glk.specs.declared.unfit.Unfit.{Unfit}
 use Rattle.snap_glk.specs.declared.unfit.Unfit.TheVariants.{Invalid, NoMemory}
 
 -- a request's terminators are few, and so are a window's
-abbrev pub has_few : Request → Bool
+abbrev pub has_few : SnapRequest → Bool
 has_few Nothing = true
 has_few (Line unicode buffer maximum initial echo terminators) = are_few terminators
 has_few (Char unicode) = true
 
-abbrev pub has_few_keys : Window → Bool
+abbrev pub has_few_keys : SnapWindow → Bool
 has_few_keys w = are_few w.terminators && has_few w.request
 
 -- a file with a text for its name, and no more bytes than all files may have
-abbrev pub is_valid_file : File → Bool
+abbrev pub is_valid_file : SnapFile → Bool
 is_valid_file f = is_text_of_file f && nat_le (length f.bytes) MAX_FILE_BYTES
 
 -- What a function returned that makes a value of fields: this one, or, where memory didn't run

@@ -15,38 +15,38 @@ use Rattle.glk_input.specs.declared.request.Request.TheVariants as asks
 use Rattle.glk_input.specs.declared.request.WindowInput.{WindowInput}
 use Rattle.glk_dispatch.specs.declared.glk.Glk.{Glk}
 use Rattle.snap_fields.specs.declared.fields.Numbers.{Numbers}
-use Rattle.snap_fields.specs.declared.glk.Area.{Area}
-use Rattle.snap_fields.specs.declared.glk.Content.{Content}
-use Rattle.snap_fields.specs.declared.glk.Content.TheVariants.{Pair, Blank, Buffer, Grid}
-use Rattle.snap_fields.specs.declared.glk.File.{File}
-use Rattle.snap_fields.specs.declared.glk.FileRef.{FileRef}
-use Rattle.snap_fields.specs.declared.glk.Request.{Request}
-use Rattle.snap_fields.specs.declared.glk.Request.TheVariants.{Nothing, Line, Char}
-use Rattle.snap_fields.specs.declared.glk.Stream.{Stream}
-use Rattle.snap_fields.specs.declared.glk.Target.{Target}
-use Rattle.snap_fields.specs.declared.glk.Target.TheVariants as told
-use Rattle.snap_fields.specs.declared.glk.Window.{Window}
+use Rattle.snap_fields.specs.declared.glk.SnapArea.{SnapArea}
+use Rattle.snap_fields.specs.declared.glk.SnapContent.{SnapContent}
+use Rattle.snap_fields.specs.declared.glk.SnapContent.TheVariants.{Pair, Blank, Buffer, Grid}
+use Rattle.snap_fields.specs.declared.glk.SnapFile.{SnapFile}
+use Rattle.snap_fields.specs.declared.glk.SnapFileRef.{SnapFileRef}
+use Rattle.snap_fields.specs.declared.glk.SnapRequest.{SnapRequest}
+use Rattle.snap_fields.specs.declared.glk.SnapRequest.TheVariants.{Nothing, Line, Char}
+use Rattle.snap_fields.specs.declared.glk.SnapStream.{SnapStream}
+use Rattle.snap_fields.specs.declared.glk.SnapTarget.{SnapTarget}
+use Rattle.snap_fields.specs.declared.glk.SnapTarget.TheVariants as told
+use Rattle.snap_fields.specs.declared.glk.SnapWindow.{SnapWindow}
 use Rattle.snap_glk.specs.declared.fields.GlkFields.{GlkFields}
 
 -- ---- windows
 
-abbrev pub area_told : area.Area → Area
+abbrev pub area_told : area.Area → SnapArea
 area_told a = record { x = a.x; y = a.y; w = a.w; h = a.h }
 
 -- a buffer's text is the last turn's, and a grid has the size of its rectangle
-abbrev pub content_told : content.Content → Content
+abbrev pub content_told : content.Content → SnapContent
 content_told (holds.Pair p) = Pair p.method p.size p.key p.first p.second
 content_told holds.Blank = Blank
 content_told (holds.Buffer b) = Buffer
 content_told (holds.Grid g) = Grid g.x g.y g.cells
 
-abbrev pub request_told : Option request.Request → Request
+abbrev pub request_told : Option request.Request → SnapRequest
 request_told None = Nothing
 request_told (Some (asks.Line r)) = Line r.unicode r.buf r.max r.init r.echo r.keys
 request_told (Some (asks.Char unicode)) = Char unicode
 
 -- a window with its entry for input
-abbrev pub window_told : window.Window × WindowInput → Window
+abbrev pub window_told : window.Window × WindowInput → SnapWindow
 window_told p = record {
   number = p.0.number;
   rock = p.0.rock;
@@ -63,12 +63,12 @@ window_told p = record {
 -- ---- streams, file references and files
 
 -- a window's stream is the one that the window names
-abbrev pub target_told : target.Target → Target
+abbrev pub target_told : target.Target → SnapTarget
 target_told (to.Window win) = told.Window
 target_told (to.Memory buf len) = told.Memory buf len
 target_told (to.File usage name) = told.File usage name
 
-abbrev pub stream_told : stream.Stream → Stream
+abbrev pub stream_told : stream.Stream → SnapStream
 stream_told s = record {
   number = s.number;
   rock = s.rock;
@@ -81,10 +81,10 @@ stream_told s = record {
   target = target_told s.target;
 }
 
-abbrev pub fileref_told : fileref.FileRef → FileRef
+abbrev pub fileref_told : fileref.FileRef → SnapFileRef
 fileref_told r = record { number = r.number; usage = r.usage; rock = r.rock; name = r.name }
 
-abbrev pub file_told : file.File → File
+abbrev pub file_told : file.File → SnapFile
 file_told f = record { usage = f.usage; name = f.name; bytes = f.bytes }
 
 -- ---- the whole

@@ -19,17 +19,17 @@ use glk_dispatch::{Glk, Prompt};
 use glk_input::Requests;
 use glk_streams::Streams;
 use glk_windows::Windows;
-use snap_fields::{File, FileRef, Items, Numbers, Stream, Window};
+use snap_fields::{Items, Numbers, SnapFile, SnapFileRef, SnapStream, SnapWindow};
 use std::alloc::{AllocError, Global};
 
 /// What a world's bytes say of its Glk state.
 #[derive(Drop)]
 pub struct GlkFields {
     pub numbers: Numbers,
-    pub windows: Items<Window>,
-    pub streams: Items<Stream>,
-    pub filerefs: Items<FileRef>,
-    pub files: Items<File>,
+    pub windows: Items<SnapWindow>,
+    pub streams: Items<SnapStream>,
+    pub filerefs: Items<SnapFileRef>,
+    pub files: Items<SnapFile>,
 }
 
 fn numbers_told(glk: &Glk) -> Numbers

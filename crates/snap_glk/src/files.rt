@@ -1,4 +1,4 @@
-//! File references and files, told and made (own).
+//! SnapFile references and files, told and made (own).
 
 ghost use Rattle.std.specs.Prelude.{IfOk};
 ghost use Rattle.snap_glk.specs.Made as made;
@@ -11,16 +11,16 @@ use crate::tell::Tell;
 use crate::texts::{codes_of, text_of};
 use crate::unfit::Unfit;
 use glk_streams::{Contents, MAX_FILE_BYTES};
-use snap_fields::{File, FileRef, Items, Window};
+use snap_fields::{Items, SnapFile, SnapFileRef, SnapWindow};
 use std::alloc::{AllocError, Global};
 
-impl Tell<FileRef> for glk_streams::FileRef {
+impl Tell<SnapFileRef> for glk_streams::FileRef {
     ghost told = { told.fileref_told };
 
     ghost is_kept = { is_text_of_ref };
 
-    fn tell(&self, alloc: Global) -> Result<FileRef, AllocError> {
-        Ok(FileRef {
+    fn tell(&self, alloc: Global) -> Result<SnapFileRef, AllocError> {
+        Ok(SnapFileRef {
             number: self.number,
             usage: self.usage,
             rock: self.rock,
@@ -29,12 +29,12 @@ impl Tell<FileRef> for glk_streams::FileRef {
     }
 }
 
-impl Make<glk_streams::FileRef> for FileRef {
+impl Make<glk_streams::FileRef> for SnapFileRef {
     ghost made = { λ _ r. made.fileref_made r };
 
     ghost fits = { is_text_of_ref };
 
-    fn make(&self, alloc: Global, _windows: &[Window]) -> Result<glk_streams::FileRef, Unfit> {
+    fn make(&self, alloc: Global, _windows: &[SnapWindow]) -> Result<glk_streams::FileRef, Unfit> {
         Ok(glk_streams::FileRef {
             number: self.number,
             usage: self.usage,
@@ -44,13 +44,13 @@ impl Make<glk_streams::FileRef> for FileRef {
     }
 }
 
-impl Tell<File> for glk_streams::File {
+impl Tell<SnapFile> for glk_streams::File {
     ghost told = { told.file_told };
 
     ghost is_kept = { is_text_of_file };
 
-    fn tell(&self, alloc: Global) -> Result<File, AllocError> {
-        Ok(File {
+    fn tell(&self, alloc: Global) -> Result<SnapFile, AllocError> {
+        Ok(SnapFile {
             usage: self.usage,
             name: codes_of(alloc, &self.name)?,
             bytes: Items::of(Vec::from_slice(alloc, self.bytes.as_slice())?),
@@ -58,12 +58,12 @@ impl Tell<File> for glk_streams::File {
     }
 }
 
-impl Make<glk_streams::File> for File {
+impl Make<glk_streams::File> for SnapFile {
     ghost made = { λ _ f. made.file_made f };
 
     ghost fits = { is_valid_file };
 
-    fn make(&self, alloc: Global, _windows: &[Window]) -> Result<glk_streams::File, Unfit> {
+    fn make(&self, alloc: Global, _windows: &[SnapWindow]) -> Result<glk_streams::File, Unfit> {
         let bytes = self.bytes.as_slice();
         if bytes.len() > MAX_FILE_BYTES {
             return Err(Unfit::Invalid);

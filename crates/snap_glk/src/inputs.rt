@@ -9,7 +9,7 @@ ghost use Rattle.snap_glk.specs.Told as told;
 use crate::make::Make;
 use crate::unfit::Unfit;
 use glk_input::{Keys, LineRequest, MAX_KEYS, WindowInput};
-use snap_fields::{Items, Request, Window};
+use snap_fields::{Items, SnapRequest, SnapWindow};
 use std::alloc::{AllocError, Global};
 
 /// The list again.
@@ -22,12 +22,12 @@ pub(crate) fn copy_of(alloc: Global, list: &[u32]) -> Result<Items<u32>, AllocEr
 pub(crate) fn tell_request(
     alloc: Global,
     request: &Option<glk_input::Request>,
-) -> Result<Request, AllocError>
+) -> Result<SnapRequest, AllocError>
     ensures { IfOk result (λ r. r ≡ told.request_told request.now) }
 {
     match request {
-        None => Ok(Request::Nothing),
-        Some(glk_input::Request::Line(line)) => Ok(Request::Line {
+        None => Ok(SnapRequest::Nothing),
+        Some(glk_input::Request::Line(line)) => Ok(SnapRequest::Line {
             unicode: line.unicode,
             buffer: line.buf,
             maximum: line.max,
@@ -35,7 +35,7 @@ pub(crate) fn tell_request(
             echo: line.echo,
             terminators: copy_of(alloc, line.keys.as_slice())?,
         }),
-        Some(glk_input::Request::Char { unicode }) => Ok(Request::Char { unicode: *unicode }),
+        Some(glk_input::Request::Char { unicode }) => Ok(SnapRequest::Char { unicode: *unicode }),
     }
 }
 
@@ -49,12 +49,12 @@ fn make_keys(keys: &[u32]) -> Result<Keys, Unfit>
     Ok(Keys::of(keys))
 }
 
-fn make_request(request: &Request) -> Result<Option<glk_input::Request>, Unfit>
+fn make_request(request: &SnapRequest) -> Result<Option<glk_input::Request>, Unfit>
     ensures { MakesIfFit made.request_made has_few request.now result }
 {
     match request {
-        Request::Nothing => Ok(None),
-        Request::Line {
+        SnapRequest::Nothing => Ok(None),
+        SnapRequest::Line {
             unicode,
             buffer,
             maximum,
@@ -69,16 +69,16 @@ fn make_request(request: &Request) -> Result<Option<glk_input::Request>, Unfit>
             echo: *echo,
             keys: make_keys(terminators.as_slice())?,
         }))),
-        Request::Char { unicode } => Ok(Some(glk_input::Request::Char { unicode: *unicode })),
+        SnapRequest::Char { unicode } => Ok(Some(glk_input::Request::Char { unicode: *unicode })),
     }
 }
 
-impl Make<WindowInput> for Window {
+impl Make<WindowInput> for SnapWindow {
     ghost made = { λ _ w. made.input_made w };
 
     ghost fits = { has_few_keys };
 
-    fn make(&self, _alloc: Global, _windows: &[Window]) -> Result<WindowInput, Unfit> {
+    fn make(&self, _alloc: Global, _windows: &[SnapWindow]) -> Result<WindowInput, Unfit> {
         Ok(WindowInput {
             win: self.number,
             echo: self.echo,

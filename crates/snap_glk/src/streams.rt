@@ -10,33 +10,33 @@ use crate::make::Make;
 use crate::tell::Tell;
 use crate::texts::{codes_of, text_of};
 use crate::unfit::Unfit;
-use snap_fields::{Stream, Target, Window};
+use snap_fields::{SnapStream, SnapTarget, SnapWindow};
 use std::alloc::{AllocError, Global};
 
-fn tell_target(alloc: Global, target: &glk_streams::Target) -> Result<Target, AllocError>
+fn tell_target(alloc: Global, target: &glk_streams::Target) -> Result<SnapTarget, AllocError>
     ensures { IfOk result (λ t.
         (t ≡ told.target_told target.now) × (is_text_in t ≡ true)) }
 {
     match target {
-        glk_streams::Target::Window(_) => Ok(Target::Window),
-        glk_streams::Target::Memory { buf, len } => Ok(Target::Memory {
+        glk_streams::Target::Window(_) => Ok(SnapTarget::Window),
+        glk_streams::Target::Memory { buf, len } => Ok(SnapTarget::Memory {
             buffer: *buf,
             length: *len,
         }),
-        glk_streams::Target::File { usage, name } => Ok(Target::File {
+        glk_streams::Target::File { usage, name } => Ok(SnapTarget::File {
             usage: *usage,
             name: codes_of(alloc, name)?,
         }),
     }
 }
 
-impl Tell<Stream> for glk_streams::Stream {
+impl Tell<SnapStream> for glk_streams::Stream {
     ghost told = { told.stream_told };
 
     ghost is_kept = { is_text_of_stream };
 
-    fn tell(&self, alloc: Global) -> Result<Stream, AllocError> {
-        Ok(Stream {
+    fn tell(&self, alloc: Global) -> Result<SnapStream, AllocError> {
+        Ok(SnapStream {
             number: self.number,
             rock: self.rock,
             mode: self.mode,
@@ -52,7 +52,7 @@ impl Tell<Stream> for glk_streams::Stream {
 
 /// The first window that has this stream, or 0.
 #[tactic(auto, unfolding(crate::specs::Made::window_with))]
-fn window_with(windows: &[Window], stream: u32) -> u32
+fn window_with(windows: &[SnapWindow], stream: u32) -> u32
     ensures { result ≡ made.window_with windows.now stream }
 {
     for window in windows {
@@ -65,31 +65,31 @@ fn window_with(windows: &[Window], stream: u32) -> u32
 
 fn make_target(
     alloc: Global,
-    windows: &[Window],
+    windows: &[SnapWindow],
     stream: u32,
-    target: &Target,
+    target: &SnapTarget,
 ) -> Result<glk_streams::Target, Unfit>
     ensures { MakesIfFit (made.target_made windows.now stream) is_text_in target.now result }
 {
     match target {
-        Target::Window => Ok(glk_streams::Target::Window(window_with(windows, stream))),
-        Target::Memory { buffer, length } => Ok(glk_streams::Target::Memory {
+        SnapTarget::Window => Ok(glk_streams::Target::Window(window_with(windows, stream))),
+        SnapTarget::Memory { buffer, length } => Ok(glk_streams::Target::Memory {
             buf: *buffer,
             len: *length,
         }),
-        Target::File { usage, name } => Ok(glk_streams::Target::File {
+        SnapTarget::File { usage, name } => Ok(glk_streams::Target::File {
             usage: *usage,
             name: text_of(alloc, name.as_slice())?,
         }),
     }
 }
 
-impl Make<glk_streams::Stream> for Stream {
+impl Make<glk_streams::Stream> for SnapStream {
     ghost made = { made.stream_made };
 
     ghost fits = { is_text_of_stream };
 
-    fn make(&self, alloc: Global, windows: &[Window]) -> Result<glk_streams::Stream, Unfit> {
+    fn make(&self, alloc: Global, windows: &[SnapWindow]) -> Result<glk_streams::Stream, Unfit> {
         Ok(glk_streams::Stream {
             number: self.number,
             rock: self.rock,

@@ -10,15 +10,15 @@ use crate::make::Make;
 use crate::unfit::Unfit;
 use glk_input::WindowInput;
 use glk_windows::{Buffer, Codes, Grid, Pair, Runs};
-use snap_fields::{Area, Content, Items, Window};
+use snap_fields::{Items, SnapArea, SnapContent, SnapWindow};
 use std::alloc::{AllocError, Global};
 
 // ---- told
 
-fn area_told(area: glk_windows::Area) -> Area
+fn area_told(area: glk_windows::Area) -> SnapArea
     ensures { result ≡ told.area_told area }
 {
-    Area {
+    SnapArea {
         x: area.x,
         y: area.y,
         w: area.w,
@@ -26,20 +26,20 @@ fn area_told(area: glk_windows::Area) -> Area
     }
 }
 
-fn tell_content(alloc: Global, content: &glk_windows::Content) -> Result<Content, AllocError>
+fn tell_content(alloc: Global, content: &glk_windows::Content) -> Result<SnapContent, AllocError>
     ensures { IfOk result (λ c. c ≡ told.content_told content.now) }
 {
     match content {
-        glk_windows::Content::Pair(pair) => Ok(Content::Pair {
+        glk_windows::Content::Pair(pair) => Ok(SnapContent::Pair {
             method: pair.method,
             size: pair.size,
             key: pair.key,
             first: pair.first,
             second: pair.second,
         }),
-        glk_windows::Content::Blank => Ok(Content::Blank),
-        glk_windows::Content::Buffer(_) => Ok(Content::Buffer),
-        glk_windows::Content::Grid(grid) => Ok(Content::Grid {
+        glk_windows::Content::Blank => Ok(SnapContent::Blank),
+        glk_windows::Content::Buffer(_) => Ok(SnapContent::Buffer),
+        glk_windows::Content::Grid(grid) => Ok(SnapContent::Grid {
             x: grid.x,
             y: grid.y,
             cells: copy_of(alloc, grid.cells.as_slice())?,
@@ -51,10 +51,10 @@ fn tell_window(
     alloc: Global,
     window: &glk_windows::Window,
     input: &WindowInput,
-) -> Result<Window, AllocError>
+) -> Result<SnapWindow, AllocError>
     ensures { IfOk result (λ w. w ≡ told.window_told (window.now, input.now)) }
 {
-    Ok(Window {
+    Ok(SnapWindow {
         number: window.number,
         rock: window.rock,
         stream: window.stream,
@@ -73,7 +73,7 @@ pub(crate) fn tell_windows(
     alloc: Global,
     windows: &[glk_windows::Window],
     inputs: &[WindowInput],
-) -> Result<Items<Window>, AllocError>
+) -> Result<Items<SnapWindow>, AllocError>
     ensures { IfOk result (λ ws. ws ≡ map told.window_told (zip windows.now inputs.now)) }
 {
     let mut list = Vec::new(alloc);
@@ -85,7 +85,7 @@ pub(crate) fn tell_windows(
 
 // ---- made
 
-fn area_made(area: Area) -> glk_windows::Area
+fn area_made(area: SnapArea) -> glk_windows::Area
     ensures { result ≡ made.area_made area }
 {
     glk_windows::Area {
@@ -98,13 +98,13 @@ fn area_made(area: Area) -> glk_windows::Area
 
 fn make_content(
     alloc: Global,
-    area: Area,
-    content: &Content,
+    area: SnapArea,
+    content: &SnapContent,
 ) -> Result<glk_windows::Content, AllocError>
     ensures { IfOk result (λ c. c ≡ made.content_made area content.now) }
 {
     match content {
-        Content::Pair {
+        SnapContent::Pair {
             method,
             size,
             key,
@@ -117,12 +117,12 @@ fn make_content(
             first: *first,
             second: *second,
         })),
-        Content::Blank => Ok(glk_windows::Content::Blank),
-        Content::Buffer => Ok(glk_windows::Content::Buffer(Buffer {
+        SnapContent::Blank => Ok(glk_windows::Content::Blank),
+        SnapContent::Buffer => Ok(glk_windows::Content::Buffer(Buffer {
             cleared: false,
             runs: Runs::new(alloc),
         })),
-        Content::Grid { x, y, cells } => Ok(glk_windows::Content::Grid(Grid {
+        SnapContent::Grid { x, y, cells } => Ok(glk_windows::Content::Grid(Grid {
             w: area.w,
             h: area.h,
             x: *x,
@@ -132,12 +132,12 @@ fn make_content(
     }
 }
 
-impl Make<glk_windows::Window> for Window {
+impl Make<glk_windows::Window> for SnapWindow {
     ghost made = { λ _ w. made.window_made w };
 
     ghost fits = { λ _. true };
 
-    fn make(&self, alloc: Global, _windows: &[Window]) -> Result<glk_windows::Window, Unfit> {
+    fn make(&self, alloc: Global, _windows: &[SnapWindow]) -> Result<glk_windows::Window, Unfit> {
         Ok(glk_windows::Window {
             number: self.number,
             rock: self.rock,

@@ -7,7 +7,7 @@ use Rattle.vm_exec.specs.Fields.{IsNoStore, store_fields}
 use Rattle.vm_operand.specs.declared.operand.Dest.{Dest}
 use Rattle.vm_operand.specs.declared.operand.Dest.TheVariants.{Discard, At, Local, Push}
 use Rattle.vm_exec.specs.declared.step.Waiting.TheVariants as waits
-use Rattle.snap_fields.specs.declared.fields.Store.{Store}
+use Rattle.snap_fields.specs.declared.fields.SnapStub.{SnapStub}
 use Rattle.snap_machine.specs.Fields.{dest_of_store}
 use Rattle.snap_machine.specs.Parts.{waiting_store}
 
@@ -17,7 +17,7 @@ dest_back (At a) = refl
 dest_back (Local o) = refl
 dest_back Push = refl
 
-same_store : (kind address : ℕ) (s : Store) → kind ≡ s.kind → address ≡ s.address
+same_store : (kind address : ℕ) (s : SnapStub) → kind ≡ s.kind → address ≡ s.address
     → record { kind = kind; address = address } ≡ s
 same_store kind address s a b = rw (a, b) refl
 
@@ -25,7 +25,7 @@ unless_true : (t : Bool) → (t ≡ true → ⊥) → t ≡ false
 unless_true true never = absurd (never refl)
 unless_true false never = refl
 
-no_dest : (s : Store) → IsNoStore s.kind s.address → dest_of_store s ≡ None
+no_dest : (s : SnapStub) → IsNoStore s.kind s.address → dest_of_store s ≡ None
 no_dest s none =
     let discard : (s.kind == 0 && s.address == 0) ≡ false =
     unless_true _ (λ e.
@@ -47,7 +47,7 @@ no_dest s none =
     rw (discard, at, local, push) refl
 
 -- what the fields of a store tell of it
-pub dest_told : (s : Store) (r : Option Dest)
+pub dest_told : (s : SnapStub) (r : Option Dest)
     → IfSome r (λ to. store_fields to ≡ (s.kind, s.address))
     → IfNone r (IsNoStore s.kind s.address) → r ≡ dest_of_store s
 dest_told s None found only = sym (no_dest s only)

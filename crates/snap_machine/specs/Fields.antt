@@ -15,7 +15,7 @@ use Rattle.vm_undo.specs.UndoList as kept
 use Rattle.vm_undo.specs.UndoList.{UndoList}
 use Rattle.vm_undo.specs.declared.kept.KeptState.{KeptState}
 use Rattle.snap_fields.specs.Reading.{◌>>=◌}
-use Rattle.snap_fields.specs.declared.fields.Store.{Store}
+use Rattle.snap_fields.specs.declared.fields.SnapStub.{SnapStub}
 use Rattle.snap_fields.specs.declared.fields.UndoState.{UndoState}
 use Rattle.snap_machine.specs.declared.parts.MachineParts.{MachineParts}
 
@@ -49,7 +49,7 @@ abbrev pub undo_of : List ℕ → List UndoState → Option UndoList
 undo_of image states = kept.undo_of (origin image) (map kept_state states)
 
 -- the store of a DestType and a DestAddr (Glulx 3.1.3, "Call Stubs")
-abbrev pub dest_of_store : Store → Option Dest
+abbrev pub dest_of_store : SnapStub → Option Dest
 dest_of_store s =
     if s.kind == 0 && s.address == 0 then Some Discard
     else (if s.kind == 1 then Some (At s.address)
@@ -59,7 +59,7 @@ dest_of_store s =
 
 -- the fields of a machine of the story with this image, begun with this seed, that has these parts
 -- and waits with this store
-abbrev pub fields_with : List ℕ → ℕ → MachineParts → Store → Option MachineFields
+abbrev pub fields_with : List ℕ → ℕ → MachineParts → SnapStub → Option MachineFields
 fields_with image seed p store = do
   memory ← memory_from_chunk image p.machine.memory
   stack ← stack_of image p.machine.stack p.machine.frame

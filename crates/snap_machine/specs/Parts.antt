@@ -6,10 +6,10 @@ use Rattle.vm_exec.specs.declared.machine.Machine.{Machine}
 use Rattle.vm_exec.specs.declared.random.Random.{Random}
 use Rattle.vm_exec.specs.declared.step.Waiting.{Waiting}
 use Rattle.vm_exec.specs.declared.step.Waiting.TheVariants as waits
-use Rattle.snap_fields.specs.declared.fields.Machine.{Machine as Place}
-use Rattle.snap_fields.specs.declared.fields.Random.{Random as Words}
+use Rattle.snap_fields.specs.declared.fields.SnapMachine.{SnapMachine}
+use Rattle.snap_fields.specs.declared.fields.SnapRandom.{SnapRandom}
 use Rattle.snap_fields.specs.declared.fields.Settings.{Settings}
-use Rattle.snap_fields.specs.declared.fields.Store.{Store}
+use Rattle.snap_fields.specs.declared.fields.SnapStub.{SnapStub}
 use Rattle.snap_fields.specs.declared.fields.UndoState.{UndoState}
 use Rattle.vm_undo.specs.Contents.{contents}
 use Rattle.vm_undo.specs.UndoList.{kept_of}
@@ -19,7 +19,7 @@ use Rattle.snap_machine.specs.declared.parts.MachineParts.{MachineParts}
 -- ---- a machine that waits for a result
 
 -- where it stands: its memory is told by the contents of its CMem chunk
-abbrev pub machine_place : Machine → Place
+abbrev pub machine_place : Machine → SnapMachine
 machine_place m = record {
   pc = m.pc;
   frame = m.stack.frame;
@@ -39,7 +39,7 @@ settings_of m = record {
 }
 
 -- its random words; their seed is the session's, and told elsewhere
-abbrev pub random_words : Random → Words
+abbrev pub random_words : Random → SnapRandom
 random_words r = record { start = r.start; stream = r.stream; taken = r.taken; fresh = r.fresh }
 
 -- a state as undo keeps it
@@ -61,12 +61,12 @@ machine_parts m = record {
 }
 
 -- the store that a machine waits with; zeros where a save is waited for
-abbrev pub waiting_store : Waiting → Store
+abbrev pub waiting_store : Waiting → SnapStub
 waiting_store (waits.Store to) =
     record { kind = (store_fields to).0; address = (store_fields to).1 }
 waiting_store waits.Stub = record { kind = 0; address = 0 }
 
-abbrev pub store : Machine → Store
+abbrev pub store : Machine → SnapStub
 store m = waiting_store m.waiting
 
 -- ---- a machine that is put back

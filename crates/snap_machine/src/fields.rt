@@ -6,7 +6,7 @@ ghost use Rattle.snap_machine.specs.Fields as spec;
 use crate::parts::MachineParts;
 use crate::undo::undo_of;
 use glulx_image::Image;
-use snap_fields::Store;
+use snap_fields::SnapStub;
 use std::alloc::{AllocError, Global};
 use vm_exec::{MachineFields, Protection, Random, store_of_fields};
 use vm_heap::{Block, Heap, is_heap};
@@ -22,7 +22,7 @@ pub fn machine_fields_of<'i>(
     image: &Image<'i>,
     seed: u64,
     parts: &MachineParts,
-    store: Store,
+    store: SnapStub,
 ) -> Result<Option<MachineFields<'i>>, AllocError>
     ensures value { IfOk result (λ fields.
         fields ≡ spec.fields_with image.now seed parts.now store) }
@@ -109,7 +109,7 @@ fn heap_of(alloc: Global, start: u32, blocks: &[Block]) -> Result<Option<Heap>, 
 }
 
 // The store of a DestType and a DestAddr.
-fn dest_of(store: Store) -> Option<Dest>
+fn dest_of(store: SnapStub) -> Option<Dest>
     ensures { result ≡ spec.dest_of_store store }
 {
     store_of_fields(store.kind, store.address)

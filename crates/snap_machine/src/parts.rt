@@ -7,7 +7,7 @@ ghost use Rattle.snap_machine.specs.Parts as spec;
 use crate::undo::undo_fields_of;
 use glulx_image::Image;
 use quetzal::first_memory;
-use snap_fields::{Items, Random, Settings, Store, UndoState};
+use snap_fields::{Items, Settings, SnapMachine, SnapRandom, SnapStub, UndoState};
 use std::alloc::{AllocError, Global};
 use vm_exec::{Machine, Waiting, store_fields};
 use vm_undo::cmem_write;
@@ -15,9 +15,9 @@ use vm_undo::cmem_write;
 /// What a world's bytes say of its machine.
 #[derive(Drop)]
 pub struct MachineParts {
-    pub machine: snap_fields::Machine,
+    pub machine: SnapMachine,
     pub settings: Settings,
-    pub random: Random,
+    pub random: SnapRandom,
     /// The undo states, the oldest first.
     pub undo: Items<UndoState>,
 }
@@ -38,11 +38,11 @@ pub fn parts_of(alloc: Global, machine: &Machine<'_>) -> Result<MachineParts, Al
 }
 
 // Where it stands.
-fn place_of(alloc: Global, machine: &Machine<'_>) -> Result<snap_fields::Machine, AllocError>
+fn place_of(alloc: Global, machine: &Machine<'_>) -> Result<SnapMachine, AllocError>
     ensures { IfOk result (λ place. place ≡ spec.machine_place machine.now) }
 {
     let heap = machine.heap();
-    Ok(snap_fields::Machine {
+    Ok(SnapMachine {
         pc: machine.pc(),
         frame: machine.stack.frame(),
         memory: Items::of(cmem_write(alloc, &machine.memory)?),
@@ -65,10 +65,10 @@ fn settings_of(machine: &Machine<'_>) -> Settings
     }
 }
 
-fn words_of(random: vm_exec::Random) -> Random
+fn words_of(random: vm_exec::Random) -> SnapRandom
     ensures { result ≡ spec.random_words random }
 {
-    Random {
+    SnapRandom {
         start: random.start,
         stream: random.stream,
         taken: random.taken,
@@ -77,15 +77,15 @@ fn words_of(random: vm_exec::Random) -> Random
 }
 
 /// Where the result goes that the machine waits for: a store's DestType and DestAddr.
-pub fn store_of(machine: &Machine<'_>) -> Store
+pub fn store_of(machine: &Machine<'_>) -> SnapStub
     ensures value { result ≡ spec.store machine.now }
 {
     match machine.waiting() {
         Waiting::Store(to) => {
             let (kind, address) = store_fields(to);
-            Store { kind, address }
+            SnapStub { kind, address }
         }
-        Waiting::Stub => Store {
+        Waiting::Stub => SnapStub {
             kind: 0,
             address: 0,
         },
@@ -99,7 +99,7 @@ pub fn put_back(alloc: Global, image: &Image<'_>) -> Result<MachineParts, AllocE
 {
     let memory = first_memory(alloc, image)?;
     Ok(MachineParts {
-        machine: snap_fields::Machine {
+        machine: SnapMachine {
             pc: 0,
             frame: 0,
             memory: Items::of(cmem_write(alloc, &memory)?),
@@ -114,7 +114,7 @@ pub fn put_back(alloc: Global, image: &Image<'_>) -> Result<MachineParts, AllocE
             protect_start: 0,
             protect_length: 0,
         },
-        random: Random {
+        random: SnapRandom {
             start: 0,
             stream: 0,
             taken: 0,

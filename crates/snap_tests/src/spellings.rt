@@ -1,4 +1,4 @@
-use snap_fields::{Fields, Waiting, read_fields, write_fields};
+use snap_fields::{Fields, SnapWaiting, read_fields, write_fields};
 use std::alloc::{AllocError, Global};
 use std::test::{Fail, *};
 
@@ -61,7 +61,7 @@ fn read_as<F: FnOnce(&Fields) -> bool>(alloc: Global, bytes: &[u8], check: F) ->
 fn are_of_waiting(fields: &Fields) -> bool {
     let selects = matches!(
         fields.waiting,
-        Waiting::Select {
+        SnapWaiting::Select {
             reference: 0x130,
             ..
         }

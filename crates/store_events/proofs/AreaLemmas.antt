@@ -16,14 +16,14 @@ use Rattle.snap_store.specs.Slots.{opposite_side, slot_in, slot_of, taken_side, 
 use Rattle.snap_store.specs.Store.{area_held}
 use Rattle.snap_store.proofs.PutLemmas.{slot_kept, slot_set}
 use Rattle.snap_store.proofs.StoreLemmas.{held_in, held_is, laid_side, sound_images}
-use Rattle.store_events.specs.declared.event.Event.{Event}
-use Rattle.store_events.specs.declared.event.Event.TheVariants.{Keep, Call, Stop, Recover}
-use Rattle.store_events.specs.declared.state.Stage.{Stage}
-use Rattle.store_events.specs.declared.state.Stage.TheVariants.{CloseWrite, CloseSync, HeadWrite}
-use Rattle.store_events.specs.declared.state.Stage.TheVariants.{BytesWrite, AreaSync, OpenWrite}
-use Rattle.store_events.specs.declared.state.Stage.TheVariants.{OpenSync}
-use Rattle.store_events.specs.declared.state.Step.{Step}
-use Rattle.store_events.specs.declared.state.Step.TheVariants.{Idle, Put, Opening}
+use Rattle.store_events.specs.declared.event.FileEvent.{FileEvent}
+use Rattle.store_events.specs.declared.event.FileEvent.TheVariants.{Keep, Call, Stop, Recover}
+use Rattle.store_events.specs.declared.state.PutStage.{PutStage}
+use Rattle.store_events.specs.declared.state.PutStage.TheVariants.{CloseWrite, CloseSync, HeadWrite}
+use Rattle.store_events.specs.declared.state.PutStage.TheVariants.{BytesWrite, AreaSync, OpenWrite}
+use Rattle.store_events.specs.declared.state.PutStage.TheVariants.{OpenSync}
+use Rattle.store_events.specs.declared.state.FileStep.{FileStep}
+use Rattle.store_events.specs.declared.state.FileStep.TheVariants.{Idle, Put, Opening}
 use Rattle.store_events.specs.declared.state.StoreState.{StoreState}
 use Rattle.store_events.specs.Disk.{disk_after}
 use Rattle.store_events.specs.Events.{file_after, store_called, store_comes_up}
@@ -110,7 +110,7 @@ held_at P w steady all c image = elim (stands_by w steady c image) [
 module _ (P : Stored → Type 0) (w : StoreState) (steady : IsSteady w) (all : EachArea P w)
     (side : Side)
     (area : Stored) (putting : IsPutting w side area) (new : P area) where
-  put_stands : (stage : Stage) → HasStage w stage side area → (good : Bool) (reads : List ℕ)
+  put_stands : (stage : PutStage) → HasStage w stage side area → (good : Bool) (reads : List ℕ)
       → (let q = disk_after (put_call stage side area) good reads w.disk in
       IsDiskImage q q.seen → StandsBy w.slots w.disk.seen q.seen)
   put_stands stage has good reads read =
@@ -118,7 +118,7 @@ module _ (P : Stored → Type 0) (w : StoreState) (steady : IsSteady w) (all : E
       side_of_both side w.slots w.disk.seen q.seen
       (put_leaves w steady side area putting stage has good reads q.seen read)
 
-  put_held : (stage : Stage) → HasStage w stage side area → (good : Bool) (reads : List ℕ)
+  put_held : (stage : PutStage) → HasStage w stage side area → (good : Bool) (reads : List ℕ)
       → (let q = disk_after (put_call stage side area) good reads w.disk in
       IsDiskImage q q.seen → HeldBy P w.slots q.seen)
   put_held stage has good reads read =
@@ -155,17 +155,17 @@ module _ (P : Stored → Type 0) (w : StoreState) (steady : IsSteady w) (all : E
       → whole_area side w.disk.seen ≡ Some x → P x
   whole_held there x is = subst P (same_Some area x (sym there ∙ is)) new
 
-  put_areas : (stage : Stage) → HasStage w stage side area → (reads : List ℕ)
+  put_areas : (stage : PutStage) → HasStage w stage side area → (reads : List ℕ)
       → (let q = disk_after (put_call stage side area) true reads w.disk in
       EachArea P (put_onward (record w { disk = q }) stage side area))
   put_areas stage has reads = of stage has
     where
-      write_held : (s : Stage) → HasStage w s side area
+      write_held : (s : PutStage) → HasStage w s side area
           → HeldBy P w.slots (disk_after (put_call s side area) true reads w.disk).seen
       write_held s has =
           put_held s has true reads (stays_after (put_call s side area) reads w.disk steady.reads)
 
-      of : (s : Stage) → HasStage w s side area
+      of : (s : PutStage) → HasStage w s side area
           → (let q = disk_after (put_call s side area) true reads w.disk in
           EachArea P (put_onward (record w { disk = q }) s side area))
       of CloseWrite has = record { held = write_held CloseWrite has; put = new }
@@ -199,7 +199,7 @@ module _ (P : Stored → Type 0) where
   }
 
   called_areas : (w : StoreState) → IsSteady w → EachArea P w → (good : Bool) (reads : List ℕ)
-      → (step : Step) → HasStep w step → IfSome (area_being_put step) P
+      → (step : FileStep) → HasStep w step → IfSome (area_being_put step) P
       → EachArea P (store_called w good reads step (next_store_call step))
   called_areas w steady all good reads Idle has put = all
   called_areas w steady all true reads (Put stage side area) has put =
@@ -253,7 +253,7 @@ module _ (P : Stored → Type 0) where
   pub opens_areas : (w : StoreState) → EachArea P w → EachArea P (begins_opening w)
   opens_areas w all = record { held = all.held; put = tt }
 
-  pub after_areas : (w : StoreState) (event : Event) → IsSteady w → Brings P event → EachArea P w
+  pub after_areas : (w : StoreState) (event : FileEvent) → IsSteady w → Brings P event → EachArea P w
       → EachArea P (file_after w event)
   after_areas w (Keep place count bytes) steady brings all =
       let area : Stored = record { place = place; count = count; bytes = bytes } in

@@ -8,11 +8,11 @@ use Rattle.snap_store.specs.File.{Stored}
 use Rattle.snap_store.specs.Slots.{taken_side}
 use Rattle.store_events.specs.declared.disk.DiskCall.{DiskCall}
 use Rattle.store_events.specs.declared.disk.DiskCall.TheVariants.{Sync, Look}
-use Rattle.store_events.specs.declared.state.Reading.{Reading}
-use Rattle.store_events.specs.declared.state.Reading.TheVariants.{FirstSync, AskSize, ReadFront}
-use Rattle.store_events.specs.declared.state.Reading.TheVariants.{ReadA, ReadB}
-use Rattle.store_events.specs.declared.state.Step.{Step}
-use Rattle.store_events.specs.declared.state.Step.TheVariants.{Idle, Put, Opening}
+use Rattle.store_events.specs.declared.state.OpeningStage.{OpeningStage}
+use Rattle.store_events.specs.declared.state.OpeningStage.TheVariants.{FirstSync, AskSize, ReadFront}
+use Rattle.store_events.specs.declared.state.OpeningStage.TheVariants.{ReadA, ReadB}
+use Rattle.store_events.specs.declared.state.FileStep.{FileStep}
+use Rattle.store_events.specs.declared.state.FileStep.TheVariants.{Idle, Put, Opening}
 use Rattle.store_events.specs.declared.state.StoreState.{StoreState}
 use Rattle.store_events.specs.Disk.{fault_counted, disk_after, may_work}
 use Rattle.store_events.specs.Events.{begins_opening, has_room, keep_at, next_store_call}
@@ -27,7 +27,7 @@ module _ (P : StoreState → Type 0) (w : StoreState) (was : P w) where
   if_enabled true v then_ = then_ refl
   if_enabled false v then_ = was
 
-  pub keeps : (area : Stored) (step : Step)
+  pub keeps : (area : Stored) (step : FileStep)
       → ((w.up && w.made && has_room area) ≡ true → P (put_begins w (taken_side w.slots) area))
       → P (keep_at w area step)
   keeps area Idle begins =
@@ -47,7 +47,7 @@ module _ (P : StoreState → Type 0) (w : StoreState) (was : P w) where
 
   -- ---- a call
 
-  pub good_call : (step : Step) (call : DiskCall) (reads : List ℕ)
+  pub good_call : (step : FileStep) (call : DiskCall) (reads : List ℕ)
       → P (store_onward (record w { disk = disk_after call true reads w.disk }) step)
       → P (store_called w true reads step (Some call))
   good_call step call reads then_ =
@@ -58,7 +58,7 @@ module _ (P : StoreState → Type 0) (w : StoreState) (was : P w) where
   abbrev pub fails : DiskState → StoreState
   fails q = record w { disk = q; faults = fault_counted w.faults; step = Idle }
 
-  pub bad_call : (step : Step) (call : DiskCall) (reads : List ℕ)
+  pub bad_call : (step : FileStep) (call : DiskCall) (reads : List ℕ)
       → (let q = disk_after call false reads w.disk in IsDiskImage q q.seen → P (fails q))
       → P (store_called w false reads step (Some call))
   bad_call step call reads then_ =
@@ -68,9 +68,9 @@ module _ (P : StoreState → Type 0) (w : StoreState) (was : P w) where
 
   -- ---- a call of an opening
 
-  pub good_reading : (reading : Reading) → HasStep w (Opening reading) → (reads : List ℕ)
+  pub good_reading : (reading : OpeningStage) → HasStep w (Opening reading) → (reads : List ℕ)
       → P (record w { disk = settled w.disk.seen; step = Opening AskSize })
-      → (IsSettled w.disk → (next : Reading) → P (record w { step = Opening next }))
+      → (IsSettled w.disk → (next : OpeningStage) → P (record w { step = Opening next }))
       → (IsSettled w.disk → P (store_comes_up w))
       → P (store_called w true reads (Opening reading) (next_store_call (Opening reading)))
   good_reading FirstSync has reads first next up = first
@@ -80,7 +80,7 @@ module _ (P : StoreState → Type 0) (w : StoreState) (was : P w) where
   good_reading ReadB has reads first next up = up has
 
   -- a bad one leaves no image that is new
-  pub bad_reading : (reading : Reading) (reads : List ℕ) → IsDiskImage w.disk w.disk.seen
+  pub bad_reading : (reading : OpeningStage) (reads : List ℕ) → IsDiskImage w.disk w.disk.seen
       → ((q : DiskState) → ((c : List ℕ) → IsDiskImage q c → IsDiskImage w.disk c)
       → IsDiskImage q q.seen → P (fails q))
       → P (store_called w false reads (Opening reading) (next_store_call (Opening reading)))
@@ -92,7 +92,7 @@ module _ (P : StoreState → Type 0) (w : StoreState) (was : P w) where
           (then_ (disk_after Look false reads w.disk)
           (λ c image. look_leaves false reads w.disk c image))
 
-      of : (r : Reading)
+      of : (r : OpeningStage)
           → P (store_called w false reads (Opening r) (next_store_call (Opening r)))
       of FirstSync =
           bad_call (Opening FirstSync) Sync reads

@@ -21,14 +21,14 @@ use Rattle.session_saves.specs.Saves.{HasSince}
 use Rattle.snap_store.proofs.PutLemmas.{slot_kept}
 use Rattle.snap_store.proofs.StoreLemmas.{sound_images}
 use Rattle.store_events.specs.declared.disk.DiskCall.{DiskCall}
-use Rattle.store_events.specs.declared.event.Event.{Event}
-use Rattle.store_events.specs.declared.event.Event.TheVariants.{Keep, Call, Stop, Recover}
-use Rattle.store_events.specs.declared.state.Stage.{Stage}
-use Rattle.store_events.specs.declared.state.Stage.TheVariants.{CloseWrite, CloseSync, HeadWrite}
-use Rattle.store_events.specs.declared.state.Stage.TheVariants.{BytesWrite, AreaSync, OpenWrite}
-use Rattle.store_events.specs.declared.state.Stage.TheVariants.{OpenSync}
-use Rattle.store_events.specs.declared.state.Step.{Step}
-use Rattle.store_events.specs.declared.state.Step.TheVariants.{Idle, Put, Opening}
+use Rattle.store_events.specs.declared.event.FileEvent.{FileEvent}
+use Rattle.store_events.specs.declared.event.FileEvent.TheVariants.{Keep, Call, Stop, Recover}
+use Rattle.store_events.specs.declared.state.PutStage.{PutStage}
+use Rattle.store_events.specs.declared.state.PutStage.TheVariants.{CloseWrite, CloseSync, HeadWrite}
+use Rattle.store_events.specs.declared.state.PutStage.TheVariants.{BytesWrite, AreaSync, OpenWrite}
+use Rattle.store_events.specs.declared.state.PutStage.TheVariants.{OpenSync}
+use Rattle.store_events.specs.declared.state.FileStep.{FileStep}
+use Rattle.store_events.specs.declared.state.FileStep.TheVariants.{Idle, Put, Opening}
 use Rattle.store_events.specs.declared.state.StoreState.{StoreState}
 use Rattle.store_events.specs.Disk.{disk_after}
 use Rattle.store_events.specs.Events.{file_after, store_called, store_comes_up}
@@ -201,7 +201,7 @@ module _ (place least : ℕ) (w : StoreState) (steady : IsSteady w)
           has.since
 
   put_has : (side : Side) (area : Stored) → IsPutting w side area → HasSince place least w.slots
-      → (stage : Stage) (call : DiskCall) (reads : List ℕ)
+      → (stage : PutStage) (call : DiskCall) (reads : List ℕ)
       → HasSince place least
       (put_onward (record w { disk = disk_after call true reads w.disk }) stage side area).slots
   put_has side area putting has CloseWrite call reads = has
@@ -233,7 +233,7 @@ module _ (place least : ℕ) (w : StoreState) (steady : IsSteady w)
   abbrev Known : StoreState → Type 0
   Known v = HasSince place least v.slots
 
-  called_has : Known w → (good : Bool) (reads : List ℕ) (step : Step) → HasStep w step
+  called_has : Known w → (good : Bool) (reads : List ℕ) (step : FileStep) → HasStep w step
       → Known (store_called w good reads step (next_store_call step))
   called_has has good reads Idle held = has
   called_has has true reads (Put stage side area) held =
@@ -246,7 +246,7 @@ module _ (place least : ℕ) (w : StoreState) (steady : IsSteady w)
   called_has has false reads (Opening reading) held =
       bad_reading Known w has reading reads steady.reads (λ _ _ _. has)
 
-  pub after_has : (event : Event) → Known w → Known (file_after w event)
+  pub after_has : (event : FileEvent) → Known w → Known (file_after w event)
   after_has (Keep place count bytes) has =
       keeps Known w has (record { place = place; count = count; bytes = bytes }) w.step
       (λ _. begins_has has (loosened (slot_of w.slots (taken_side w.slots))))

@@ -25,10 +25,10 @@ use Rattle.snap_store.proofs.LaidLemmas.{laid_opened}
 use Rattle.snap_store.proofs.PutLemmas.{slot_kept, slot_set}
 use Rattle.snap_store.proofs.StoreLemmas.{laid_seen, laid_turned, sound_read}
 use Rattle.store_events.specs.declared.disk.DiskCall.TheVariants.{Write}
-use Rattle.store_events.specs.declared.state.Stage.{Stage}
-use Rattle.store_events.specs.declared.state.Stage.TheVariants.{CloseWrite, CloseSync, HeadWrite}
-use Rattle.store_events.specs.declared.state.Stage.TheVariants.{BytesWrite, AreaSync, OpenWrite}
-use Rattle.store_events.specs.declared.state.Stage.TheVariants.{OpenSync}
+use Rattle.store_events.specs.declared.state.PutStage.{PutStage}
+use Rattle.store_events.specs.declared.state.PutStage.TheVariants.{CloseWrite, CloseSync, HeadWrite}
+use Rattle.store_events.specs.declared.state.PutStage.TheVariants.{BytesWrite, AreaSync, OpenWrite}
+use Rattle.store_events.specs.declared.state.PutStage.TheVariants.{OpenSync}
 use Rattle.store_events.specs.declared.state.StoreState.{StoreState}
 use Rattle.store_events.specs.Disk.{disk_after}
 use Rattle.store_events.specs.Events.{has_room}
@@ -192,7 +192,7 @@ module _ (w : StoreState) (steady : IsSteady w) (side : Side) (area : Stored)
       before.2 (laid_as Closed is before.0 before.1))
 
   -- the images after each call of it, good or bad, by what was known before it
-  pub put_leaves : (stage : Stage) → HasStage w stage side area → (good : Bool) (reads c : List ℕ)
+  pub put_leaves : (stage : PutStage) → HasStage w stage side area → (good : Bool) (reads c : List ℕ)
       → IsDiskImage (disk_after (put_call stage side area) good reads p) c → Laid own old c
   put_leaves CloseWrite has good reads c image = gate_leaves has 0 good reads c image
   put_leaves CloseSync has good reads c image =
@@ -211,7 +211,7 @@ module _ (w : StoreState) (steady : IsSteady w) (side : Side) (area : Stored)
       laid c (sync_leaves good reads p c steady.reads image)
 
   -- so what is known stays true
-  pub put_sound : (stage : Stage) → HasStage w stage side area → (good : Bool) (reads : List ℕ)
+  pub put_sound : (stage : PutStage) → HasStage w stage side area → (good : Bool) (reads : List ℕ)
       → (let q = disk_after (put_call stage side area) good reads p in IsDiskImage q q.seen
       → Sound q w.made w.slots)
   put_sound stage has good reads read =
@@ -235,7 +235,7 @@ module _ (w : StoreState) (steady : IsSteady w) (side : Side) (area : Stored)
       (seen_stands slot held stands))
 
   -- after a good write its put goes on, with what stands there then
-  written : (stage next : Stage) → HasStage w stage side area → (reads : List ℕ)
+  written : (stage next : PutStage) → HasStage w stage side area → (reads : List ℕ)
       → (let q = disk_after (put_call stage side area) true reads p in
       HasStage (comes_to (record w { disk = q }) next side area) next side area
       → IsSteady (comes_to (record w { disk = q }) next side area))
@@ -255,7 +255,7 @@ module _ (w : StoreState) (steady : IsSteady w) (side : Side) (area : Stored)
       }
 
   -- and after a good sync this is known of its gate
-  synced : (slot : Slot) (held : Option Stored) (next : Stage) → loosened slot ≡ slot
+  synced : (slot : Slot) (held : Option Stored) (next : PutStage) → loosened slot ≡ slot
       → StandsOnSide side slot held p.seen
       → (let v = comes_to (knows (record w { disk = settled p.seen }) side slot) next side area in
       HasStage v next side area → IsSteady v)
@@ -274,7 +274,7 @@ module _ (w : StoreState) (steady : IsSteady w) (side : Side) (area : Stored)
   }
 
   -- a good call
-  pub put_goes_on : (stage : Stage) → HasStage w stage side area → (reads : List ℕ)
+  pub put_goes_on : (stage : PutStage) → HasStage w stage side area → (reads : List ℕ)
       → (let q = disk_after (put_call stage side area) true reads p in
       IsSteady (put_onward (record w { disk = q }) stage side area))
   put_goes_on CloseWrite has reads =

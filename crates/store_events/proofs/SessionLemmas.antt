@@ -27,8 +27,8 @@ use Rattle.session_saves.specs.Warming.{count_in}
 use Rattle.session_saves.proofs.AgreementLemmas.{last-append, last_contained}
 use Rattle.session_saves.proofs.AgreementLemmas.{more_commands, new_opens}
 use Rattle.session_saves.proofs.KeptUpLemmas.{is_within_sixteen, stays_kept_up}
-use Rattle.store_events.specs.declared.event.Event.{Event}
-use Rattle.store_events.specs.declared.event.Event.TheVariants.{Keep, Call, Stop, Recover}
+use Rattle.store_events.specs.declared.event.FileEvent.{FileEvent}
+use Rattle.store_events.specs.declared.event.FileEvent.TheVariants.{Keep, Call, Stop, Recover}
 use Rattle.store_events.specs.declared.state.StoreState.{StoreState}
 use Rattle.store_events.specs.Areas.{Brings, EachArea, area_being_put}
 use Rattle.store_events.specs.Events.{store_down_over, slots_in}
@@ -90,7 +90,7 @@ own_agrees stories x place count bytes own = record {
 -- ---- what happens to a session
 
 module _ (stories : List Story) where
-  brings : (x : SessionState) (event : Event) → MayCome stories x (Does event)
+  brings : (x : SessionState) (event : FileEvent) → MayCome stories x (Does event)
       → Brings (Agrees stories x.rows x.game) event
   brings x (Keep place count bytes) may = own_agrees stories x place count bytes may
   brings x (Call good reads) may = tt

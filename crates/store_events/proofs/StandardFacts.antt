@@ -5,9 +5,9 @@ use Rattle.snap_store.specs.declared.slot.Slot.TheVariants.{Closed, Open, Unsure
 use Rattle.snap_store.specs.declared.slot.Slots.{Slots}
 use Rattle.snap_store.specs.File.{has_header}
 use Rattle.store_events.specs.Events.{store_down_over, run_store}
-use Rattle.store_events.specs.declared.event.Event.{Event}
-use Rattle.store_events.specs.declared.event.Event.TheVariants.{Keep, Call, Recover}
-use Rattle.store_events.specs.declared.state.Step.TheVariants.{Idle}
+use Rattle.store_events.specs.declared.event.FileEvent.{FileEvent}
+use Rattle.store_events.specs.declared.event.FileEvent.TheVariants.{Keep, Call, Recover}
+use Rattle.store_events.specs.declared.state.FileStep.TheVariants.{Idle}
 use Rattle.store_events.specs.declared.state.StoreState.{StoreState}
 
 -- an opened file of which this is known
@@ -22,13 +22,13 @@ knowing slots =
       step = Idle;
     }
 
-abbrev good : Event
+abbrev good : FileEvent
 good = Call true []
 
-abbrev three : List Event
+abbrev three : List FileEvent
 three = good ∷ good ∷ good ∷ []
 
-abbrev put : ℕ → Event
+abbrev put : ℕ → FileEvent
 put count = Keep 16 count (7 ∷ [])
 
 -- six calls where the gate is known to be closed, and seven where it isn't

@@ -16,14 +16,14 @@ use Rattle.snap_store.specs.Slots.{slot_of, taken_side, with_slot}
 use Rattle.snap_store.proofs.LaidLemmas.{laid_loosened}
 use Rattle.snap_store.proofs.PutLemmas.{slot_kept, slot_set}
 use Rattle.snap_store.proofs.SlotLemmas.{spares_taken}
-use Rattle.store_events.specs.declared.event.Event.{Event}
-use Rattle.store_events.specs.declared.event.Event.TheVariants.{Keep, Call, Stop, Recover}
-use Rattle.store_events.specs.declared.state.Reading.{Reading}
-use Rattle.store_events.specs.declared.state.Reading.TheVariants.{FirstSync, AskSize, ReadFront}
-use Rattle.store_events.specs.declared.state.Reading.TheVariants.{ReadA, ReadB}
-use Rattle.store_events.specs.declared.state.Stage.TheVariants.{CloseWrite, CloseSync}
-use Rattle.store_events.specs.declared.state.Step.{Step}
-use Rattle.store_events.specs.declared.state.Step.TheVariants.{Idle, Put, Opening}
+use Rattle.store_events.specs.declared.event.FileEvent.{FileEvent}
+use Rattle.store_events.specs.declared.event.FileEvent.TheVariants.{Keep, Call, Stop, Recover}
+use Rattle.store_events.specs.declared.state.OpeningStage.{OpeningStage}
+use Rattle.store_events.specs.declared.state.OpeningStage.TheVariants.{FirstSync, AskSize, ReadFront}
+use Rattle.store_events.specs.declared.state.OpeningStage.TheVariants.{ReadA, ReadB}
+use Rattle.store_events.specs.declared.state.PutStage.TheVariants.{CloseWrite, CloseSync}
+use Rattle.store_events.specs.declared.state.FileStep.{FileStep}
+use Rattle.store_events.specs.declared.state.FileStep.TheVariants.{Idle, Put, Opening}
 use Rattle.store_events.specs.declared.state.StoreState.{StoreState}
 use Rattle.store_events.specs.Events.{file_after, store_called, store_down_over, has_room}
 use Rattle.store_events.specs.Events.{next_store_call, begins_opening}
@@ -38,7 +38,7 @@ use Rattle.store_events.proofs.PuttingLemmas.{sound_narrowed, sound_shown}
 
 -- ---- every call
 
-called_steady : (w : StoreState) → IsSteady w → (good : Bool) (reads : List ℕ) (step : Step)
+called_steady : (w : StoreState) → IsSteady w → (good : Bool) (reads : List ℕ) (step : FileStep)
     → HasStep w step → IsSteady (store_called w good reads step (next_store_call step))
 called_steady w steady good reads Idle has = steady
 called_steady w steady true reads (Put stage side area) has =
@@ -64,7 +64,7 @@ called_steady w steady true reads (Opening reading) has =
     record { reads = steady.reads; sound = steady.sound; step = reads_on only next })
     (λ only. record { reads = steady.reads; sound = sound_shown w.disk only; step = tt })
   where
-    reads_on : IsSettled w.disk → (next : Reading)
+    reads_on : IsSettled w.disk → (next : OpeningStage)
         → HasStep (record w { step = Opening next }) (Opening next)
     reads_on only FirstSync = tt
     reads_on only AskSize = only
@@ -151,7 +151,7 @@ stop_steady w steady image is = record {
 pub opens_steady : (w : StoreState) → IsSteady w → IsSteady (begins_opening w)
 opens_steady w steady = record { reads = steady.reads; sound = steady.sound; step = tt }
 
-pub after_steady : (w : StoreState) (event : Event) → IsSteady w → IsSteady (file_after w event)
+pub after_steady : (w : StoreState) (event : FileEvent) → IsSteady w → IsSteady (file_after w event)
 after_steady w (Keep place count bytes) steady =
     let area : Stored = record { place = place; count = count; bytes = bytes } in
     keeps IsSteady w steady area w.step (λ is.

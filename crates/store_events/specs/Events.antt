@@ -14,21 +14,21 @@ use Rattle.snap_store.specs.Images.{loosened}
 use Rattle.snap_store.specs.Slots.{is_closed, slot_in, slot_of, taken_side, with_slot}
 use Rattle.store_events.specs.declared.disk.DiskCall.{DiskCall}
 use Rattle.store_events.specs.declared.disk.DiskCall.TheVariants.{Write, Sync, Look}
-use Rattle.store_events.specs.declared.event.Event.{Event}
-use Rattle.store_events.specs.declared.event.Event.TheVariants.{Keep, Call, Stop, Recover}
-use Rattle.store_events.specs.declared.state.Reading.TheVariants.{FirstSync, AskSize, ReadFront}
-use Rattle.store_events.specs.declared.state.Reading.TheVariants.{ReadA, ReadB}
-use Rattle.store_events.specs.declared.state.Stage.{Stage}
-use Rattle.store_events.specs.declared.state.Stage.TheVariants.{CloseWrite, CloseSync, HeadWrite}
-use Rattle.store_events.specs.declared.state.Stage.TheVariants.{BytesWrite, AreaSync, OpenWrite}
-use Rattle.store_events.specs.declared.state.Stage.TheVariants.{OpenSync}
-use Rattle.store_events.specs.declared.state.Step.{Step}
-use Rattle.store_events.specs.declared.state.Step.TheVariants.{Idle, Put, Opening}
+use Rattle.store_events.specs.declared.event.FileEvent.{FileEvent}
+use Rattle.store_events.specs.declared.event.FileEvent.TheVariants.{Keep, Call, Stop, Recover}
+use Rattle.store_events.specs.declared.state.OpeningStage.TheVariants.{FirstSync, AskSize, ReadFront}
+use Rattle.store_events.specs.declared.state.OpeningStage.TheVariants.{ReadA, ReadB}
+use Rattle.store_events.specs.declared.state.PutStage.{PutStage}
+use Rattle.store_events.specs.declared.state.PutStage.TheVariants.{CloseWrite, CloseSync, HeadWrite}
+use Rattle.store_events.specs.declared.state.PutStage.TheVariants.{BytesWrite, AreaSync, OpenWrite}
+use Rattle.store_events.specs.declared.state.PutStage.TheVariants.{OpenSync}
+use Rattle.store_events.specs.declared.state.FileStep.{FileStep}
+use Rattle.store_events.specs.declared.state.FileStep.TheVariants.{Idle, Put, Opening}
 use Rattle.store_events.specs.declared.state.StoreState.{StoreState}
 use Rattle.store_events.specs.Disk.{disk_after, may_work, fault_counted}
 
 -- the device call that a stage of a put makes
-abbrev pub put_call : Stage → Side → Stored → DiskCall
+abbrev pub put_call : PutStage → Side → Stored → DiskCall
 put_call CloseWrite side area = Write (gate_of side) (0 ∷ [])
 put_call CloseSync side area = Sync
 put_call HeadWrite side area =
@@ -39,14 +39,14 @@ put_call OpenWrite side area = Write (gate_of side) (1 ∷ [])
 put_call OpenSync side area = Sync
 
 -- the device call that a step makes
-abbrev pub next_store_call : Step → Option DiskCall
+abbrev pub next_store_call : FileStep → Option DiskCall
 next_store_call Idle = None
 next_store_call (Put stage side area) = Some (put_call stage side area)
 next_store_call (Opening FirstSync) = Some Sync
 next_store_call (Opening reading) = Some Look
 
 -- the put goes on with this stage
-abbrev pub comes_to : StoreState → Stage → Side → Stored → StoreState
+abbrev pub comes_to : StoreState → PutStage → Side → Stored → StoreState
 comes_to w stage side area = record w { step = Put stage side area }
 
 -- from now on this is known of the gate of one side
@@ -73,7 +73,7 @@ store_comes_up w =
 
 -- After a good call of a put. The gate is known to be 0 once its closing is synced; nothing is
 -- known of it while it is opened; and it is known to be open once that is synced.
-abbrev pub put_onward : StoreState → Stage → Side → Stored → StoreState
+abbrev pub put_onward : StoreState → PutStage → Side → Stored → StoreState
 put_onward w CloseWrite side area = comes_to w CloseSync side area
 put_onward w CloseSync side area = comes_to (knows w side Closed) HeadWrite side area
 put_onward w HeadWrite side area = comes_to w BytesWrite side area
@@ -83,7 +83,7 @@ put_onward w OpenWrite side area = comes_to w OpenSync side area
 put_onward w OpenSync side area = idle (knows w side (Open area.place area.count))
 
 -- after a good call of this step
-abbrev pub store_onward : StoreState → Step → StoreState
+abbrev pub store_onward : StoreState → FileStep → StoreState
 store_onward w Idle = w
 store_onward w (Put stage side area) = put_onward w stage side area
 store_onward w (Opening FirstSync) = record w { step = Opening AskSize }
@@ -95,7 +95,7 @@ store_onward w (Opening ReadB) = store_comes_up w
 -- The call that a step makes, by whether it is good and by what the disk then reads as. A write
 -- past the room isn't good, and a disk reads as one of its images. Where it isn't good what was
 -- under way ends.
-abbrev pub store_called : StoreState → Bool → List ℕ → Step → Option DiskCall → StoreState
+abbrev pub store_called : StoreState → Bool → List ℕ → FileStep → Option DiskCall → StoreState
 store_called w good reads step None = w
 store_called w true reads step (Some call) =
     if may_work call
@@ -111,7 +111,7 @@ store_called w false reads step (Some call) =
     else w
 
 -- a gate that isn't known to be 0 is closed by a write, and then by the sync
-abbrev pub first_stage : Slot → Stage
+abbrev pub first_stage : Slot → PutStage
 first_stage slot = if is_closed slot then CloseSync else CloseWrite
 
 -- A put begins, in the place of the area that isn't the newest. From now on its gate may be
@@ -130,7 +130,7 @@ has_room area =
     && nat_le (length area.bytes) MAX_SNAPSHOT
 
 -- Keep, where nothing is under way
-abbrev pub keep_at : StoreState → Stored → Step → StoreState
+abbrev pub keep_at : StoreState → Stored → FileStep → StoreState
 keep_at w area Idle =
     if w.up && w.made && has_room area
     then put_begins w (taken_side w.slots) area
@@ -146,18 +146,18 @@ abbrev pub begins_opening : StoreState → StoreState
 begins_opening w = record w { up = false; step = Opening FirstSync }
 
 -- an opening is under way, or a put
-abbrev pub is_opening : Step → Bool
+abbrev pub is_opening : FileStep → Bool
 is_opening Idle = false
 is_opening (Put stage side area) = false
 is_opening (Opening reading) = true
 
-abbrev pub is_putting : Step → Bool
+abbrev pub is_putting : FileStep → Bool
 is_putting Idle = false
 is_putting (Put stage side area) = true
 is_putting (Opening reading) = false
 
 -- the file after an event; one that isn't enabled leaves it
-abbrev pub file_after : StoreState → Event → StoreState
+abbrev pub file_after : StoreState → FileEvent → StoreState
 file_after w (Keep place count bytes) =
     keep_at w (record { place = place; count = count; bytes = bytes }) w.step
 file_after w (Call good reads) = store_called w good reads w.step (next_store_call w.step)
@@ -165,7 +165,7 @@ file_after w (Stop image) = if is_image w.disk image then store_stopped w image 
 file_after w Recover = if w.up then w else begins_opening w
 
 -- the file after these events, one after the other
-abbrev pub run_store : StoreState → List Event → StoreState
+abbrev pub run_store : StoreState → List FileEvent → StoreState
 run_store w [] = w
 run_store w (event ∷ events) = run_store (file_after w event) events
 

@@ -11,7 +11,7 @@ use Rattle.session_saves.specs.Agreement.{IsAgreedFile, last_row}
 use Rattle.session_saves.specs.Game.{turns_after}
 use Rattle.session_saves.specs.Saves.{HasSince}
 use Rattle.session_saves.specs.Warming.{count_in}
-use Rattle.store_events.specs.declared.event.Event.{Event}
+use Rattle.store_events.specs.declared.event.FileEvent.{FileEvent}
 use Rattle.store_events.specs.declared.state.StoreState.{StoreState}
 use Rattle.store_events.specs.Areas.{EachArea}
 use Rattle.store_events.specs.Events.{file_after, store_down_over}
@@ -24,7 +24,7 @@ use Rattle.store_events.specs.Steady.{IsSteady, seen_of, store_of}
 pub record StaysSteady : Type 0 where
   pub begins : (bytes : List ℕ) → IsSteady (store_down_over bytes)
   pub goes_on :
-      (w : StoreState) (event : Event) → IsSteady w → IsSteady (file_after w event)
+      (w : StoreState) (event : FileEvent) → IsSteady w → IsSteady (file_after w event)
   pub shows :
       (w : StoreState) (image : List ℕ) → IsSteady w → IsDiskImage w.disk image
       → IsImageOf seen_of (store_of w) image
@@ -33,7 +33,7 @@ pub record StaysSteady : Type 0 where
 -- event is, where no area is of a later OPEN row; and it is open in each image.
 pub record StaysOpen : Type 0 where
   pub goes_on :
-      (w : StoreState) (event : Event) (place least : ℕ) → IsSteady w
+      (w : StoreState) (event : FileEvent) (place least : ℕ) → IsSteady w
       → EachArea (λ area. area.place ≤ place) w → HasSince place least w.slots
       → HasSince place least (file_after w event).slots
   pub shows :

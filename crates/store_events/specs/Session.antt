@@ -12,8 +12,8 @@ use Rattle.session_core.specs.History.{input_of}
 use Rattle.session_saves.specs.Agreement.{Agrees, last_row}
 use Rattle.session_saves.specs.Game.{inputs_of, world_at}
 use Rattle.session_saves.specs.Saves.{IsKeptUp, due_in, none_missed}
-use Rattle.store_events.specs.declared.event.Event.{Event}
-use Rattle.store_events.specs.declared.event.Event.TheVariants.{Keep}
+use Rattle.store_events.specs.declared.event.FileEvent.{FileEvent}
+use Rattle.store_events.specs.declared.event.FileEvent.TheVariants.{Keep}
 use Rattle.store_events.specs.declared.state.StoreState.{StoreState}
 use Rattle.store_events.specs.Areas.{EachArea}
 use Rattle.store_events.specs.Events.{file_after}
@@ -28,7 +28,7 @@ pub record SessionState : Type 0 where
 -- What happens to it: an event of its file, a command more whose row is synced, or a new OPEN,
 -- whose row stands at this place.
 pub data FileHappening : Type 0 where
-  Does : Event → FileHappening
+  Does : FileEvent → FileHappening
   Takes : Command → FileHappening
   Begins : ℕ → Command → FileHappening
 

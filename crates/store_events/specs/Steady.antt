@@ -8,14 +8,14 @@ use Rattle.snap_store.specs.File.{Stored, gate_byte, head_bytes, side_start, who
 use Rattle.snap_store.specs.Images.{Spares, StandsOnSide, loosened}
 use Rattle.snap_store.specs.Slots.{opposite_side, slot_of}
 use Rattle.snap_store.specs.Store.{IsSoundStore, Snapshots}
-use Rattle.store_events.specs.declared.state.Reading.TheVariants.{FirstSync, AskSize, ReadFront}
-use Rattle.store_events.specs.declared.state.Reading.TheVariants.{ReadA, ReadB}
-use Rattle.store_events.specs.declared.state.Stage.{Stage}
-use Rattle.store_events.specs.declared.state.Stage.TheVariants.{CloseWrite, CloseSync, HeadWrite}
-use Rattle.store_events.specs.declared.state.Stage.TheVariants.{BytesWrite, AreaSync, OpenWrite}
-use Rattle.store_events.specs.declared.state.Stage.TheVariants.{OpenSync}
-use Rattle.store_events.specs.declared.state.Step.{Step}
-use Rattle.store_events.specs.declared.state.Step.TheVariants.{Idle, Put, Opening}
+use Rattle.store_events.specs.declared.state.OpeningStage.TheVariants.{FirstSync, AskSize, ReadFront}
+use Rattle.store_events.specs.declared.state.OpeningStage.TheVariants.{ReadA, ReadB}
+use Rattle.store_events.specs.declared.state.PutStage.{PutStage}
+use Rattle.store_events.specs.declared.state.PutStage.TheVariants.{CloseWrite, CloseSync, HeadWrite}
+use Rattle.store_events.specs.declared.state.PutStage.TheVariants.{BytesWrite, AreaSync, OpenWrite}
+use Rattle.store_events.specs.declared.state.PutStage.TheVariants.{OpenSync}
+use Rattle.store_events.specs.declared.state.FileStep.{FileStep}
+use Rattle.store_events.specs.declared.state.FileStep.TheVariants.{Idle, Put, Opening}
 use Rattle.store_events.specs.declared.state.StoreState.{StoreState}
 use Rattle.store_events.specs.Events.{has_room}
 
@@ -39,7 +39,7 @@ pub record IsPutting (w : StoreState) (side : Side) (area : Stored) : Type 0 whe
   pub spares : Spares side (slot_of w.slots (opposite_side side))
 
 -- what is known of its own gate then, and what the disk reads as
-abbrev pub HasStage : StoreState → Stage → Side → Stored → Type 0
+abbrev pub HasStage : StoreState → PutStage → Side → Stored → Type 0
 HasStage w CloseWrite side area = slot_of w.slots side ≡ Unsure
 HasStage w CloseSync side area = gate_byte side w.disk.seen ≡ 0
 HasStage w HeadWrite side area = slot_of w.slots side ≡ Closed
@@ -59,7 +59,7 @@ HasStage w OpenSync side area =
 abbrev pub IsSettled : DiskState → Type 0
 IsSettled p = (image : List ℕ) → IsDiskImage p image → image ≡ p.seen
 
-abbrev pub HasStep : StoreState → Step → Type 0
+abbrev pub HasStep : StoreState → FileStep → Type 0
 HasStep w Idle = Unit {0}
 HasStep w (Put stage side area) = IsPutting w side area × HasStage w stage side area
 HasStep w (Opening FirstSync) = Unit {0}

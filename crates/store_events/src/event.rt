@@ -4,7 +4,7 @@ use story_text::Bytes;
 
 /// An event. One that isn't enabled changes nothing.
 #[derive(Drop)]
-pub enum Event {
+pub enum FileEvent {
     /// The put of a snapshot begins: that of the OPEN row at this place, after so many inputs.
     Keep {
         place: u64,

@@ -12,10 +12,10 @@ mod steps;
 
 pub use area::NewArea;
 pub use disk::{DiskCall, make_call};
-pub use event::Event;
+pub use event::FileEvent;
 pub use following::follow;
 pub use law::{
     begins_by_rows, rows_are_told, stays_in_agreement, stays_open, stays_steady, warms_in_sixteen,
 };
 pub use look::outline_of;
-pub use state::{Reading, Stage, Step, StoreState};
+pub use state::{FileStep, OpeningStage, PutStage, StoreState};

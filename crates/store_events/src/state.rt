@@ -8,7 +8,7 @@ use snap_store::{Side, Slots};
 
 /// How far a put has come: the device call that is its next one.
 #[derive(Clone, Copy)]
-pub enum Stage {
+pub enum PutStage {
     /// It closes the gate of the area that it takes.
     CloseWrite,
     CloseSync,
@@ -24,7 +24,7 @@ pub enum Stage {
 
 /// How far an opening has come.
 #[derive(Clone, Copy)]
-pub enum Reading {
+pub enum OpeningStage {
     /// It syncs, asks the size, and reads how the file and how each area begins.
     FirstSync,
     AskSize,
@@ -35,21 +35,21 @@ pub enum Reading {
 
 /// What the disk is asked next.
 #[derive(Drop)]
-pub enum Step {
+pub enum FileStep {
     /// Nothing.
     Idle,
     /// The call of a put that has come so far, of this area in this place.
     Put {
-        stage: Stage,
+        stage: PutStage,
         side: Side,
         area: NewArea,
     },
     /// The call of an opening.
-    Opening(Reading),
+    Opening(OpeningStage),
 }
 
 /// The step is this from now on.
-pub fn set_step(step: &mut Step, next: Step)
+pub fn set_step(step: &mut FileStep, next: FileStep)
     ensures { step.new ≡ next }
 {
     *step = next;
@@ -66,5 +66,5 @@ pub struct StoreState {
     // The file has its header; and what is known of its two gates, within a put too.
     pub(crate) made: bool,
     pub(crate) slots: Slots,
-    pub(crate) step: Step,
+    pub(crate) step: FileStep,
 }

@@ -9,13 +9,13 @@ ghost use Rattle.store_events.specs.Events.{put_onward};
 ghost use Rattle.disk_model.specs.Plain.{is_image};
 ghost use Rattle.session_saves.specs.Saves.{due_in};
 ghost use Rattle.store_events.specs.Steady.{IsSteady};
-ghost use Rattle.store_events.specs.declared.event.Event.TheVariants as Event;
-ghost use Rattle.store_events.specs.declared.state.Step.TheVariants as Steps;
+ghost use Rattle.store_events.specs.declared.event.FileEvent.TheVariants as FileEvent;
+ghost use Rattle.store_events.specs.declared.state.FileStep.TheVariants as Steps;
 
 use crate::area::NewArea;
 use crate::disk::{DiskCall, make_call};
 use crate::look::{outline_of, slots_in};
-use crate::state::{Reading, Stage, Step, StoreState, set_step};
+use crate::state::{FileStep, OpeningStage, PutStage, StoreState, set_step};
 use disk_model::PlainDisk;
 use session_saves::falls_due;
 use snap_store::{MAX_SNAPSHOT, Side, Slot};
@@ -30,52 +30,57 @@ fn one_byte(alloc: Global, byte: u8) -> Result<Bytes, AllocError>
 }
 
 // The device call that a stage of a put makes.
-fn put_call(alloc: Global, stage: Stage, side: Side, area: &NewArea) -> Result<DiskCall, AllocError>
+fn put_call(
+    alloc: Global,
+    stage: PutStage,
+    side: Side,
+    area: &NewArea,
+) -> Result<DiskCall, AllocError>
     ensures { IfOk result (λ call. call ≡ put_call stage side area.now) }
 {
     let call = match stage {
-        Stage::CloseWrite => DiskCall::Write {
+        PutStage::CloseWrite => DiskCall::Write {
             at: u128::from(side.gate()),
             piece: one_byte(alloc, 0)?,
         },
-        Stage::HeadWrite => DiskCall::Write {
+        PutStage::HeadWrite => DiskCall::Write {
             at: u128::from(side.start()),
             piece: area.head(alloc)?,
         },
-        Stage::BytesWrite => DiskCall::Write {
+        PutStage::BytesWrite => DiskCall::Write {
             at: u128::from(side.start()) + 16,
             piece: area.bytes(alloc)?,
         },
-        Stage::OpenWrite => DiskCall::Write {
+        PutStage::OpenWrite => DiskCall::Write {
             at: u128::from(side.gate()),
             piece: one_byte(alloc, 1)?,
         },
-        Stage::CloseSync | Stage::AreaSync | Stage::OpenSync => DiskCall::Sync,
+        PutStage::CloseSync | PutStage::AreaSync | PutStage::OpenSync => DiskCall::Sync,
     };
     Ok(call)
 }
 
 // The device call that a step makes.
-fn next_call(alloc: Global, step: &Step) -> Result<Option<DiskCall>, AllocError>
+fn next_call(alloc: Global, step: &FileStep) -> Result<Option<DiskCall>, AllocError>
     ensures { IfOk result (λ call. call ≡ next_store_call step.now) }
 {
     let call = match step {
-        Step::Idle => return Ok(None),
-        Step::Put { stage, side, area } => put_call(alloc, *stage, *side, area)?,
-        Step::Opening(Reading::FirstSync) => DiskCall::Sync,
-        Step::Opening(_) => DiskCall::Look,
+        FileStep::Idle => return Ok(None),
+        FileStep::Put { stage, side, area } => put_call(alloc, *stage, *side, area)?,
+        FileStep::Opening(OpeningStage::FirstSync) => DiskCall::Sync,
+        FileStep::Opening(_) => DiskCall::Look,
     };
     Ok(Some(call))
 }
 
 // The stage with which a put begins, by what is known of the gate.
-fn first_stage(slot: Slot) -> Stage
+fn first_stage(slot: Slot) -> PutStage
     ensures { result ≡ first_stage slot }
 {
     if slot.is_closed() {
-        Stage::CloseSync
+        PutStage::CloseSync
     } else {
-        Stage::CloseWrite
+        PutStage::CloseWrite
     }
 }
 
@@ -92,7 +97,7 @@ impl StoreState {
             faults: 0,
             made: outline_of(bytes).made,
             slots: slots_in(bytes),
-            step: Step::Idle,
+            step: FileStep::Idle,
         })
     }
 
@@ -106,10 +111,10 @@ impl StoreState {
         bytes: &Bytes,
     ) -> Result<(), AllocError>
         ensures ok { OnOk result
-            (self.new ≡ file_after self.old (Event.Keep place count bytes.now)) }
+            (self.new ≡ file_after self.old (FileEvent.Keep place count bytes.now)) }
         ensures err { OnErr result (self.new ≡ self.old) }
     {
-        let Step::Idle = self.step else {
+        let FileStep::Idle = self.step else {
             return Ok(());
         };
         if !self.up || !self.made || bytes.as_slice().len() > MAX_SNAPSHOT as usize {
@@ -120,40 +125,40 @@ impl StoreState {
         let slot = self.slots.of(side);
         self.slots.set(side, slot.loosened());
         let stage = first_stage(slot);
-        set_step(&mut self.step, Step::Put { stage, side, area });
+        set_step(&mut self.step, FileStep::Put { stage, side, area });
         Ok(())
     }
 
     // A good call of a put was made.
-    fn put_onward(&mut self, stage: Stage, side: Side, area: NewArea)
+    fn put_onward(&mut self, stage: PutStage, side: Side, area: NewArea)
         ensures { self.new ≡ put_onward self.old stage side area }
     {
         let next = match stage {
-            Stage::CloseWrite => Stage::CloseSync,
-            Stage::CloseSync => {
+            PutStage::CloseWrite => PutStage::CloseSync,
+            PutStage::CloseSync => {
                 self.slots.set(side, Slot::Closed);
-                Stage::HeadWrite
+                PutStage::HeadWrite
             }
-            Stage::HeadWrite => Stage::BytesWrite,
-            Stage::BytesWrite => Stage::AreaSync,
-            Stage::AreaSync => {
+            PutStage::HeadWrite => PutStage::BytesWrite,
+            PutStage::BytesWrite => PutStage::AreaSync,
+            PutStage::AreaSync => {
                 self.slots.set(side, Slot::Unsure);
-                Stage::OpenWrite
+                PutStage::OpenWrite
             }
-            Stage::OpenWrite => Stage::OpenSync,
-            Stage::OpenSync => {
+            PutStage::OpenWrite => PutStage::OpenSync,
+            PutStage::OpenSync => {
                 let slot = Slot::Open {
                     place: area.place(),
                     count: area.count(),
                 };
                 self.slots.set(side, slot);
-                set_step(&mut self.step, Step::Idle);
+                set_step(&mut self.step, FileStep::Idle);
                 return;
             }
         };
         set_step(
             &mut self.step,
-            Step::Put {
+            FileStep::Put {
                 stage: next,
                 side,
                 area,
@@ -168,34 +173,34 @@ impl StoreState {
         self.made = outline_of(self.disk.seen()).made;
         self.slots = slots_in(self.disk.seen());
         self.up = true;
-        set_step(&mut self.step, Step::Idle);
+        set_step(&mut self.step, FileStep::Idle);
     }
 
     // A good call of this step was made.
-    fn go_onward(&mut self, step: Step)
+    fn go_onward(&mut self, step: FileStep)
         ensures { self.new ≡ store_onward self.old step }
     {
         let next = match step {
-            Step::Idle => return,
-            Step::Put { stage, side, area } => {
+            FileStep::Idle => return,
+            FileStep::Put { stage, side, area } => {
                 self.put_onward(stage, side, area);
                 return;
             }
-            Step::Opening(Reading::FirstSync) => Reading::AskSize,
-            Step::Opening(Reading::AskSize) => Reading::ReadFront,
-            Step::Opening(Reading::ReadFront) => Reading::ReadA,
-            Step::Opening(Reading::ReadA) => Reading::ReadB,
-            Step::Opening(Reading::ReadB) => {
+            FileStep::Opening(OpeningStage::FirstSync) => OpeningStage::AskSize,
+            FileStep::Opening(OpeningStage::AskSize) => OpeningStage::ReadFront,
+            FileStep::Opening(OpeningStage::ReadFront) => OpeningStage::ReadA,
+            FileStep::Opening(OpeningStage::ReadA) => OpeningStage::ReadB,
+            FileStep::Opening(OpeningStage::ReadB) => {
                 self.come_up();
                 return;
             }
         };
-        set_step(&mut self.step, Step::Opening(next));
+        set_step(&mut self.step, FileStep::Opening(next));
     }
 
     /// The disk makes its next call. Where that isn't good the disk reads as `reads` from then on.
     pub fn call(&mut self, alloc: Global, good: bool, reads: &Bytes) -> Result<(), AllocError>
-        ensures ok { OnOk result (self.new ≡ file_after self.old (Event.Call good reads.now)) }
+        ensures ok { OnOk result (self.new ≡ file_after self.old (FileEvent.Call good reads.now)) }
         ensures err { OnErr result (self.new ≡ self.old) }
     {
         let Some(call) = next_call(alloc, &self.step)? else {
@@ -204,7 +209,7 @@ impl StoreState {
         if !make_call(alloc, &mut self.disk, &call, good, reads.as_slice())? {
             return Ok(());
         }
-        let step = mem::replace(&mut self.step, Step::Idle);
+        let step = mem::replace(&mut self.step, FileStep::Idle);
         if good {
             self.go_onward(step);
         } else {
@@ -216,7 +221,7 @@ impl StoreState {
     /// The host stops, and the disk holds the image, where a stop may leave it. Where memory runs
     /// out nothing has changed.
     pub fn stop(&mut self, alloc: Global, image: &Bytes) -> Result<(), AllocError>
-        ensures ok { OnOk result (self.new ≡ file_after self.old (Event.Stop image.now)) }
+        ensures ok { OnOk result (self.new ≡ file_after self.old (FileEvent.Stop image.now)) }
         ensures err { OnErr result (self.new ≡ self.old) }
     {
         if !self.disk.is_image(image.as_slice()) {
@@ -224,16 +229,16 @@ impl StoreState {
         }
         self.disk = PlainDisk::settled(alloc, image.as_slice())?;
         self.up = false;
-        set_step(&mut self.step, Step::Idle);
+        set_step(&mut self.step, FileStep::Idle);
         Ok(())
     }
 
     /// An opening begins, where the host is down.
     pub fn recover(&mut self)
-        ensures { self.new ≡ file_after self.old Event.Recover }
+        ensures { self.new ≡ file_after self.old FileEvent.Recover }
     {
         if !self.up {
-            set_step(&mut self.step, Step::Opening(Reading::FirstSync));
+            set_step(&mut self.step, FileStep::Opening(OpeningStage::FirstSync));
         }
     }
 
@@ -242,7 +247,7 @@ impl StoreState {
         ensures { self.new ≡ begins_opening self.old }
     {
         self.up = false;
-        set_step(&mut self.step, Step::Opening(Reading::FirstSync));
+        set_step(&mut self.step, FileStep::Opening(OpeningStage::FirstSync));
     }
 
     /// The snapshot of this OPEN row after so many inputs is due: their number is a positive multiple
@@ -272,14 +277,14 @@ impl StoreState {
     pub fn is_opening(&self) -> bool
         ensures { result ≡ is_opening self.now.step }
     {
-        matches!(self.step, Step::Opening(_))
+        matches!(self.step, FileStep::Opening(_))
     }
 
     /// Whether a put is under way.
     pub fn is_putting(&self) -> bool
         ensures { result ≡ is_putting self.now.step }
     {
-        matches!(self.step, Step::Put { .. })
+        matches!(self.step, FileStep::Put { .. })
     }
 
     /// Whether a stop may leave this image.

@@ -9,8 +9,8 @@ use Rattle.glk_dispatch.specs.declared.glk.Prompt.{Prompt}
 use Rattle.snap_fields.specs.Laws.{SpellsFields}
 use Rattle.snap_fields.specs.Printing.{print_fields}
 use Rattle.snap_fields.specs.declared.fields.Fields.{Fields}
-use Rattle.snap_fields.specs.declared.fields.Setup.{Setup}
-use Rattle.snap_fields.specs.declared.fields.Waiting.{Waiting}
+use Rattle.snap_fields.specs.declared.fields.SnapSetup.{SnapSetup}
+use Rattle.snap_fields.specs.declared.fields.SnapWaiting.{SnapWaiting}
 use Rattle.snap_fields.proofs.WholeLaws as spelled
 use Rattle.snap_glk.specs.Made.{glk_with_fields}
 use Rattle.snap_glk.specs.Texts.{AreTexts}
@@ -121,7 +121,7 @@ one-spelling image a b w x y = x.spelled.printed ∙ sym y.spelled.printed
 
 -- ---- what the functions make
 
-pub fields-are : (w : WorldState) (setup : Setup) (parts : MachineParts) (waiting : Waiting)
+pub fields-are : (w : WorldState) (setup : SnapSetup) (parts : MachineParts) (waiting : SnapWaiting)
     (glk : GlkFields) (show : List ℕ) → setup ≡ world_setup w → parts ≡ stage_parts w.image w.stage
     → waiting ≡ waiting_of w.glk w.stage → glk ≡ glk_fields w.glk → show ≡ w.last
     → all_fields setup parts waiting glk show ≡ fields_of w

@@ -4,8 +4,8 @@ use Rattle.glk_dispatch.specs.Glk.{no_prompt}
 use Rattle.glk_dispatch.specs.declared.glk.Glk.{Glk}
 use Rattle.glk_dispatch.specs.declared.glk.Prompt.{Prompt}
 use Rattle.snap_fields.specs.declared.fields.Fields.{Fields}
-use Rattle.snap_fields.specs.declared.fields.Waiting.{Waiting}
-use Rattle.snap_fields.specs.declared.fields.Waiting.TheVariants as waiting
+use Rattle.snap_fields.specs.declared.fields.SnapWaiting.{SnapWaiting}
+use Rattle.snap_fields.specs.declared.fields.SnapWaiting.TheVariants as waiting
 use Rattle.snap_glk.specs.Made.{glk_with_fields}
 use Rattle.snap_glk.specs.declared.fields.GlkFields.{GlkFields}
 use Rattle.snap_machine.specs.Fields.{fields_with}
@@ -34,13 +34,13 @@ glk_in f = record {
 }
 
 -- the reference of the event that is waited for, and what a prompt waits with; 0 where none does
-abbrev pub event_in : Waiting → ℕ
+abbrev pub event_in : SnapWaiting → ℕ
 event_in waiting.Quit = 0
 event_in (waiting.Fault n) = 0
 event_in (waiting.Select reference store) = reference
 event_in (waiting.Prompt usage mode rock store) = 0
 
-abbrev pub prompt_in : Waiting → Prompt
+abbrev pub prompt_in : SnapWaiting → Prompt
 prompt_in waiting.Quit = no_prompt
 prompt_in (waiting.Fault n) = no_prompt
 prompt_in (waiting.Select reference store) = no_prompt
@@ -48,7 +48,7 @@ prompt_in (waiting.Prompt usage mode rock store) =
     record { usage = usage; mode = mode; rock = rock }
 
 -- where the story with this image, begun with this seed, waits, or how it ended
-abbrev pub stage_made : List ℕ → ℕ → MachineParts → Waiting → Option StageFields
+abbrev pub stage_made : List ℕ → ℕ → MachineParts → SnapWaiting → Option StageFields
 stage_made image seed parts waiting.Quit = Some stage.Quit
 stage_made image seed parts (waiting.Fault n) = Some (stage.Fault n)
 stage_made image seed parts (waiting.Select reference store) =

@@ -5,16 +5,16 @@ ghost use Rattle.story_snap.specs.Bytes.{HasRomsAt, IsWorldOf};
 ghost use Rattle.story_snap.specs.Fields as spec;
 
 use glk_dispatch::Glk;
-use snap_fields::{Fields, Items, Setup, Waiting};
+use snap_fields::{Fields, Items, SnapSetup, SnapWaiting};
 use snap_machine::{MachineParts, store_of};
 use std::alloc::{AllocError, Global};
 use story_run::{Stage, World};
 
-fn setup_of(world: &World<'_>) -> Setup
+fn setup_of(world: &World<'_>) -> SnapSetup
     ensures { result ≡ spec.world_setup world.now }
 {
     let glk = world.glk();
-    Setup {
+    SnapSetup {
         seed: world.seed(),
         cols: glk.cols(),
         rows: glk.rows(),
@@ -35,25 +35,25 @@ fn parts_of(alloc: Global, world: &World<'_>) -> Result<MachineParts, AllocError
     }
 }
 
-fn waiting_of(glk: &Glk, stage: &Stage<'_>) -> Waiting
+fn waiting_of(glk: &Glk, stage: &Stage<'_>) -> SnapWaiting
     ensures { result ≡ spec.waiting_of glk.now stage.now }
 {
     match stage {
-        Stage::AtSelect(machine) => Waiting::Select {
+        Stage::AtSelect(machine) => SnapWaiting::Select {
             reference: glk.event(),
             store: store_of(machine),
         },
         Stage::AtPrompt(machine) => {
             let prompt = glk.prompt();
-            Waiting::Prompt {
+            SnapWaiting::Prompt {
                 usage: prompt.usage,
                 mode: prompt.mode,
                 rock: prompt.rock,
                 store: store_of(machine),
             }
         }
-        Stage::Quit => Waiting::Quit,
-        Stage::Fault(code) => Waiting::Fault(*code),
+        Stage::Quit => SnapWaiting::Quit,
+        Stage::Fault(code) => SnapWaiting::Fault(*code),
     }
 }
 

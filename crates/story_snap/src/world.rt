@@ -8,33 +8,33 @@ ghost use Rattle.story_snap.specs.Made as spec;
 
 use glk_dispatch::Prompt;
 use glulx_image::Image;
-use snap_fields::{Fields, Setup, Waiting};
+use snap_fields::{Fields, SnapSetup, SnapWaiting};
 use snap_glk::{GlkFields, glk_of};
 use snap_machine::{MachineParts, machine_fields_of};
 use std::alloc::{AllocError, Global};
 use story_run::{StageFields, Story, World, WorldFields};
 use story_text::Bytes;
 
-fn event_in(waiting: Waiting) -> u32
+fn event_in(waiting: SnapWaiting) -> u32
     ensures { result ≡ spec.event_in waiting }
 {
     match waiting {
-        Waiting::Select { reference, .. } => reference,
-        Waiting::Quit | Waiting::Fault(_) | Waiting::Prompt { .. } => 0,
+        SnapWaiting::Select { reference, .. } => reference,
+        SnapWaiting::Quit | SnapWaiting::Fault(_) | SnapWaiting::Prompt { .. } => 0,
     }
 }
 
-fn prompt_in(waiting: Waiting) -> Prompt
+fn prompt_in(waiting: SnapWaiting) -> Prompt
     ensures { result ≡ spec.prompt_in waiting }
 {
     match waiting {
-        Waiting::Prompt {
+        SnapWaiting::Prompt {
             usage,
             mode,
             rock,
             ..
         } => Prompt { usage, mode, rock },
-        Waiting::Quit | Waiting::Fault(_) | Waiting::Select { .. } => Prompt {
+        SnapWaiting::Quit | SnapWaiting::Fault(_) | SnapWaiting::Select { .. } => Prompt {
             usage: 0,
             mode: 0,
             rock: 0,
@@ -48,19 +48,19 @@ fn stage_made<'i>(
     image: &Image<'i>,
     seed: u64,
     parts: &MachineParts,
-    waiting: Waiting,
+    waiting: SnapWaiting,
 ) -> Result<Option<StageFields<'i>>, AllocError>
     ensures { IfOk result (λ stage. stage
         ≡ spec.stage_made image.now seed parts.now waiting) }
 {
     match waiting {
-        Waiting::Quit => Ok(Some(StageFields::Quit)),
-        Waiting::Fault(code) => Ok(Some(StageFields::Fault(code))),
-        Waiting::Select { store, .. } => {
+        SnapWaiting::Quit => Ok(Some(StageFields::Quit)),
+        SnapWaiting::Fault(code) => Ok(Some(StageFields::Fault(code))),
+        SnapWaiting::Select { store, .. } => {
             let fields = machine_fields_of(alloc, image, seed, parts, store)?;
             Ok(fields.map(StageFields::AtSelect))
         }
-        Waiting::Prompt { store, .. } => {
+        SnapWaiting::Prompt { store, .. } => {
             let fields = machine_fields_of(alloc, image, seed, parts, store)?;
             Ok(fields.map(StageFields::AtPrompt))
         }
@@ -70,9 +70,9 @@ fn stage_made<'i>(
 // The world of the story that has these parts of fields.
 fn world_of_parts<'i>(
     alloc: Global,
-    setup: Setup,
+    setup: SnapSetup,
     parts: &MachineParts,
-    waiting: Waiting,
+    waiting: SnapWaiting,
     glk_fields: &GlkFields,
     last: Bytes,
     story: &Story<'i>,

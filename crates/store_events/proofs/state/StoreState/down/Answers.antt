@@ -2,7 +2,7 @@ use Rattle.std.proofs.Common.{◌≡◌, false, rules, subst}
 use Rattle.store_events.specs.Events.{store_down_over}
 use Rattle.store_events.specs.Steady.{IsSteady}
 use Rattle.store_events.specs.declared.state.StoreState.{StoreState}
-use Rattle.store_events.specs.declared.state.Step.TheVariants.{Idle}
+use Rattle.store_events.specs.declared.state.FileStep.TheVariants.{Idle}
 use Rattle.store_events.proofs.SteadyLemmas.{down_steady}
 use Rattle.store_events.proofs.state.StoreState.down.Goals as goal
 
