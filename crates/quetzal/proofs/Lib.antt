@@ -5,6 +5,5 @@ pub mod HeapLemmas
 pub mod OrderLemmas
 pub mod ReadLemmas
 pub mod WriteLemmas
-pub mod StateLemmas
 pub mod LawLemmas
 mod StandardFacts

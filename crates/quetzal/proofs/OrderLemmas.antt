@@ -1,20 +1,31 @@
 -- Blocks by their addresses, none of them empty or over another, have one order alone.
-use Rattle.std.proofs.Common.{◌≡◌, ℕ, ◌+◌, ◌<◌, ◌≤◌, Bool, true}
+use Rattle.std.proofs.Common.{◌≡◌, ℕ, zero, suc, ◌+◌, ◌<◌, ◌≤◌, Bool, true}
 use Rattle.std.proofs.Common.{false, ◌&&◌, nat_lt, nat_le, cond, List, [], ◌∷◌}
-use Rattle.std.proofs.Common.{length, refl, ap, sym, ◌∙◌, arith, IsTrue}
+use Rattle.std.proofs.Common.{length, Option, Some, None, Result, Ok, Err}
+use Rattle.std.proofs.Common.{refl, ap, sym, subst, ◌∙◌, arith, IsTrue}
 use Rattle.std.proofs.Math.ListN.{get_or}
 use Rattle.std.proofs.lemmas.Bool.{and_parts}
 use Rattle.std.proofs.lemmas.Bool.Decides.{nat_tests}
 use Rattle.std.proofs.lemmas.List.Sorted.{IsNonDecreasingBy-drop}
+use Rattle.std.proofs.lemmas.List.Sorted.{IsNonDecreasingBy-from_all_adjacent, IsPermutation-refl}
 use Rattle.std.proofs.lemmas.List.Sorted.{sum_by-IsPermutation, length_permutation}
 use Rattle.std.proofs.lemmas.List.Sorted.{IsPermutation-trans, IsPermutation-sym}
+use Rattle.std.proofs.lemmas.List.Sorted.{IsPermutation-cons, IsPermutation-middle}
 use Rattle.std.proofs.lemmas.List.Sums.{sum_by-cons}
 use Rattle.std.specs.List.{sum_by}
 use Rattle.std.specs.List.Sorted.{IsNonDecreasingBy, IsPermutation}
+use Rattle.std.specs.Result.{IfOk}
+use Rattle.vm_heap.specs.Allocation.{with_block}
 use Rattle.vm_heap.specs.HeapMap.{in_order, is_heap, block_end, heap_end}
-use Rattle.quetzal.specs.Heap.{HaveOrder, heap_fits, is_placed}
 use Rattle.vm_heap.specs.declared.block.Block.{Block}
 use Rattle.vm_heap.proofs.HeapLemmas.{none, Next, next_of, in_order-lower, is_heap-order}
+use Rattle.vm_memory.specs.Chaining.{◌>>=◌}
+use Rattle.quetzal.specs.Fault.{or_else}
+use Rattle.quetzal.specs.Heap.{by_address, heap_fits, heap_in, heap_listed, heap_of, is_placed}
+use Rattle.quetzal.specs.Laws.{IsHeapIn, ReadsBlocksInAnyOrder}
+use Rattle.quetzal.specs.declared.fault.SaveFault.{SaveFault}
+use Rattle.quetzal.specs.declared.fault.SaveFault.TheVariants.{BadHeap}
+use Rattle.quetzal.specs.declared.heap.SavedHeap.{SavedHeap}
 
 -- what the blocks have in all
 abbrev total : (Block → ℕ) → List Block → ℕ
@@ -163,23 +174,124 @@ fits-order endmem size start (b ∷ bs) h =
     let heap : is_heap start (b ∷ bs) ≡ true = (and_parts _ _ h).0 in
     in_order-lower (b ∷ bs) 0 start (omega arith) (is_heap-order start (b ∷ bs) heap)
 
--- blocks that fit in some order are these, where these rise
-pub only_order : (endmem size start : ℕ) (pairs blocks s : List Block)
-    → IsNonDecreasingBy (λ b. b.at) s
-    → HaveOrder endmem size start pairs blocks
-    → IsPermutation pairs s → s ≡ blocks
-only_order endmem size start pairs blocks s up have order =
+-- blocks that fit are these, where these are the same and rise
+only_order : (endmem size start : ℕ) (pairs blocks s : List Block)
+    → IsNonDecreasingBy (λ b. b.at) s → IsPermutation pairs s
+    → IsPermutation pairs blocks → heap_fits endmem size start blocks ≡ true
+    → s ≡ blocks
+only_order endmem size start pairs blocks s up order same fits =
     same_order 0 s blocks up
-    (IsPermutation-trans blocks pairs s (IsPermutation-sym pairs blocks have.order) order)
-    (fits-order endmem size start blocks have.fits)
+    (IsPermutation-trans blocks pairs s (IsPermutation-sym pairs blocks same) order)
+    (fits-order endmem size start blocks fits)
 
--- blocks by their addresses that don't fit have no order that does
-pub one_order : (endmem size start : ℕ) (pairs blocks s : List Block)
-    → IsNonDecreasingBy (λ b. b.at) s
-    → HaveOrder endmem size start pairs blocks
-    → IsPermutation pairs s
-    → heap_fits endmem size start s ≡ false → ⊥
-one_order endmem size start pairs blocks s up have order bad =
-    let same = only_order endmem size start pairs blocks s up have order in
-    let both : true ≡ false = sym have.fits ∙ ap (heap_fits endmem size start) (sym same) ∙ bad in
-    grind (arith, both)
+-- ---- blocks by their addresses
+
+-- addresses that don't fall, from n on
+abbrev Up : ℕ → List Block → Type 0
+Up n [] = Unit {0}
+Up n (b ∷ bs) = (n ≤ b.at) × Up b.at bs
+
+put-up : (n : ℕ) (x b : Block) (bs : List Block) (t : Bool)
+    → nat_lt x.at b.at ≡ t → n ≤ x.at → n ≤ b.at → Up b.at bs
+    → (b.at ≤ x.at → Up b.at (with_block x bs)) → Up n (cond t (x ∷ b ∷ bs) (b ∷ with_block x bs))
+put-up n x b bs true is le here u rest = (le, (grind (arith, nat_tests, is), u))
+put-up n x b bs false is le here u rest = (here, rest (grind (arith, nat_tests, is)))
+
+with_block-up : (n : ℕ) (x : Block) (bs : List Block) → n ≤ x.at → Up n bs → Up n (with_block x bs)
+with_block-up n x [] le u = (le, tt)
+with_block-up n x (b ∷ bs) le u =
+    put-up n x b bs (nat_lt x.at b.at) refl le u.0 u.1 (λ far. with_block-up b.at x bs far u.1)
+
+by_address-up : (bs : List Block) → Up 0 (by_address bs)
+by_address-up [] = tt
+by_address-up (b ∷ bs) = with_block-up 0 b (by_address bs) (omega arith) (by_address-up bs)
+
+adjacent : (n : ℕ) (bs : List Block) → Up n bs → (k : ℕ) (d : Block) → k + 1 < length bs
+    → (get_or bs k d).at ≤ (get_or bs (k + 1) d).at
+adjacent n [] u k d lt = absurd (omega arith)
+adjacent n (b ∷ []) u k d lt = absurd (omega arith)
+adjacent n (b ∷ c ∷ bs) u zero d lt = u.1.0
+adjacent n (b ∷ c ∷ bs) u (suc k) d lt =
+    let moved : suc k + 1 ≡ suc (k + 1) = omega arith in
+    subst (λ i. (get_or (c ∷ bs) k d).at ≤ (get_or (b ∷ c ∷ bs) i d).at) (sym moved)
+    (adjacent b.at (c ∷ bs) u.1 k d (omega (arith, lt)))
+
+by_address-rises : (bs : List Block) → IsNonDecreasingBy (λ b. b.at) (by_address bs)
+by_address-rises bs =
+    IsNonDecreasingBy-from_all_adjacent (λ b. b.at) (by_address bs)
+    (adjacent 0 (by_address bs) (by_address-up bs))
+
+put-order : (x b : Block) (bs : List Block) (t : Bool) → IsPermutation (x ∷ bs) (with_block x bs)
+    → IsPermutation (x ∷ b ∷ bs) (cond t (x ∷ b ∷ bs) (b ∷ with_block x bs))
+put-order x b bs true rest = IsPermutation-refl (x ∷ b ∷ bs)
+put-order x b bs false rest =
+    IsPermutation-trans (x ∷ b ∷ bs) (b ∷ x ∷ bs) (b ∷ with_block x bs)
+    (IsPermutation-middle (x ∷ []) b bs) (IsPermutation-cons b (x ∷ bs) (with_block x bs) rest)
+
+with_block-order : (x : Block) (bs : List Block) → IsPermutation (x ∷ bs) (with_block x bs)
+with_block-order x [] = IsPermutation-refl (x ∷ [])
+with_block-order x (b ∷ bs) = put-order x b bs (nat_lt x.at b.at) (with_block-order x bs)
+
+by_address-order : (bs : List Block) → IsPermutation bs (by_address bs)
+by_address-order [] = IsPermutation-refl []
+by_address-order (b ∷ bs) =
+    IsPermutation-trans (b ∷ bs) (b ∷ by_address bs) (with_block b (by_address bs))
+    (IsPermutation-cons b bs (by_address bs) (by_address-order bs))
+    (with_block-order b (by_address bs))
+
+-- ---- the heap
+
+-- blocks that rise are the heap of the listed ones, or both are none
+pub one_heap : (endmem size start : ℕ) (pairs s : List Block)
+    → IsNonDecreasingBy (λ b. b.at) s → IsPermutation pairs s
+    → heap_of endmem size start (by_address pairs) ≡ heap_of endmem size start s
+one_heap endmem size start pairs s up order =
+    by (heap_fits endmem size start (by_address pairs)) (heap_fits endmem size start s) refl refl
+  where
+    by : (t u : Bool) → heap_fits endmem size start (by_address pairs) ≡ t
+        → heap_fits endmem size start s ≡ u
+        → heap_of endmem size start (by_address pairs) ≡ heap_of endmem size start s
+    by true u is-t is-u =
+        ap (heap_of endmem size start)
+        (sym (only_order endmem size start pairs (by_address pairs) s up order
+        (by_address-order pairs) is-t))
+    by false true is-t is-u =
+        ap (heap_of endmem size start)
+        (only_order endmem size start pairs s (by_address pairs) (by_address-rises pairs)
+        (by_address-order pairs) order is-u)
+    by false false is-t is-u = rw (is-t, is-u) refl
+
+pub heap_is : (endmem size : ℕ) (chunk : Option (List ℕ)) (heap : SavedHeap)
+    → IsHeapIn endmem size chunk heap → heap_in endmem size chunk ≡ Ok heap
+heap_is endmem size chunk heap h =
+    let same : by_address h.blocks ≡ heap.blocks =
+    only_order endmem size heap.start h.blocks heap.blocks (by_address h.blocks)
+    (by_address-rises h.blocks) (by_address-order h.blocks) h.order h.fits in
+    rw (h.listed, same, h.fits) refl
+
+pub heap_read : (endmem size : ℕ) (chunk : Option (List ℕ))
+    → IfOk (heap_in endmem size chunk) (IsHeapIn endmem size chunk)
+heap_read endmem size chunk = by (heap_listed chunk) refl
+  where
+    fit : (start : ℕ) (blocks : List Block) (t : Bool)
+        → heap_listed chunk ≡ Some (start, blocks)
+        → heap_fits endmem size start (by_address blocks) ≡ t
+        → IfOk (cond {A = Result SavedHeap SaveFault} t
+        (Ok (record { start = start; blocks = by_address blocks })) (Err BadHeap))
+        (IsHeapIn endmem size chunk)
+    fit start blocks true listed fits = record {
+      blocks = blocks;
+      listed = listed;
+      order = by_address-order blocks;
+      fits = fits;
+    }
+    fit start blocks false listed fits = tt
+
+    by : (l : Option (ℕ × List Block)) → heap_listed chunk ≡ l
+        → IfOk (or_else BadHeap l >>= (λ l. heap_of endmem size l.0 (by_address l.1)))
+        (IsHeapIn endmem size chunk)
+    by None is = tt
+    by (Some l) is = fit l.0 l.1 (heap_fits endmem size l.0 (by_address l.1)) is refl
+
+pub reads_in_any_order : ReadsBlocksInAnyOrder
+reads_in_any_order = record { any = heap_is; only = heap_read }

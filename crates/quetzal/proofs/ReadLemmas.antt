@@ -1,85 +1,80 @@
 -- What a reader's parts answer, put together.
-use Rattle.std.proofs.Common.{◌≡◌, ℕ, ◌%◌, ◌≤◌, true}
-use Rattle.std.proofs.Common.{List, [], ◌∷◌, length, ap}
-use Rattle.std.proofs.Common.{Result, Ok, Err, refl, sym, subst, ◌∙◌, arith}
+use Rattle.std.proofs.Common.{◌≡◌, ℕ, ◌%◌, ◌≤◌, Bool, true, nat_le}
+use Rattle.std.proofs.Common.{List, [], ◌∷◌, length, Option, Result, Ok, ap, sym, subst}
+use Rattle.std.proofs.Common.{refl, ◌∙◌, arith}
 use Rattle.std.proofs.lemmas.Bool.{and_parts}
 use Rattle.std.proofs.lemmas.Bool.Decides.{nat_tests}
-use Rattle.glulx_image.specs.Header.{IsLaidOut, endmem}
+use Rattle.std.specs.Bool.{Decides, one_answer}
+use Rattle.std.specs.Result.{IfOk}
+use Rattle.glulx_image.specs.Header.{IsLaidOut, endmem, stack_size}
 use Rattle.vm_heap.specs.HeapMap.{is_heap, heap_end}
 use Rattle.vm_heap.specs.declared.block.Block.{Block}
+use Rattle.vm_memory.specs.Chaining.{◌>>=◌}
 use Rattle.vm_memory.specs.MemoryMap.{MemoryMap, Origin}
+use Rattle.vm_stack.specs.Saved.{SavedStack}
+use Rattle.vm_stack.specs.SavedTest.{is_saved_stack}
+use Rattle.vm_stack.proofs.SavedTests.{saved_decided}
 use Rattle.vm_undo.specs.Contents.{IsMemoryOf}
-use Rattle.vm_undo.specs.SavedState.{IsHeapOver, IsSavedOf, IsSize}
-use Rattle.vm_undo.specs.declared.saved.Saved.{Saved}
-use Rattle.quetzal.specs.Chunks.{Pieces}
+use Rattle.vm_undo.specs.SavedState.{IsHeapOver, IsSize}
 use Rattle.quetzal.specs.Fault.{FailsOnSave}
-use Rattle.quetzal.specs.Heap.{ReadsHeap, heap_fits, is_placed}
-use Rattle.quetzal.specs.Save.{identity, memory_in, origin}
-use Rattle.quetzal.specs.Save.{IsStackOf, RefusesSave, IsStateIn, IsStateOf}
-use Rattle.quetzal.specs.Save.{ReadsHeapOf, ReadsStack, ReadsMemory, ReadsStory}
+use Rattle.quetzal.specs.Heap.{heap_fits, heap_in, is_placed}
+use Rattle.quetzal.specs.Laws.{IsHeapIn, IsStackOf, TakesStacksOfFrames}
+use Rattle.quetzal.specs.Save.{IsStateOf, is_stack_of, origin}
 use Rattle.quetzal.specs.declared.fault.SaveFault.{SaveFault}
 use Rattle.quetzal.specs.declared.fault.SaveFault.TheVariants.{NotSave, Cut, OtherStory, BadRuns}
 use Rattle.quetzal.specs.declared.fault.SaveFault.TheVariants.{BadStack, BadHeap, NoMemory}
+use Rattle.quetzal.specs.declared.heap.SavedHeap.{SavedHeap}
+use Rattle.quetzal.proofs.OrderLemmas.{heap_read}
 
 -- ---- refusals
 
-no_memory : (image : List ℕ) (p : Pieces) (r : Result MemoryMap SaveFault)
-    → ReadsMemory image p r (Err NoMemory)
-no_memory image p (Ok m) =
-    record { good = λ s. (tt, λ e. absurd (grind (arith, e))); bad = λ s. tt }
-no_memory image p (Err e) = tt
+-- a step that is refused ends those behind it
+pub fails-bind : {A B : Type 0} (e : SaveFault) (r : Result A SaveFault)
+    (f : A → Result B SaveFault) → FailsOnSave e r → FailsOnSave e (r >>= f)
+fails-bind NoMemory r f h = tt
+fails-bind NotSave r f h = ap (λ r. r >>= f) h
+fails-bind Cut r f h = ap (λ r. r >>= f) h
+fails-bind OtherStory r f h = ap (λ r. r >>= f) h
+fails-bind BadRuns r f h = ap (λ r. r >>= f) h
+fails-bind BadStack r f h = ap (λ r. r >>= f) h
+fails-bind BadHeap r f h = ap (λ r. r >>= f) h
 
-refused_same : (image : List ℕ) (p : Pieces) (r : Result MemoryMap SaveFault) (e : SaveFault)
-    → r ≡ Err e → RefusesSave e (Err e) → ReadsMemory image p r (Err e)
-refused_same image p r e is same = rw is same
+-- ---- the stack
 
-refused_by : (image : List ℕ) (p : Pieces) (r : Result MemoryMap SaveFault) (e : SaveFault)
-    → FailsOnSave e r → ReadsMemory image p r (Err e)
-refused_by image p r NoMemory h = no_memory image p r
-refused_by image p r NotSave h = refused_same image p r NotSave h refl
-refused_by image p r Cut h = refused_same image p r Cut h refl
-refused_by image p r OtherStory h = refused_same image p r OtherStory h refl
-refused_by image p r BadRuns h = refused_same image p r BadRuns h refl
-refused_by image p r BadStack h = refused_same image p r BadStack h refl
-refused_by image p r BadHeap h = refused_same image p r BadHeap h refl
+stack_yes : (image bytes : List ℕ)
+    → IsLaidOut image → is_stack_of image bytes ≡ true
+    → IsStackOf image bytes
+stack_yes image bytes laid e =
+    let both = and_parts (nat_le (length bytes) (stack_size image)) (is_saved_stack bytes) e in
+    let within : nat_le (length bytes) (stack_size image) ≡ true = both.0 in
+    let size : length bytes ≤ stack_size image = grind (arith, nat_tests, within) in
+    let most = laid.stack_limit in
+    record { frames = (saved_decided bytes (omega (arith, size, most))).0 both.1; size = size }
 
-unheaped_by : (image : List ℕ) (p : Pieces) (m : MemoryMap) (e : SaveFault)
-    → ReadsHeap (endmem image) (length m.bytes) p.heap (Err e)
-    → ReadsHeapOf image p m (Err e)
-unheaped_by image p m NoMemory h = (tt, λ e. absurd (grind (arith, e)))
-unheaped_by image p m BadHeap h = (refl, λ e. h)
-unheaped_by image p m NotSave h = absurd h
-unheaped_by image p m Cut h = absurd h
-unheaped_by image p m OtherStory h = absurd h
-unheaped_by image p m BadRuns h = absurd h
-unheaped_by image p m BadStack h = absurd h
+stack_found : (image bytes : List ℕ)
+    → IsLaidOut image → IsStackOf image bytes
+    → is_stack_of image bytes ≡ true
+stack_found image bytes laid s =
+    let most = laid.stack_limit in
+    let within = s.size in
+    let size : nat_le (length bytes) (stack_size image) ≡ true = grind (arith, nat_tests, within) in
+    let test : is_saved_stack bytes ≡ true =
+    (saved_decided bytes (omega (arith, within, most))).1 s.frames in
+    rw (size, test) refl
 
-pub heap_refused : (image : List ℕ) (p : Pieces) (m : MemoryMap) (e : SaveFault) (end size : ℕ)
-    → end ≡ endmem image → size ≡ length m.bytes
-    → ReadsHeap end size p.heap (Err e) → ReadsHeapOf image p m (Err e)
-heap_refused image p m e end size end-is size-is h =
-    unheaped_by image p m e
-    (subst (λ n. ReadsHeap n (length m.bytes) p.heap (Err e)) end-is
-    (subst (λ n. ReadsHeap end n p.heap (Err e)) size-is h))
+pub stacks_of_frames : TakesStacksOfFrames
+stacks_of_frames image bytes laid = (stack_yes image bytes laid, stack_found image bytes laid)
 
-pub memory_refused : (image : List ℕ) (p : Pieces) (r : Result MemoryMap SaveFault) (e : SaveFault)
-    → p.header ≡ identity image → r ≡ memory_in image p → FailsOnSave e r → ReadsStory image p (Err e)
-memory_refused image p r e own is h =
-    record {
-      own = λ o. subst (λ x. ReadsMemory image p x (Err e)) is (refused_by image p r e h);
-      other = λ ne. absurd (ne own);
-    }
-
-pub story_read : (image : List ℕ) (p : Pieces) (m : MemoryMap) (r : Result MemoryMap SaveFault)
-    (result : Result Saved SaveFault)
-    → p.header ≡ identity image → r ≡ Ok m
-    → r ≡ memory_in image p → ReadsStack image p m result
-    → ReadsStory image p result
-story_read image p m r result own ok is h =
-    record {
-      own = λ o. subst (λ x. ReadsMemory image p x result) (sym ok ∙ is) h;
-      other = λ ne. absurd (ne own);
-    }
+-- what no more bytes than the story's stack holds are, by a test of frames
+pub stack_tested : (image bytes : List ℕ) (t : Bool)
+    → IsLaidOut image → length bytes ≤ stack_size image → Decides t (SavedStack bytes)
+    → t ≡ is_stack_of image bytes
+stack_tested image bytes t laid within tells =
+    one_answer t (is_stack_of image bytes) tells (
+      λ e. (stack_yes image bytes laid e).frames,
+      λ s. stack_found image bytes laid
+          (record { frames = s; size = within }),
+    )
 
 -- ---- the state
 
@@ -105,22 +100,30 @@ over_of end size start (b ∷ bs) page h =
       ends = λ l. grind (arith, nat_tests, placed);
     }
 
-pub state_of : (image : List ℕ) (p : Pieces) (m : MemoryMap) (s : Saved) → IsLaidOut image
-    → IsMemoryOf (origin image) m → IsStackOf image p.stack → IsStateIn image p m s
-    → IsStateOf image s
-state_of image p m s laid of frames is =
-    let end : m.endmem ≡ endmem image = ap (λ (o : Origin). o.endmem) of.image in
-    let size : IsSize m.endmem (length m.bytes) =
-    subst (λ (e : ℕ). IsSize e (length m.bytes)) (sym end) of.size in
-    let heap : IsHeapOver m.endmem (length m.bytes) s.heap_start s.heap =
-    subst (λ (e : ℕ). IsHeapOver e (length m.bytes) s.heap_start s.heap) (sym end)
-    (over_of (endmem image) (length m.bytes) s.heap_start s.heap laid.end_page is.heap.order.fits) in
+pub state_of : (image bytes stack : List ℕ) (m : MemoryMap) (heap : SavedHeap)
+    (chunk : Option (List ℕ)) (end size : ℕ) → IsLaidOut image
+    → IsMemoryOf (origin image) m → is_stack_of image bytes ≡ true → stack ≡ bytes
+    → end ≡ endmem image → size ≡ length m.bytes → heap_in end size chunk ≡ Ok heap
+    → IsStateOf image
+    (record { memory = m; stack = stack; heap = heap.blocks; heap_start = heap.start })
+state_of image bytes stack m heap chunk end size laid of taken same end-is size-is is =
+    let frames : IsStackOf image stack =
+    stack_yes image stack laid (ap (is_stack_of image) same ∙ taken) in
+    let its : m.endmem ≡ endmem image = ap (λ (o : Origin). o.endmem) of.image in
+    let read : IsHeapIn end size chunk heap =
+    subst (λ r. IfOk r (IsHeapIn end size chunk)) is (heap_read end size chunk) in
+    let over : IsHeapOver end size heap.start heap.blocks =
+    over_of end size heap.start heap.blocks (ap (λ n. n % 256) end-is ∙ laid.end_page) read.fits in
     record {
-      saved = subst (λ (x : MemoryMap). IsSavedOf (origin image)
-          (record { memory = x; stack = s.stack; heap = s.heap; heap_start = s.heap_start }))
-          (sym is.memory) (record {
-            image = of.image;
-            saved = record { size = size; stack = rw is.stack frames.frames; heap = heap };
-          });
-      size = rw is.stack frames.size;
+      saved = record {
+        image = of.image;
+        saved = record {
+          size = subst (λ (e : ℕ). IsSize e (length m.bytes)) (sym its) of.size;
+          stack = frames.frames;
+          heap = subst (λ (e : ℕ). IsHeapOver e (length m.bytes) heap.start heap.blocks)
+              (end-is ∙ sym its)
+              (subst (λ (n : ℕ). IsHeapOver end n heap.start heap.blocks) size-is over);
+        };
+      };
+      size = frames.size;
     }

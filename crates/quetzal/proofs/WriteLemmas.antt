@@ -6,7 +6,9 @@ use Rattle.std.proofs.Common.{ap, sym, subst, ◌∙◌, arith, IsTrue}
 use Rattle.std.proofs.lemmas.Bool.Decides.{nat_tests}
 use Rattle.std.proofs.lemmas.List.{length-append, length-take, length-drop}
 use Rattle.std.proofs.lemmas.List.Sorted.{IsPermutation-refl}
+use Rattle.std.proofs.lemmas.Slice.Eq.{bytes_eq-Decides}
 use Rattle.std.specs.Int.{w32, to_be_bytes}
+use Rattle.std.specs.Str.{bytes_eq}
 use Rattle.vm_heap.specs.HeapMap.{in_order, is_heap, heap_end, block_end}
 use Rattle.vm_heap.specs.declared.block.Block.{Block}
 use Rattle.vm_heap.proofs.HeapLemmas.{Next, next_of, in_order-limit}
@@ -22,18 +24,18 @@ use Rattle.vm_undo.proofs.ContentsLemmas.{given_back}
 use Rattle.vm_undo.proofs.UndoLemmas.{memory_of_image}
 use Rattle.quetzal.specs.Chunks.{Pieces, parts_of}
 use Rattle.quetzal.specs.Fault.{or_else}
-use Rattle.quetzal.specs.Heap.{IsHeapIn, block_bytes, blocks_in}
-use Rattle.quetzal.specs.Heap.{heap_fits, is_without, heap_listed, print_heap}
+use Rattle.quetzal.specs.Heap.{block_bytes, blocks_in, heap_fits, heap_in, heap_listed}
+use Rattle.quetzal.specs.Heap.{is_without, print_heap}
 use Rattle.quetzal.specs.Memory.{memory_in_chunk}
 use Rattle.quetzal.specs.Printing.{chunk, heap_chunk, chunks_of}
 use Rattle.quetzal.specs.Save.{rom, identity, memory_in, origin}
-use Rattle.quetzal.specs.Save.{canon, IsStateIn, IsStateOf}
-use Rattle.quetzal.specs.Save.{ReadsSave, ReadsStack, ReadsMemory}
-use Rattle.quetzal.specs.Save.{ReadsParts}
-use Rattle.quetzal.specs.Returns.{HasRom}
+use Rattle.quetzal.specs.Save.{IsStateOf, canon, is_stack_of, save_in}
+use Rattle.quetzal.specs.Returns.{GivesStateBack, HasRom}
 use Rattle.quetzal.specs.declared.fault.SaveFault.TheVariants.{BadRuns}
 use Rattle.quetzal.proofs.MemoryLemmas.{word_again}
+use Rattle.quetzal.proofs.OrderLemmas.{heap_is}
 use Rattle.quetzal.proofs.PrintLemmas.{reads_printed}
+use Rattle.quetzal.proofs.ReadLemmas.{stacks_of_frames}
 
 -- ---- lengths
 
@@ -216,54 +218,40 @@ fits_from end size start (b ∷ bs) h =
     let heap : is_heap start (b ∷ bs) ≡ true = h.heap in
     rw (heap, page, least, ends) refl
 
-heap_stands : (image : List ℕ) (s : Saved)
-    → IsStateOf image s → s.heap_start < 2 ^ 32
-    → IsHeapIn (endmem image) (length s.memory.bytes)
-    (print_heap s.heap_start s.heap) s.heap_start s.heap
-heap_stands image s is small =
-    let end : s.memory.endmem ≡ endmem image = ap (λ (o : Origin). o.endmem) is.saved.image in
-    record {
-      pairs = s.heap;
-      listed = listed_again s.heap_start s.heap small is.saved.saved.heap.heap;
-      order = record {
-        order = IsPermutation-refl s.heap;
-        fits = fits_from (endmem image) (length s.memory.bytes) s.heap_start s.heap
-            (subst (λ (e : ℕ). IsHeapOver e (length s.memory.bytes) s.heap_start s.heap) end
-            is.saved.saved.heap);
-      };
-    }
-
--- ---- the state of the bytes that are written
-
 small_start : (start : ℕ) (bs : List Block) → IsTrue (is_heap start bs) → start < 2 ^ 32
 small_start start [] h = let none : start ≡ 0 = grind (arith, nat_tests, h) in omega (arith, none)
 small_start start (b ∷ bs) h =
     let limit : start ≤ 16777216 = in_order-limit start (b ∷ bs) (is_heap-order start (b ∷ bs) h) in
     omega (arith, limit)
 
-written_state : (image : List ℕ) (s : Saved)
-    → IsStateOf image s → IsStateIn image (written_parts image s) s.memory s
-written_state image s is = record {
-  memory = refl;
-  stack = refl;
-  heap = heap_stands image s is (small_start s.heap_start s.heap is.saved.saved.heap.heap);
-}
+heap_back : (image : List ℕ) (s : Saved)
+    → IsStateOf image s
+    → heap_in (endmem image) (length s.memory.bytes) (print_heap s.heap_start s.heap)
+    ≡ Ok (record { start = s.heap_start; blocks = s.heap })
+heap_back image s is =
+    let end : s.memory.endmem ≡ endmem image = ap (λ (o : Origin). o.endmem) is.saved.image in
+    let heap = is.saved.saved.heap.heap in
+    heap_is (endmem image) (length s.memory.bytes) (print_heap s.heap_start s.heap)
+    (record { start = s.heap_start; blocks = s.heap }) (record {
+      blocks = s.heap;
+      listed = listed_again s.heap_start s.heap (small_start s.heap_start s.heap heap) heap;
+      order = IsPermutation-refl s.heap;
+      fits = fits_from (endmem image) (length s.memory.bytes) s.heap_start s.heap
+          (subst (λ (e : ℕ). IsHeapOver e (length s.memory.bytes) s.heap_start s.heap) end
+          is.saved.saved.heap);
+    })
 
-pub written_reads : (image : List ℕ) (s : Saved)
-    → IsLaidOut image → IsStateOf image s → HasRom s.memory
-    → ReadsSave image (canon image s) (Ok s)
-written_reads image s laid is kept =
+pub state_given_back : GivesStateBack
+unfolding save_in
+state_given_back image s laid is kept =
     let parts : parts_of (canon image s) ≡ Ok (written_parts image s) =
     reads_printed (identity image) (contents s.memory)
     s.stack (print_heap s.heap_start s.heap) (save_fits image s laid is) in
-    let stack : ReadsStack image (written_parts image s) s.memory (Ok s) = record {
-      good = λ frames. written_state image s is;
-      bad = λ no. no (record { frames = is.saved.saved.stack; size = is.size });
-    } in
-    let memory : ReadsMemory image (written_parts image s)
-    (memory_in image (written_parts image s)) (Ok s) =
-    subst (λ m. ReadsMemory image (written_parts image s) m (Ok s))
-    (sym (memory_back image s laid is kept)) stack in
-    let story : ReadsParts image (Ok (written_parts image s)) (Ok s) =
-    record { own = λ e. memory; other = λ ne. absurd (ne refl) } in
-    subst (λ p. ReadsParts image p (Ok s)) (sym parts) story
+    let own : bytes_eq (identity image) (identity image) ≡ true =
+    (bytes_eq-Decides (identity image) (identity image)).1 refl in
+    let memory : memory_in image (written_parts image s) ≡ Ok s.memory =
+    memory_back image s laid is kept in
+    let stack : is_stack_of image s.stack ≡ true =
+    (stacks_of_frames image s.stack laid).1
+    (record { frames = is.saved.saved.stack; size = is.size }) in
+    rw (parts, own, memory, stack, heap_back image s is) refl

@@ -1,16 +1,17 @@
 -- The heap's chunk MAll (Glulx 3.1.3, "Saving and Restoring").
-use Rattle.std.specs.Prelude.{◌≡◌, ℕ, zero, suc, ◌+◌, ◌*◌, ◌%◌, Bool, true}
+use Rattle.std.specs.Prelude.{ℕ, zero, suc, ◌+◌, ◌*◌, ◌%◌, Bool}
 use Rattle.std.specs.Prelude.{◌&&◌, ◌||◌, ◌==◌, nat_le, if◌then◌else◌}
 use Rattle.std.specs.Prelude.{List, [], ◌∷◌, ◌++◌, length as size, drop, Vec, Option}
 use Rattle.std.specs.Prelude.{Some, None, Result, Ok, Err}
 use Rattle.std.specs.Int.{w32, to_be_bytes}
-use Rattle.std.specs.List.Sorted.{IsPermutation}
 use Rattle.glulx_image.specs.Header.{word}
+use Rattle.vm_heap.specs.Allocation.{with_block}
 use Rattle.vm_heap.specs.HeapMap.{is_heap, heap_end}
 use Rattle.vm_heap.specs.declared.block.Block.{Block}
+use Rattle.vm_memory.specs.Chaining.{◌>>=◌}
+use Rattle.quetzal.specs.Fault.{or_else}
 use Rattle.quetzal.specs.declared.fault.SaveFault.{SaveFault}
-use Rattle.quetzal.specs.declared.fault.SaveFault.TheVariants.{NotSave, Cut, OtherStory, BadRuns}
-use Rattle.quetzal.specs.declared.fault.SaveFault.TheVariants.{BadStack, BadHeap, NoMemory}
+use Rattle.quetzal.specs.declared.fault.SaveFault.TheVariants.{BadHeap}
 use Rattle.quetzal.specs.declared.heap.SavedHeap.{SavedHeap}
 
 -- so many pairs of an address and a length
@@ -46,42 +47,21 @@ heap_fits endmem length start [] = start == 0
 heap_fits endmem length start (b ∷ bs) =
     is_heap start (b ∷ bs) && is_placed endmem length start (heap_end (b ∷ bs))
 
--- these blocks in some order fit
-pub record HaveOrder (endmem length start : ℕ) (pairs blocks : List Block) : Type 0 where
-  pub order : IsPermutation pairs blocks
-  pub fits : heap_fits endmem length start blocks ≡ true
+-- the blocks by their addresses
+abbrev pub by_address : List Block → List Block
+by_address [] = []
+by_address (b ∷ bs) = with_block b (by_address bs)
 
--- the heap that a chunk spells: its blocks in some order, which fit
-pub record IsHeapIn (endmem length : ℕ) (chunk : Option (List ℕ)) (start : ℕ)
-    (blocks : List Block) : Type 0 where
-  pub pairs : List Block
-  pub listed : heap_listed chunk ≡ Some (start, pairs)
-  pub order : HaveOrder endmem length start pairs blocks
+-- the heap of these blocks, if memory of this size may have it
+abbrev pub heap_of : ℕ → ℕ → ℕ → List Block → Result SavedHeap SaveFault
+heap_of endmem length start blocks =
+    if heap_fits endmem length start blocks
+    then Ok (record { start = start; blocks = blocks }) else Err BadHeap
 
--- what putting blocks in order answers
-abbrev pub HasOrder : ℕ → ℕ → ℕ → List Block → Result SavedHeap SaveFault → Type 0
-HasOrder endmem length start pairs (Ok heap) =
-    (heap.start ≡ start) × HaveOrder endmem length start pairs heap.blocks
-HasOrder endmem length start pairs (Err BadHeap) =
-    (blocks : List Block) → HaveOrder endmem length start pairs blocks → ⊥
-HasOrder endmem length start pairs (Err NoMemory) = Unit {0}
-HasOrder endmem length start pairs (Err NotSave) = ⊥
-HasOrder endmem length start pairs (Err Cut) = ⊥
-HasOrder endmem length start pairs (Err OtherStory) = ⊥
-HasOrder endmem length start pairs (Err BadRuns) = ⊥
-HasOrder endmem length start pairs (Err BadStack) = ⊥
-
--- what a reader of the chunk answers; nothing is said of want of memory
-abbrev pub ReadsHeap : ℕ → ℕ → Option (List ℕ) → Result SavedHeap SaveFault → Type 0
-ReadsHeap endmem length chunk (Ok heap) = IsHeapIn endmem length chunk heap.start heap.blocks
-ReadsHeap endmem length chunk (Err BadHeap) =
-    (start : ℕ) (blocks : List Block) → IsHeapIn endmem length chunk start blocks → ⊥
-ReadsHeap endmem length chunk (Err NoMemory) = Unit {0}
-ReadsHeap endmem length chunk (Err NotSave) = ⊥
-ReadsHeap endmem length chunk (Err Cut) = ⊥
-ReadsHeap endmem length chunk (Err OtherStory) = ⊥
-ReadsHeap endmem length chunk (Err BadRuns) = ⊥
-ReadsHeap endmem length chunk (Err BadStack) = ⊥
+-- the heap that a chunk spells, its blocks listed in any order
+abbrev pub heap_in : ℕ → ℕ → Option (List ℕ) → Result SavedHeap SaveFault
+heap_in endmem length chunk =
+    or_else BadHeap (heap_listed chunk) >>= (λ l. heap_of endmem length l.0 (by_address l.1))
 
 -- ---- as it is written
 

@@ -1,11 +1,19 @@
--- What a save's chunks and runs are, piece by piece (Quetzal 1.4, "Overall structure", "Content of
--- dynamic memory").
-use Rattle.std.specs.Prelude.{◌≡◌, ◌≢◌, ◌<◌, ◌^◌, ◌+◌, ◌==◌, ℕ, true, false, List, []}
-use Rattle.std.specs.Prelude.{◌∷◌, ◌++◌, length, if◌then◌else◌, Option, Some, None, All}
+-- What a save's chunks, runs, stack and heap are (Quetzal 1.4, "Overall structure", "Content of
+-- dynamic memory"; Glulx 3.1.3, "Saving and Restoring").
+use Rattle.std.specs.Prelude.{◌≡◌, ◌≢◌, ◌<◌, ◌≤◌, ◌^◌, ◌+◌, ◌==◌, ℕ, true, false, List, []}
+use Rattle.std.specs.Prelude.{◌∷◌, ◌++◌, length, if◌then◌else◌, Option, Some, None, All, Ok, IfOk}
+use Rattle.std.specs.Bool.{Decides}
 use Rattle.std.specs.Int.RustNames.{bit_xor}
-use Rattle.quetzal.specs.Chunks.{are_chunks, first_named}
-use Rattle.quetzal.specs.Printing.{chunk}
+use Rattle.std.specs.List.Sorted.{IsPermutation}
+use Rattle.glulx_image.specs.Header.{IsLaidOut, stack_size}
+use Rattle.vm_heap.specs.declared.block.Block.{Block}
+use Rattle.vm_stack.specs.Saved.{SavedStack}
 use Rattle.vm_undo.specs.Runs.{runs_decoded}
+use Rattle.quetzal.specs.Chunks.{are_chunks, first_named}
+use Rattle.quetzal.specs.Heap.{heap_fits, heap_in, heap_listed}
+use Rattle.quetzal.specs.Printing.{chunk}
+use Rattle.quetzal.specs.Save.{is_stack_of}
+use Rattle.quetzal.specs.declared.heap.SavedHeap.{SavedHeap}
 
 -- a chunk's name and contents, each told in four bytes
 pub record IsChunk (c : ℕ × List ℕ) : Type 0 where
@@ -61,3 +69,27 @@ abbrev pub RestoresPieces : Type 0
 RestoresPieces =
     (ps : List Piece) (old new : List ℕ) → All IsPiece ps → IsMadeOfPieces ps old new
     → runs_decoded false old (coding_of_pieces ps) ≡ Some new
+
+-- frames with a stub on top, no more bytes than the story's stack holds
+pub record IsStackOf (image bytes : List ℕ) : Type 0 where
+  pub frames : SavedStack bytes
+  pub size : length bytes ≤ stack_size image
+
+-- these are the stacks that are taken
+abbrev pub TakesStacksOfFrames : Type 0
+TakesStacksOfFrames =
+    (image bytes : List ℕ) → IsLaidOut image → Decides (is_stack_of image bytes) (IsStackOf image bytes)
+
+-- a chunk lists a heap's start and its blocks in some order, which memory of this size may have
+pub record IsHeapIn (endmem size : ℕ) (chunk : Option (List ℕ)) (heap : SavedHeap) : Type 0 where
+  pub blocks : List Block
+  pub listed : heap_listed chunk ≡ Some (heap.start, blocks)
+  pub order : IsPermutation blocks heap.blocks
+  pub fits : heap_fits endmem size heap.start heap.blocks ≡ true
+
+-- in whichever order its blocks are listed, such a heap is what is read; no other is
+pub record ReadsBlocksInAnyOrder : Type 0 where
+  pub any : (endmem size : ℕ) (chunk : Option (List ℕ)) (heap : SavedHeap)
+      → IsHeapIn endmem size chunk heap → heap_in endmem size chunk ≡ Ok heap
+  pub only : (endmem size : ℕ) (chunk : Option (List ℕ))
+      → IfOk (heap_in endmem size chunk) (IsHeapIn endmem size chunk)

@@ -4,6 +4,5 @@ pub mod Memory
 pub mod Printing
 pub mod Heap
 pub mod Save
-pub mod State
 pub mod Returns
 pub mod Laws

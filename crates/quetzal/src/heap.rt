@@ -6,8 +6,9 @@ ghost use Rattle.std.specs.Prelude.{IfOk, MatchOption};
 ghost use Rattle.vm_heap.specs.HeapMap.{block_end, rounded_up};
 ghost use Rattle.quetzal.specs.Chunks.{now_of};
 ghost use Rattle.quetzal.specs.Heap as chunk;
-ghost use Rattle.quetzal.specs.Heap.{HasOrder, ReadsHeap, block_bytes, blocks_in, is_without};
-ghost use Rattle.quetzal.specs.Heap.{listed_in, print_heap};
+ghost use Rattle.quetzal.specs.Fault.{GivesUnlessNoMemory};
+ghost use Rattle.quetzal.specs.Heap.{block_bytes, blocks_in, by_address, heap_in, heap_of};
+ghost use Rattle.quetzal.specs.Heap.{is_without, listed_in, print_heap};
 
 use crate::fault::SaveFault;
 use crate::form::word;
@@ -30,7 +31,8 @@ pub fn read_heap(
     size: u32,
     contents: Option<&[u8]>,
 ) -> Result<SavedHeap, SaveFault>
-    ensures exact { ReadsHeap endmem size (now_of contents.entry) result }
+    ensures exact { GivesUnlessNoMemory (λ h. h) result
+        (heap_in endmem size (now_of contents.entry)) }
 {
     match listed(contents) {
         Some(Pairs { start, pairs }) => ordered(alloc, endmem, size, start, pairs),
@@ -105,7 +107,8 @@ fn ordered(
     pairs: &[u8],
 ) -> Result<SavedHeap, SaveFault>
     requires { length pairs.now % 8 ≡ 0 }
-    ensures { HasOrder endmem size start (blocks_in (length pairs.now / 8) pairs.now) result }
+    ensures { GivesUnlessNoMemory (λ h. h) result (heap_of endmem size start
+        (by_address (blocks_in (length pairs.now / 8) pairs.now))) }
 {
     let mut blocks = blocks_of(alloc, pairs)?;
     blocks.sort_by_key(|block| block.at)?;

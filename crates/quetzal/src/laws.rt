@@ -1,6 +1,7 @@
 //! Laws of the format.
 
-ghost use Rattle.quetzal.specs.Laws.{ReadsFirstOfEachName, RestoresPieces};
+ghost use Rattle.quetzal.specs.Laws.{ReadsBlocksInAnyOrder, ReadsFirstOfEachName, RestoresPieces};
+ghost use Rattle.quetzal.specs.Laws.{TakesStacksOfFrames};
 ghost use Rattle.quetzal.specs.Printing.{ReadsWhatIsPrinted};
 ghost use Rattle.quetzal.specs.Returns.{GivesStateBack};
 ghost use Rattle.vm_undo.specs.Runs.{RestoresWhatIsWritten};
@@ -23,6 +24,16 @@ pub fn reads_first_of_each_name()
 /// Bytes that stay and bytes that change, piece by piece, are what their coding restores.
 pub fn restores_pieces()
     ensures { RestoresPieces }
+{}
+
+/// The stacks that are taken are frames with a stub on top, which the story's stack holds.
+pub fn takes_stacks_of_frames()
+    ensures { TakesStacksOfFrames }
+{}
+
+/// A heap is read of its blocks in whichever order they are listed, and no other heap is.
+pub fn reads_blocks_in_any_order()
+    ensures { ReadsBlocksInAnyOrder }
 {}
 
 /// A story's state is the one that its save spells.

@@ -11,8 +11,8 @@ mod writer;
 
 pub use fault::SaveFault;
 pub use laws::{
-    gives_state_back, reads_first_of_each_name, reads_what_is_printed, restores_pieces,
-    restores_what_is_written,
+    gives_state_back, reads_blocks_in_any_order, reads_first_of_each_name, reads_what_is_printed,
+    restores_pieces, restores_what_is_written, takes_stacks_of_frames,
 };
 pub use memory::first_memory;
 pub use reader::read;

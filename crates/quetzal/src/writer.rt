@@ -1,11 +1,11 @@
 //! Writing a form of chunks (Quetzal 1.4, "Overall structure").
 
 ghost use Rattle.std.specs.Prelude.{◌≡◌, ◌++◌, ◌+◌, ◌<◌, ◌^◌, length, OnOk};
-ghost use Rattle.std.specs.Prelude.{IfOk};
+ghost use Rattle.std.specs.Prelude.{IfOk, Ok};
 ghost use Rattle.quetzal.specs.Printing.{chunk, heap_chunk, chunks_of, print_save};
 ghost use Rattle.quetzal.specs.Printing.{ReadsWhatIsPrinted};
 ghost use Rattle.quetzal.specs.Chunks.{now_of};
-ghost use Rattle.quetzal.specs.Save.{SaveIsReadAs, IsStateOf, canon};
+ghost use Rattle.quetzal.specs.Save.{IsStateOf, canon, save_in};
 ghost use Rattle.glulx_image.specs.Header.{IsLaidOut};
 ghost use Rattle.vm_memory.specs.MemoryMap.{KeepsRom};
 
@@ -45,7 +45,7 @@ fn push_heap(out: &mut Vec<u8>, heap: Option<&[u8]>) -> Result<(), AllocError>
 pub fn write(alloc: Global, state: &Saved<'_>, image: &Image<'_>) -> Result<Vec<u8>, AllocError>
     requires { IsStateOf image.now state.now }
     ensures ok { IfOk result (λ v. v.items ≡ canon image.now state.now) }
-    ensures read { IfOk result (λ v. SaveIsReadAs image.now v.items state.now) }
+    ensures read { IfOk result (λ v. save_in image.now v.items ≡ Ok state.now) }
 {
     spelled(alloc, state, image)
 }

@@ -16,7 +16,7 @@ use Rattle.glk_streams.proofs.ValidLemmas.{number-found}
 use Rattle.glk_dispatch.specs.Streams.{ahead_counted, ahead_read}
 use Rattle.glk_dispatch.specs.declared.glk.Glk.{Glk}
 use Rattle.glk_dispatch.specs.Answer.{Reached, within}
-use Rattle.quetzal.specs.State.{state_in}
+use Rattle.quetzal.specs.Save.{save_in}
 use Rattle.vm_exec.specs.Answer.{Changes}
 use Rattle.vm_exec.specs.declared.machine.Machine.{Machine}
 use Rattle.vm_memory.specs.Chaining.{◌>>=◌}
@@ -150,20 +150,20 @@ rest-ahead g m n ahead e b l =
 pub restored-ahead : (image : List ℕ) (g h : Glk) (m k : Machine) (n : ℕ) (ahead : List ℕ)
     (r : Result (Unit {0}) Trap) → bytes_ahead g.streams n ≡ Some ahead → AreBytes ahead
     → length ahead ≤ 1048576 → h ≡ ahead_read g n
-    → Changes (brought_back m (state_in image ahead)) k r
+    → Changes (brought_back m (save_in image ahead)) k r
     → LeavesGlkAndMachine (rest_restored image g m n) h k r
 restored-ahead image g h m k n ahead r e b l same does = by-result r does
   where
     stored : Glk → Result Machine ℕ → Reached (Glk × Machine)
     stored g x = within g x >>= (λ k. Ok (g, k))
 
-    all : rest_restored image g m n ≡ stored h (brought_back m (state_in image ahead))
-    all = ap (λ x. x >>= (λ p. stored p.0 (brought_back m (state_in image p.1))))
+    all : rest_restored image g m n ≡ stored h (brought_back m (save_in image ahead))
+    all = ap (λ x. x >>= (λ p. stored p.0 (brought_back m (save_in image p.1))))
         (rest-ahead g m.memory n ahead e b l)
-        ∙ ap (λ g. stored g (brought_back m (state_in image ahead))) (sym same)
+        ∙ ap (λ g. stored g (brought_back m (save_in image ahead))) (sym same)
 
     by-result : (r : Result (Unit {0}) Trap)
-        → Changes (brought_back m (state_in image ahead)) k r
+        → Changes (brought_back m (save_in image ahead)) k r
         → LeavesGlkAndMachine (rest_restored image g m n) h k r
     by-result (Ok x) d = all ∙ ap (stored h) d
     by-result (Err (Fault x)) d = all ∙ ap (stored h) d

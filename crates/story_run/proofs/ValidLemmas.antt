@@ -13,8 +13,7 @@ use Rattle.vm_exec.specs.Start.{finished, started}
 use Rattle.vm_exec.specs.declared.machine.Machine.{Machine}
 use Rattle.vm_exec.specs.declared.step.Step.{Step}
 use Rattle.vm_exec.specs.declared.step.Step.TheVariants as step
-use Rattle.quetzal.specs.Save.{canon}
-use Rattle.quetzal.specs.State.{state_in}
+use Rattle.quetzal.specs.Save.{canon, save_in}
 use Rattle.glk_input.specs.Delivery.{code_taken}
 use Rattle.story_text.specs.declared.input.Input.{Input}
 use Rattle.glk_dispatch.specs.Answer.{Reached, CallRule, glk_call, within}
@@ -134,9 +133,9 @@ restored-ready : (image : List ℕ) (g : Glk) (m : Machine) (n : ℕ) → IsRead
 restored-ready image g m n v =
     reach-if first (saves.is_readable g n) _ (saves.result_stored g m 1)
     (reach-bind first first (saves.rest_of_stream 4294967295 g m.memory n [])
-    (λ p. within p.0 (saves.brought_back m (state_in image p.1)) >>= (λ k. Ok (p.0, k)))
+    (λ p. within p.0 (saves.brought_back m (save_in image p.1)) >>= (λ k. Ok (p.0, k)))
     (rest-ready 4294967295 g m.memory n [] v)
-    (λ p w. reach-within first p.0 (saves.brought_back m (state_in image p.1))
+    (λ p w. reach-within first p.0 (saves.brought_back m (save_in image p.1))
     (λ k. Ok (p.0, k)) w (λ k. w)))
     (ended-ready g m 1 v)
 

@@ -11,8 +11,8 @@ use Rattle.vm_undo.specs.declared.saved.Saved.{Saved}
 use Rattle.vm_exec.specs.Rows.Undo.{resumed, saved_state}
 use Rattle.vm_exec.specs.Start.{finished}
 use Rattle.vm_exec.specs.declared.machine.Machine.{Machine}
-use Rattle.quetzal.specs.Save.{canon}
-use Rattle.quetzal.specs.State.{state_in}
+use Rattle.quetzal.specs.Save.{canon, save_in}
+use Rattle.quetzal.specs.declared.fault.SaveFault.{SaveFault}
 use Rattle.glk_input.specs.Delivery.{code_taken}
 use Rattle.glk_streams.specs.Streams.{is_read_mode, is_write_mode, of_stream, stream_at}
 use Rattle.glk_dispatch.specs.Answer.{Reached, within}
@@ -70,16 +70,16 @@ rest_of_stream (suc most) g m n bytes =
     got_code g m n >>= (λ p. rest_on (λ h read. rest_of_stream most h m n read) p.0 bytes p.1)
 
 -- the state that the bytes spell is restored; where they are refused the result is 1
-abbrev pub brought_back : Machine → Option Saved → Result Machine ℕ
-brought_back m None = finished m 1
-brought_back m (Some s) = resumed m s
+abbrev pub brought_back : Machine → Result Saved SaveFault → Result Machine ℕ
+brought_back m (Err cause) = finished m 1
+brought_back m (Ok s) = resumed m s
 
 -- what the stream holds from its position on is read, and the state that it spells restored; the
 -- result is 1 where it spells none. No stream holds more than 2^32 - 1 characters
 abbrev pub rest_restored : List ℕ → Glk → Machine → ℕ → Reached (Glk × Machine)
 rest_restored image g m n =
     rest_of_stream 4294967295 g m.memory n []
-    >>= (λ p. within p.0 (brought_back m (state_in image p.1)) >>= (λ k. Ok (p.0, k)))
+    >>= (λ p. within p.0 (brought_back m (save_in image p.1)) >>= (λ k. Ok (p.0, k)))
 
 -- a restore; the result is 1 too where the stream isn't live or not open for reading
 abbrev pub restored : List ℕ → Glk → Machine → ℕ → Reached (Glk × Machine)

@@ -3,8 +3,7 @@
 ghost use Rattle.std.specs.Prelude.{◌≡◌, true, false, [], Ok, OnOk};
 ghost use Rattle.glk_dispatch.specs.Answer.{Gets, AnswersItems};
 ghost use Rattle.glk_input.specs.Delivery.{code_taken};
-ghost use Rattle.quetzal.specs.Save.{canon};
-ghost use Rattle.quetzal.specs.State.{state_in};
+ghost use Rattle.quetzal.specs.Save.{canon, save_in};
 ghost use Rattle.story_run.specs.Saves as saves;
 ghost use Rattle.story_run.specs.Saves.{LeavesGlkAndMachine};
 ghost use Rattle.story_run.specs.World.{IsWaiting};
@@ -214,7 +213,7 @@ fn bring_back<'i>(
     bytes: &[u8],
 ) -> Result<(), Trap>
     requires { IsWaiting image.now machine.old }
-    ensures does { Changes (saves.brought_back machine.old (state_in image.now bytes.now))
+    ensures does { Changes (saves.brought_back machine.old (save_in image.now bytes.now))
         machine.new result }
     ensures kept { OnOk result (IsWaiting image.now machine.new) }
     ensures seed { OnOk result (machine.new.random.seed ≡ machine.old.random.seed) }

@@ -1,4 +1,4 @@
-use Rattle.quetzal.proofs.StateLemmas.{state_given_back}
+use Rattle.quetzal.proofs.WriteLemmas.{state_given_back}
 use Rattle.quetzal.proofs.laws.gives_state_back.Goals as goal
 
 pub returns : goal.returns

@@ -1,7 +1,7 @@
-use Rattle.std.proofs.Common.{◌≡◌, sym, subst, Result, Ok, Err}
+use Rattle.std.proofs.Common.{◌≡◌, ap, ◌∙◌, Result, Ok, Err}
 use Rattle.std.specs.Result.{IfOk}
-use Rattle.quetzal.specs.Save.{SaveIsReadAs, canon}
-use Rattle.quetzal.proofs.StateLemmas.{read_back}
+use Rattle.quetzal.specs.Save.{canon, save_in}
+use Rattle.quetzal.proofs.WriteLemmas.{state_given_back}
 use Rattle.quetzal.proofs.writer.write.Goals as goal
 
 with_value : {A E : Type 0} (r : Result A E) (P Q : A → Type 0)
@@ -14,7 +14,7 @@ returns-clause-read c =
     let image = c.args.image.now in
     let state = c.args.state.now in
     let back =
-    read_back image state c.spelled.ensures.laid c.requires c.spelled.ensures.kept in
+    state_given_back image state c.spelled.ensures.laid c.requires c.spelled.ensures.kept in
     with_value c.spelled.result (λ v. v.items ≡ canon image state)
-    (λ v. SaveIsReadAs image v.items state)
-    (λ v e. subst (λ bytes. SaveIsReadAs image bytes state) (sym e) back) c.spelled.ensures.ok
+    (λ v. save_in image v.items ≡ Ok state)
+    (λ v e. ap (save_in image) e ∙ back) c.spelled.ensures.ok
