@@ -1,6 +1,6 @@
--- What a reader's parts answer, put together.
+-- What is read is a state of the story.
 use Rattle.std.proofs.Common.{◌≡◌, ℕ, ◌%◌, ◌≤◌, Bool, true, nat_le}
-use Rattle.std.proofs.Common.{List, [], ◌∷◌, length, Option, Result, Ok, ap, sym, subst}
+use Rattle.std.proofs.Common.{List, [], ◌∷◌, length, Option, Ok, ap, sym, subst}
 use Rattle.std.proofs.Common.{refl, ◌∙◌, arith}
 use Rattle.std.proofs.lemmas.Bool.{and_parts}
 use Rattle.std.proofs.lemmas.Bool.Decides.{nat_tests}
@@ -9,35 +9,17 @@ use Rattle.std.specs.Result.{IfOk}
 use Rattle.glulx_image.specs.Header.{IsLaidOut, endmem, stack_size}
 use Rattle.vm_heap.specs.HeapMap.{is_heap, heap_end}
 use Rattle.vm_heap.specs.declared.block.Block.{Block}
-use Rattle.vm_memory.specs.Chaining.{◌>>=◌}
 use Rattle.vm_memory.specs.MemoryMap.{MemoryMap, Origin}
 use Rattle.vm_stack.specs.Saved.{SavedStack}
 use Rattle.vm_stack.specs.SavedTest.{is_saved_stack}
 use Rattle.vm_stack.proofs.SavedTests.{saved_decided}
 use Rattle.vm_undo.specs.Contents.{IsMemoryOf}
 use Rattle.vm_undo.specs.SavedState.{IsHeapOver, IsSize}
-use Rattle.quetzal.specs.Fault.{FailsOnSave}
 use Rattle.quetzal.specs.Heap.{heap_fits, heap_in, is_placed}
 use Rattle.quetzal.specs.Laws.{IsHeapIn, IsStackOf, TakesStacksOfFrames}
 use Rattle.quetzal.specs.Save.{IsStateOf, is_stack_of, origin}
-use Rattle.quetzal.specs.declared.fault.SaveFault.{SaveFault}
-use Rattle.quetzal.specs.declared.fault.SaveFault.TheVariants.{NotSave, Cut, OtherStory, BadRuns}
-use Rattle.quetzal.specs.declared.fault.SaveFault.TheVariants.{BadStack, BadHeap, NoMemory}
 use Rattle.quetzal.specs.declared.heap.SavedHeap.{SavedHeap}
 use Rattle.quetzal.proofs.OrderLemmas.{heap_read}
-
--- ---- refusals
-
--- a step that is refused ends those behind it
-pub fails-bind : {A B : Type 0} (e : SaveFault) (r : Result A SaveFault)
-    (f : A → Result B SaveFault) → FailsOnSave e r → FailsOnSave e (r >>= f)
-fails-bind NoMemory r f h = tt
-fails-bind NotSave r f h = ap (λ r. r >>= f) h
-fails-bind Cut r f h = ap (λ r. r >>= f) h
-fails-bind OtherStory r f h = ap (λ r. r >>= f) h
-fails-bind BadRuns r f h = ap (λ r. r >>= f) h
-fails-bind BadStack r f h = ap (λ r. r >>= f) h
-fails-bind BadHeap r f h = ap (λ r. r >>= f) h
 
 -- ---- the stack
 

@@ -78,7 +78,8 @@ pub record IsStackOf (image bytes : List ℕ) : Type 0 where
 -- these are the stacks that are taken
 abbrev pub TakesStacksOfFrames : Type 0
 TakesStacksOfFrames =
-    (image bytes : List ℕ) → IsLaidOut image → Decides (is_stack_of image bytes) (IsStackOf image bytes)
+    (image bytes : List ℕ) → IsLaidOut image
+    → Decides (is_stack_of image bytes) (IsStackOf image bytes)
 
 -- a chunk lists a heap's start and its blocks in some order, which memory of this size may have
 pub record IsHeapIn (endmem size : ℕ) (chunk : Option (List ℕ)) (heap : SavedHeap) : Type 0 where

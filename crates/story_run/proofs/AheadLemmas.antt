@@ -1,7 +1,7 @@
 -- What is read of a file all at once is what is read a character at a time.
 use Rattle.std.proofs.Common.{◌≡◌, ◌<◌, ◌≤◌, ℕ, zero, suc, ◌+◌, ◌-◌, ◌%◌, ◌^◌, min, false, List, []}
 use Rattle.std.proofs.Common.{◌∷◌, ◌++◌, length, length-drop, drop, refl, sym, ap}
-use Rattle.std.proofs.Common.{◌∙◌, subst, Some, None, Result, Ok, Err, slice_index, arith}
+use Rattle.std.proofs.Common.{◌∙◌, subst, Some, Result, Ok, Err, slice_index, arith}
 use Rattle.std.proofs.lemmas.Grind.{common_steps}
 use Rattle.std.proofs.lemmas.List.{drop_more, get_or-drop, nil_from_length}
 use mathlib.Core.List.{append_assoc}
