@@ -4,4 +4,11 @@ pub mod TurnLemmas
 pub mod BudgetLemmas
 pub mod WorldLemmas
 pub mod ValidLemmas
+pub mod FaultLemmas
+pub mod FaultRules
+pub mod FaultRows
+pub mod FaultStreams
+pub mod FaultTexts
+pub mod FaultCalls
+pub mod FaultTurns
 pub mod StandardFacts

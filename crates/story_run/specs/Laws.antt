@@ -1,6 +1,7 @@
 -- What turns keep to (own).
 use Rattle.std.specs.Prelude.{◌≡◌, ◌≢◌, ℕ, ◌+◌, ◌<◌, List, true, false}
 use Rattle.story_text.specs.declared.input.Input.{Input}
+use Rattle.story_run.specs.Faults.{IsFaultNumber}
 use Rattle.story_run.specs.Solo.{is_over, is_wanted, opening, world_after_input}
 use Rattle.story_run.specs.Step.{Running}
 use Rattle.story_run.specs.Turn.{rest, steps}
@@ -40,3 +41,13 @@ pub record GlkStaysValid : Type 0 where
       → StandsAt (opening image setup).stage (opening image setup).glk
   pub turned : (w : WorldState) (input : Input) → StandsAt w.stage w.glk
       → StandsAt (world_after_input w input).stage (world_after_input w input).glk
+
+-- a turn that ends with a fault ends with the number of one, whatever it goes on from; so does a
+-- story that begins, and one that gets an input which it waits for
+pub record FaultsAreNumbered : Type 0 where
+  pub rested : (image : List ℕ) (budget : ℕ) (r : Running) (g : Glk) (n : ℕ)
+      → rest image budget r ≡ (g, Fault n) → IsFaultNumber n
+  pub opened : (image : List ℕ) (setup : Setup) (n : ℕ)
+      → (opening image setup).stage ≡ Fault n → IsFaultNumber n
+  pub turned : (w : WorldState) (input : Input) (n : ℕ) → is_wanted w input ≡ true
+      → (world_after_input w input).stage ≡ Fault n → IsFaultNumber n

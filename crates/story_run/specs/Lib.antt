@@ -3,6 +3,7 @@ pub mod Show
 pub mod Saves
 pub mod Step
 pub mod Turn
+pub mod Faults
 pub mod World
 pub mod Solo
 pub mod Laws

@@ -8,6 +8,7 @@ use Rattle.glk_dispatch.specs.Valid.{IsValidGlk, IsValidWaiting}
 use Rattle.glk_dispatch.specs.declared.called.Called.{Called}
 use Rattle.glk_dispatch.specs.declared.called.Called.TheVariants as call
 use Rattle.glk_dispatch.specs.declared.glk.Glk.{Glk}
+use Rattle.story_run.specs.Faults.{IsFaultNumber}
 use Rattle.story_run.specs.declared.stage.Stage.{Stage}
 use Rattle.story_run.specs.declared.stage.Stage.TheVariants.{AtSelect, AtPrompt, Quit, Fault}
 use Rattle.story_run.specs.declared.world.Held.{Held}
@@ -52,12 +53,13 @@ pub record IsResting (image : List ℕ) (seed : ℕ) (m : Machine) : Type 0 wher
   pub room : length m.stack.bytes ≤ m.stack.limit
   pub begun : m.random.seed ≡ seed
 
--- where a story with this image and this seed waits, its machine is so
+-- where a story with this image and this seed waits, its machine is so; where it met a fault, that
+-- has the number of one
 abbrev pub IsStageOf : List ℕ → ℕ → Stage → Type 0
 IsStageOf image seed (AtSelect m) = IsResting image seed m
 IsStageOf image seed (AtPrompt m) = IsResting image seed m
 IsStageOf image seed Quit = Unit {0}
-IsStageOf image seed (Fault n) = Unit {0}
+IsStageOf image seed (Fault n) = IsFaultNumber n
 
 -- after a step the machine is so, unless the story has quit
 abbrev pub StaysOver : List ℕ → Machine → Progress → Type 0

@@ -14,6 +14,7 @@ use glulx_image::Image;
 use std::alloc::{AllocError, Global};
 use story_text::Bytes;
 use vm_exec::{Machine, MachineFields};
+use vm_memory::faults;
 
 /// How a turn came to rest: where the story waits, what its machine has beside its image.
 #[derive(Drop)]
@@ -96,7 +97,13 @@ fn stage_of<'i>(image: &Image<'i>, seed: u64, fields: StageFields<'i>) -> Option
             None => None,
         },
         StageFields::Quit => Some(Stage::Quit),
-        StageFields::Fault(code) => Some(Stage::Fault(code)),
+        StageFields::Fault(code) => {
+            if faults::BAD_READ <= code && code <= faults::BUDGET_SPENT {
+                Some(Stage::Fault(code))
+            } else {
+                None
+            }
+        }
     }
 }
 

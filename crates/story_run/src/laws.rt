@@ -1,6 +1,7 @@
 //! Laws of turns.
 
-ghost use Rattle.story_run.specs.Laws.{BudgetsOnlyEnd, GlkStaysValid, OverWantsNothing};
+ghost use Rattle.story_run.specs.Laws.{BudgetsOnlyEnd, FaultsAreNumbered, GlkStaysValid};
+ghost use Rattle.story_run.specs.Laws.{OverWantsNothing};
 ghost use Rattle.story_run.specs.Laws.{TurnsEnd, UnwantedLeaves};
 
 /// A turn ends within its budget: each of its steps takes a tick at least.
@@ -26,4 +27,9 @@ pub fn unwanted_leaves()
 /// The Glk state stays valid through each turn, and waits with what the story waits for.
 pub fn glk_stays_valid()
     ensures { GlkStaysValid }
+{}
+
+/// A story that ends with a fault ends with a number from 1 to 24.
+pub fn faults_are_numbered()
+    ensures { FaultsAreNumbered }
 {}

@@ -14,7 +14,10 @@ mod turn;
 mod world;
 
 pub use fields::{StageFields, WorldFields};
-pub use laws::{budgets_only_end, glk_stays_valid, over_wants_nothing, turns_end, unwanted_leaves};
+pub use laws::{
+    budgets_only_end, faults_are_numbered, glk_stays_valid, over_wants_nothing, turns_end,
+    unwanted_leaves,
+};
 pub use setup::Setup;
 pub use stage::Stage;
 pub use steps::Steps;

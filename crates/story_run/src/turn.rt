@@ -3,6 +3,7 @@
 ghost use Rattle.std.specs.Prelude.{◌≡◌, ◌≤◌, ℕ, List, length, IfOk, OnOk, true};
 ghost use Rattle.glk_dispatch.specs.Events.{is_awaited};
 ghost use Rattle.glk_dispatch.specs.Valid.{IsReadyGlk, IsValidGlk};
+ghost use Rattle.story_run.specs.Faults.{IsNumberedTrap};
 ghost use Rattle.story_run.specs.Step.{running};
 ghost use Rattle.story_run.specs.Turn.{Resumes, Stops, story_begun, delivered_to_call, rest};
 ghost use Rattle.story_run.specs.Turn.{turn_on};
@@ -65,6 +66,7 @@ fn at_prompt<'i>(machine: Machine<'i>) -> Stage<'i>
 
 // The story is over with a fault; want of memory is an error.
 fn stopped<'i>(trap: Trap) -> Result<Stage<'i>, AllocError>
+    requires { IsNumberedTrap trap }
     ensures ends { Stops trap result }
     ensures kept { (image : List ℕ) (seed : ℕ)
         → IfOk result (λ stage. IsStageOf image seed stage) }

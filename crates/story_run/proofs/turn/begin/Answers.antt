@@ -1,3 +1,4 @@
+use Rattle.story_run.proofs.FaultTurns.{start-refused}
 use Rattle.story_run.proofs.ValidLemmas.{run-stands}
 use Rattle.story_run.proofs.turn.begin.Goals as goal
 
@@ -8,3 +9,10 @@ returns-in-Ok-clause-stands c =
 
 pub returns-in-Ok-clause-kept : goal.returns-in-Ok-clause-kept
 returns-in-Ok-clause-kept c = c.run.ensures.kept c.args.seed c.in-Ok.ensures.seed
+
+pub stopped-requires : goal.stopped-requires
+stopped-requires c =
+    start-refused c.args.image.now c.args.seed c.in-Err.trap c.in-Err.ensures.value
+
+pub returns-in-Err-clause-kept : goal.returns-in-Err-clause-kept
+returns-in-Err-clause-kept c = c.stopped.ensures.kept c.args.image.now c.args.seed

@@ -1,5 +1,7 @@
 use Rattle.std.proofs.Common.{◌∙◌, sym}
+use Rattle.story_run.proofs.FaultTurns.{proceed-refused}
 use Rattle.story_run.proofs.TurnLemmas.{rest-stops}
+use Rattle.story_run.specs.Step.{running}
 use Rattle.story_run.proofs.turn.run.Goals as goal
 
 pub loop-rest-smaller : goal.loop-rest-smaller
@@ -52,3 +54,12 @@ pub returns-in-Err-clause-value : goal.returns-in-Err-clause-value
 returns-in-Err-clause-value c =
     rw (← c.loop-rest.invariant.0)
     (rest-stops _ _ _ _ c.proceed.new.machine _ _ c.in-Err.ensures.does c.stopped.ensures.ends)
+
+pub stopped-requires : goal.stopped-requires
+stopped-requires c =
+    proceed-refused c.args.image.now c.loop-rest.left
+    (running c.loop-rest.glk c.loop-rest.machine) c.proceed.new.glk c.proceed.new.machine
+    c.in-Err.trap c.in-Err.ensures.does
+
+pub returns-in-Err-clause-kept : goal.returns-in-Err-clause-kept
+returns-in-Err-clause-kept c = λ seed e. c.stopped.ensures.kept c.args.image.now seed
