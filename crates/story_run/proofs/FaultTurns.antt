@@ -13,8 +13,8 @@ use Rattle.vm_exec.specs.Start.{finished, started}
 use Rattle.vm_exec.specs.declared.machine.Machine.{Machine}
 use Rattle.vm_exec.specs.declared.step.Step.{Step}
 use Rattle.vm_exec.specs.declared.step.Step.TheVariants as step
-use Rattle.quetzal.specs.Save.{canon}
-use Rattle.quetzal.specs.State.{state_in}
+use Rattle.quetzal.specs.Save.{canon, save_in}
+use Rattle.quetzal.specs.declared.fault.SaveFault.{SaveFault}
 use Rattle.glk_input.specs.Delivery.{code_taken}
 use Rattle.story_text.specs.declared.input.Input.{Input}
 use Rattle.glk_dispatch.specs.Answer.{Reached, CallRule, glk_call}
@@ -90,16 +90,16 @@ rest-called (suc most) g m n bytes =
     on None h more = fails-ok
     on (Some code) h more = more (bytes ++ (code_taken false code ∷ []))
 
-back-numbered : (m : Machine) (o : Option Saved) → Numbered (saves.brought_back m o)
-back-numbered m None = of-finished m 1
-back-numbered m (Some x) = of-resumed m x
+back-numbered : (m : Machine) (r : Result Saved SaveFault) → Numbered (saves.brought_back m r)
+back-numbered m (Err cause) = of-finished m 1
+back-numbered m (Ok x) = of-resumed m x
 
 restored-called : (image : List ℕ) (g : Glk) (m : Machine) (n : ℕ)
     → Called (saves.restored image g m n)
 restored-called image g m n =
     fails-if (saves.is_readable g n)
     (fails-bind (rest-called 4294967295 g m.memory n [])
-    (λ p. fails-bind (in-call p.0 (back-numbered m (state_in image p.1))) (λ k. fails-ok)))
+    (λ p. fails-bind (in-call p.0 (back-numbered m (save_in image p.1))) (λ k. fails-ok)))
     (ended-called g m 1)
 
 -- ---- a step
