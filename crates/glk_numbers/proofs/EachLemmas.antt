@@ -33,6 +33,9 @@ module _ {X : Type 0} (number : X → ℕ) (all : List X → Bool) (each : X →
   all-joined (x ∷ xs) ys e f =
       grind (arith, common_steps, e, f, more x xs, more x (xs ++ ys), all-joined xs ys)
 
+  pub all-more : (xs : List X) (x : X) → all xs ≡ true → each x ≡ true → all (xs ++ x ∷ []) ≡ true
+  all-more xs x e h = all-joined xs (x ∷ []) e (grind (arith, common_steps, h, none, more x []))
+
   pub all-inserted : (xs : List X) (i : ℕ) (x : X) → each x ≡ true → all xs ≡ true
       → all (insert xs i x) ≡ true
   all-inserted [] zero x h e = grind (arith, common_steps, h, none, more x [])

@@ -1,50 +1,10 @@
 -- What is found by its number in a list that was changed.
-use Rattle.std.proofs.Common.{◌≡◌, ◌≢◌, ℕ, ◌≤◌, ◌==◌, true, false, List, [], ◌∷◌, ◌++◌, map, refl, ap}
-use Rattle.std.proofs.Common.{arith, Option, Some, None, option_map, is_some, if◌then◌else◌, length}
+use Rattle.std.proofs.Common.{◌≡◌, ◌≢◌, ℕ, ◌≤◌, true, List, [], ◌∷◌, ◌++◌, refl}
+use Rattle.std.proofs.Common.{arith, Some, length}
 use Rattle.std.proofs.lemmas.Grind.{common_steps}
-use Rattle.glk_numbers.specs.Numbered.{ascends, changed_at, found, has, without}
+use Rattle.glk_numbers.specs.Numbered.{changed_at, found, has, without}
 
 module _ {X : Type 0} (number : X → ℕ) where
-  pub found-changed : (f : X → X) → ((x : X) → number (f x) ≡ number x) → (xs : List X) (n m : ℕ)
-      → found number (changed_at number f xs n) m
-      ≡ (if m == n then option_map f (found number xs m) else found number xs m)
-  unfolding found changed_at
-  found-changed f k [] n m = grind (arith, common_steps)
-  found-changed f k (x ∷ xs) n m = grind (arith, common_steps, k x, found-changed f k xs n m)
-
-  pub found-map : (f : X → X) → ((x : X) → number (f x) ≡ number x) → (xs : List X) (m : ℕ)
-      → found number (map f xs) m ≡ option_map f (found number xs m)
-  unfolding found
-  found-map f k [] m = refl
-  found-map f k (x ∷ xs) m = grind (arith, common_steps, k x, found-map f k xs m)
-
-  pub found-low : (xs : List X) (low high m : ℕ) → ascends number low high xs ≡ true → m ≤ low
-      → found number xs m ≡ None
-  unfolding found ascends
-  found-low [] low high m a l = refl
-  found-low (x ∷ xs) low high m a l =
-      grind (arith, common_steps, a, l, found-low xs (number x) high m)
-
-  pub found-high : (xs : List X) (low high m : ℕ) → ascends number low high xs ≡ true → high ≤ m
-      → found number xs m ≡ None
-  unfolding found ascends
-  found-high [] low high m a l = refl
-  found-high (x ∷ xs) low high m a l =
-      grind (arith, common_steps, a, l, found-high xs (number x) high m)
-
-  pub found-without : (xs : List X) (low high n m : ℕ) → ascends number low high xs ≡ true
-      → found number (without number xs n) m ≡ (if m == n then None else found number xs m)
-  unfolding found ascends without
-  found-without [] low high n m a = grind (arith, common_steps)
-  found-without (x ∷ xs) low high n m a =
-      let later = found-without xs (number x) high n m in
-      grind (arith, common_steps, a, later, found-low xs (number x) high m)
-
-  pub has-found : (xs : List X) (n : ℕ) → has number xs n ≡ is_some (found number xs n)
-  unfolding found has
-  has-found [] n = refl
-  has-found (x ∷ xs) n = grind (arith, common_steps, has-found xs n)
-
   pub number-found : (xs : List X) (n : ℕ) (x : X) → found number xs n ≡ Some x → number x ≡ n
   unfolding found
   number-found [] n x e = absurd cc
@@ -70,19 +30,6 @@ module _ {X : Type 0} (number : X → ℕ) where
   changed-again [] n x y e = refl
   changed-again (z ∷ xs) n x y e = grind (arith, common_steps, e, changed-again xs n x y e)
 
-  -- one value more at the end
-  pub changed-front : (f : X → X) (xs : List X) (x : X) (n : ℕ) → (number x == n) ≡ false
-      → changed_at number f (xs ++ x ∷ []) n ≡ changed_at number f xs n ++ x ∷ []
-  unfolding changed_at
-  changed-front f [] x n e = grind (arith, common_steps, e)
-  changed-front f (y ∷ ys) x n e = grind (arith, common_steps, e, changed-front f ys x n e)
-
-  pub found-added : (xs : List X) (x : X) (m : ℕ) → found number xs (number x) ≡ None
-      → found number (xs ++ x ∷ []) m ≡ (if m == number x then Some x else found number xs m)
-  unfolding found
-  found-added [] x m e = grind (arith, common_steps)
-  found-added (y ∷ xs) x m e = grind (arith, common_steps, e, found-added xs x m)
-
   pub has-changed : (f : X → X) (n : ℕ) → ((x : X) → number x ≡ n → number (f x) ≡ n)
       → (xs : List X) (m : ℕ) → has number (changed_at number f xs n) m ≡ has number xs m
   unfolding has changed_at
@@ -105,43 +52,3 @@ module _ {X : Type 0} (number : X → ℕ) where
   unfolding without
   length-left [] n = omega arith
   length-left (x ∷ xs) n = grind (arith, common_steps, length-left xs n)
-
--- what is read of a value stays, where a change of it touches nothing that is read
-module _ {X A : Type 0} (number : X → ℕ) (read : Option X → A) where
-  pub read-changed : (f : X → X) → ((x : X) → number (f x) ≡ number x)
-      → ((x : X) → read (Some (f x)) ≡ read (Some x)) → (xs : List X) (n m : ℕ)
-      → read (found number (changed_at number f xs n) m) ≡ read (found number xs m)
-  unfolding found changed_at
-  read-changed f k e [] n m = refl
-  read-changed f k e (x ∷ xs) n m =
-      grind (arith, common_steps, k x, e x, read-changed f k e xs n m)
-
-  pub read-map : (f : X → X) → ((x : X) → number (f x) ≡ number x)
-      → ((x : X) → read (Some (f x)) ≡ read (Some x)) → (xs : List X) (m : ℕ)
-      → read (found number (map f xs) m) ≡ read (found number xs m)
-  unfolding found
-  read-map f k e [] m = refl
-  read-map f k e (x ∷ xs) m = grind (arith, common_steps, k x, e x, read-map f k e xs m)
-
--- the same of a part
-module _ {X A : Type 0} (number : X → ℕ) (of : X → A) where
-  pub part-changed : (f : X → X) → ((x : X) → number (f x) ≡ number x)
-      → ((x : X) → of (f x) ≡ of x) → (xs : List X) (n m : ℕ)
-      → option_map of (found number (changed_at number f xs n) m)
-      ≡ option_map of (found number xs m)
-  part-changed f k e = read-changed number (option_map of) f k (λ x. ap Some (e x))
-
-  pub part-map : (f : X → X) → ((x : X) → number (f x) ≡ number x) → ((x : X) → of (f x) ≡ of x)
-      → (xs : List X) (m : ℕ)
-      → option_map of (found number (map f xs) m) ≡ option_map of (found number xs m)
-  part-map f k e = read-map number (option_map of) f k (λ x. ap Some (e x))
-
-  -- of one value that takes the place of the one with its number
-  pub part-replaced : (xs : List X) (n m : ℕ) (x y : X) → found number xs n ≡ Some x
-      → number y ≡ number x → of y ≡ of x
-      → option_map of (found number (changed_at number (λ _. y) xs n) m)
-      ≡ option_map of (found number xs m)
-  unfolding found changed_at
-  part-replaced [] n m x y e k h = absurd cc
-  part-replaced (z ∷ xs) n m x y e k h =
-      grind (arith, common_steps, e, k, h, part-replaced xs n m x y)
