@@ -1,10 +1,10 @@
 -- The bytes ahead of a stream are the characters that it gives one by one.
-use Rattle.std.proofs.Common.{◌≡◌, ◌<◌, ℕ, ◌+◌, Bool, true, false, List, [], ◌∷◌, length, drop}
-use Rattle.std.proofs.Common.{refl, sym, ap}
+use Rattle.std.proofs.Common.{◌≡◌, ◌<◌, ℕ, Bool, true, false, List, length, drop}
+use Rattle.std.proofs.Common.{refl, ap}
 use Rattle.std.proofs.Common.{◌∙◌, Option, Some, None, Ok, cond, nat_lt, slice_index, arith}
-use Rattle.std.proofs.lemmas.Grind.{common_steps}
+use Rattle.std.proofs.lemmas.Bool.{le-ltb, lt-ltb, ltb-true}
 use Rattle.vm_memory.specs.MemoryMap.{MemoryMap}
-use Rattle.glk_numbers.specs.Numbered.{changed_at}
+use Rattle.glk_numbers.proofs.FoundLemmas.{changed-again, found-same, number-found}
 use Rattle.glk_streams.specs.Files.{content_of}
 use Rattle.glk_streams.specs.Input.{ahead_passed, bytes_ahead, bytes_by, bytes_from}
 use Rattle.glk_streams.specs.Input.{bytes_in_target, got, passed, passed_by, stream_passed}
@@ -14,8 +14,6 @@ use Rattle.glk_streams.specs.declared.coding.Reading.{Reading}
 use Rattle.glk_streams.specs.declared.stream.Stream.{Stream}
 use Rattle.glk_streams.specs.declared.stream.Target.{Target}
 use Rattle.glk_streams.specs.declared.stream.Target.TheVariants as from
-use Rattle.glk_streams.proofs.ReadsBackLemmas.{found-same}
-use Rattle.glk_streams.proofs.ValidLemmas.{number-found}
 
 -- a plain stream of a file with these bytes that is open for reading
 pub record IsReader (t : StreamTable) (n usage : ℕ) (name bytes : List ℕ)
@@ -30,27 +28,11 @@ pub record IsReader (t : StreamTable) (n usage : ℕ) (name bytes : List ℕ)
 abbrev pub byte_read : ℕ → Reading
 byte_read code = record { code = code; steps = 1 }
 
-below : (a b : ℕ) → a < b → nat_lt a b ≡ true
-below a b l = grind (arith, common_steps, l)
-
-not_below : (a b : ℕ) → a ≡ b → nat_lt a b ≡ false
-not_below a b e = grind (arith, common_steps, e)
-
-is_below : (a b : ℕ) → nat_lt a b ≡ true → a < b
-is_below a b e = grind (arith, common_steps, e)
-
-changed-again : (ss : List Stream) (n : ℕ) (v w : Stream) → v.number ≡ n
-    → changed_at stream_number (λ _. w) (changed_at stream_number (λ _. v) ss n) n
-    ≡ changed_at stream_number (λ _. w) ss n
-unfolding changed_at
-changed-again [] n v w e = refl
-changed-again (x ∷ xs) n v w e = grind (arith, common_steps, e, changed-again xs n v w e)
-
 -- a stream in its third state
 pub with-again : (t : StreamTable) (n : ℕ) (v w : Stream) → v.number ≡ n
     → with_stream (with_stream t n v) n w ≡ with_stream t n w
 with-again t n v w e =
-    ap (λ ss. record t { streams = ss }) (changed-again t.streams n v w e)
+    ap (λ ss. record t { streams = ss }) (changed-again stream_number t.streams n v w e)
 
 module _ (m : MemoryMap) (n usage : ℕ) (name bytes : List ℕ) where
   pub got-byte : (t : StreamTable) (s : Stream) → IsReader t n usage name bytes s
@@ -60,18 +42,19 @@ module _ (m : MemoryMap) (n usage : ℕ) (name bytes : List ℕ) where
         Some (slice_index bytes s.place),
       )
   got-byte t s o l =
-      rw (o.is, o.mode, o.target_is, o.plain, o.content, below s.place (length bytes) l) refl
+      rw (o.is, o.mode, o.target_is, o.plain, o.content, lt-ltb s.place (length bytes) l) refl
 
   pub got-end : (t : StreamTable) (s : Stream) → IsReader t n usage name bytes s
       → s.place ≡ length bytes → got t m n ≡ Ok (t, None)
   got-end t s o e =
-      rw (o.is, o.mode, o.target_is, o.plain, o.content, not_below s.place (length bytes) e) refl
+      let past = le-ltb s.place (length bytes) (omega (arith, e)) in
+      rw (o.is, o.mode, o.target_is, o.plain, o.content, past) refl
 
   pub reader-passed : (t : StreamTable) (s : Stream) (r : Reading)
       → IsReader t n usage name bytes s
       → IsReader (with_stream t n (passed r s)) n usage name bytes (passed r s)
   reader-passed t s r o = record {
-    is = found-same t.streams n s (passed r s) o.is
+    is = found-same stream_number t.streams n s (passed r s) o.is
         (number-found stream_number t.streams n s o.is);
     mode = o.mode;
     target_is = o.target_is;
@@ -109,7 +92,7 @@ ahead-rest t n ahead = of-stream (stream_at t n) refl
       name = name;
       bytes = content_of t.files u name;
       reader = record { is = e; mode = k; target_is = f; plain = p; content = refl };
-      more = is_below s.place (length (content_of t.files u name)) l;
+      more = ltb-true s.place (length (content_of t.files u name)) l;
       is_rest = (let y : drop s.place (content_of t.files u name) ≡ ahead = cc in y);
       passes = ap (λ o. of_stream o (t, 0) (λ s. stream_passed t n s (bytes_by t.files s))) e
           ∙ ap (stream_passed t n s) by;

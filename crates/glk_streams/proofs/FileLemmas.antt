@@ -3,10 +3,10 @@ use Rattle.std.proofs.Common.{◌≡◌, ◌≤◌, ℕ, suc, ◌+◌, List, [],
 use Rattle.std.proofs.Common.{slice_set, slice_index_or, true, false, length}
 use Rattle.std.specs.Prelude.{remove, insert, is_some, IfNone, IfSome}
 use Rattle.std.proofs.lemmas.Grind.{common_steps}
+use Rattle.glk_numbers.proofs.PlaceLemmas.{remove-cons}
 use Rattle.glk_streams.specs.declared.file.File.{File}
 use Rattle.glk_streams.specs.Files.{seat_of, spot_of, has_file, sum_of_bytes, content_of}
 use Rattle.glk_streams.specs.Files.{file_with_bytes, with_file, without_file, file_of}
-use Rattle.glk_streams.proofs.PlaceLemmas.{remove-cons}
 
 has-none : (fs : List File) (u : ℕ) (n : List ℕ) → None ≡ seat_of fs u n → has_file fs u n ≡ false
 unfolding has_file seat_of

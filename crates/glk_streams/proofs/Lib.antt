@@ -1,5 +1,4 @@
 pub mod StandardFacts
-pub mod PlaceLemmas
 pub mod FileLemmas
 pub mod CodingLemmas
 pub mod NameLemmas

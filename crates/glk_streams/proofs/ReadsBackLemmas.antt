@@ -1,8 +1,9 @@
 -- What is put to one stream is what another gives.
 use Rattle.std.proofs.Common.{◌≡◌, ◌≢◌, ◌≤◌, ℕ, ◌+◌, ◌-◌, Bool, true, false}
 use Rattle.std.proofs.Common.{◌&&◌, List, [], ◌∷◌, ◌++◌, refl, sym, ap, ◌∙◌, subst}
-use Rattle.std.proofs.Common.{Some, Ok, arith, nat_le, length}
+use Rattle.std.proofs.Common.{Ok, arith, nat_le, length}
 use Rattle.std.proofs.Common.{length-append}
+use Rattle.std.proofs.lemmas.Bool.{and_from}
 use Rattle.std.proofs.lemmas.Grind.{common_steps}
 use mathlib.Core.List.{append_assoc, append-nil}
 use Rattle.std.specs.Ordering.{is_eq, nat_cmp, ordering_reverse}
@@ -10,7 +11,7 @@ use Rattle.std.specs.declared.cmp.Ordering.{Ordering}
 use Rattle.std.specs.declared.cmp.Ordering.TheVariants.{Less, Equal, Greater}
 use Rattle.std.specs.Cmp.Lexicographic.{slice_cmp, nat_list_cmp_total}
 use Rattle.vm_memory.specs.MemoryMap.{MemoryMap, replaced}
-use Rattle.glk_numbers.specs.Numbered.{found, changed_at}
+use Rattle.glk_numbers.proofs.FoundLemmas.{found-other, found-same, number-found}
 use Rattle.glk_streams.specs.declared.coding.Coding.{Coding}
 use Rattle.glk_streams.specs.declared.file.File as file
 use Rattle.glk_streams.specs.declared.stream.Stream.{Stream}
@@ -26,26 +27,11 @@ use Rattle.glk_streams.specs.RoundTrip.{has_code, AreHeld, bytes_of_characters, 
 use Rattle.glk_streams.specs.RoundTrip.{IsOpen, put_all, GivesCharacters, ReadsBack}
 use Rattle.glk_streams.specs.Streams.{StreamTable, stream_number, with_stream, is_read_mode}
 use Rattle.glk_streams.specs.Streams.{is_write_mode}
-use Rattle.glk_streams.proofs.ValidLemmas.{bytes-bytes, bytes-file, number-found}
-use Rattle.glk_streams.proofs.ValidLaws.{both, no-content}
+use Rattle.glk_streams.proofs.ValidLemmas.{bytes-bytes, bytes-file}
+use Rattle.glk_streams.proofs.ValidLaws.{no-content}
 use Rattle.glk_streams.proofs.RoundTripLemmas.{IsWhole, kept-held, units-append, whole-append}
 use Rattle.glk_streams.proofs.RoundTripLemmas.{start-end, replaced-end, reads, empty-whole}
 use Rattle.glk_streams.proofs.RoundTripLemmas.{empty-units}
-
--- streams that are changed
-
-pub found-same : (ss : List Stream) (n : ℕ) (s v : Stream) → found stream_number ss n ≡ Some s
-    → v.number ≡ n
-    → found stream_number (changed_at stream_number (λ _. v) ss n) n ≡ Some v
-unfolding found changed_at
-found-same [] n s v e k = absurd (grind (arith, e))
-found-same (x ∷ ss) n s v e k = grind (arith, common_steps, e, k, found-same ss n s v)
-
-found-other : (ss : List Stream) (n m : ℕ) (v : Stream) → v.number ≡ n → m ≢ n
-    → found stream_number (changed_at stream_number (λ _. v) ss n) m ≡ found stream_number ss m
-unfolding found changed_at
-found-other [] n m v k a = refl
-found-other (x ∷ ss) n m v k a = grind (arith, common_steps, k, a, found-other ss n m v k a)
 
 -- files that are changed
 
@@ -167,7 +153,7 @@ module _ (m : MemoryMap) (a b u : ℕ) (n : List ℕ) (unicode : Bool) (apart : 
       let after = with_stream (record t { files = files }) a v in
       let put_files : put_bytes t.files place u n c (bytes_kept c x) ≡ (files, next) =
       rw kept_new (put-bytes-kept t.files place u n c new bytes all o.content
-      (both _ _ o.may (fits (sum_of_bytes t.files) (length bytes) (byte_start c bytes place)
+      (and_from _ _ o.may (fits (sum_of_bytes t.files) (length bytes) (byte_start c bytes place)
       (length new) start room))
       (replaced-end bytes new (byte_start c bytes place) start) (stays c bytes)) in
       let kept_by : put_by t.files m s x ≡ Ok (files, m, next) =
@@ -181,7 +167,7 @@ module _ (m : MemoryMap) (a b u : ℕ) (n : List ℕ) (unicode : Bool) (apart : 
         on = record {
           writer = record {
             stream = v;
-            is = found-same t.streams a s v o.writer.is number;
+            is = found-same stream_number t.streams a s v o.writer.is number;
             mode = o.writer.mode;
             target_is = o.writer.target_is;
             unicode_is = o.writer.unicode_is;
@@ -189,7 +175,7 @@ module _ (m : MemoryMap) (a b u : ℕ) (n : List ℕ) (unicode : Bool) (apart : 
           };
           reader = record {
             stream = r;
-            is = found-other t.streams a b v number (λ e. apart (sym e)) ∙ o.reader.is;
+            is = found-other stream_number t.streams a b v number (λ e. apart (sym e)) ∙ o.reader.is;
             mode = o.reader.mode;
             target_is = o.reader.target_is;
             unicode_is = o.reader.unicode_is;
@@ -253,7 +239,7 @@ module _ (m : MemoryMap) (a b u : ℕ) (n : List ℕ) (unicode : Bool) (apart : 
       let number : v.number ≡ b = number-found stream_number t.streams b s o.is in
       let rest = gets xs (with_stream t b v) bytes (place + r.0) (record {
         stream = v;
-        is = found-same t.streams b s v o.is number;
+        is = found-same stream_number t.streams b s v o.is number;
         mode = o.mode;
         target_is = o.target_is;
         unicode_is = o.unicode_is;

@@ -6,6 +6,7 @@ use Rattle.std.proofs.lemmas.Grind.{common_steps}
 use mathlib.Core.List.{append-nil, append_assoc}
 use Rattle.std.proofs.Math.Seq.{drop-append_seam, get_or-append_seam, take-length}
 use Rattle.std.proofs.lemmas.List.{nil_from_length}
+use Rattle.std.proofs.lemmas.Bool.{lt-ltb}
 use Rattle.std.proofs.lemmas.Bool.Decides.{nat_tests}
 use Rattle.std.specs.Char.{encode_utf8}
 use Rattle.byteorder.specs.Endian.{big_bytes}
@@ -100,9 +101,6 @@ puts-spell c bytes (x ∷ xs) w h =
     ∙ puts-spell c (bytes ++ bytes_in c x) xs (whole-append c bytes x w) h.1
     ∙ append_assoc bytes (bytes_in c x) (bytes_of_characters c xs)
 
-below : (n m : ℕ) → n < m → nat_lt n m ≡ true
-below n m h = grind (arith, common_steps)
-
 some-encode : (x : ℕ) → 0 < length (encode_utf8 x)
 unfolding encode_utf8
 some-encode x = grind (arith, nat_tests)
@@ -114,7 +112,7 @@ first-char Latin1 bytes rest x w h =
     let long : length (bytes ++ x ∷ rest) ≡ length bytes + length (x ∷ rest) =
     length-append bytes (x ∷ rest) in
     let inside : nat_lt (length bytes) (length (bytes ++ x ∷ rest)) ≡ true =
-    below _ _ (omega (arith, long)) in
+    lt-ltb _ _ (omega (arith, long)) in
     rw (append_assoc bytes (x ∷ []) rest, inside)
     (ap (λ (code : ℕ). Some (record { code = code; steps = 1 }))
     (get_or-append_seam bytes x rest 0))
@@ -125,7 +123,7 @@ first-char Utf8 bytes rest x w h =
     let more : length (encode_utf8 x ++ rest) ≡ length (encode_utf8 x) + length rest =
     length-append (encode_utf8 x) rest in
     let inside : nat_lt (length bytes) (length (bytes ++ (encode_utf8 x ++ rest))) ≡ true =
-    below _ _ (omega (arith, long, more, some-encode x)) in
+    lt-ltb _ _ (omega (arith, long, more, some-encode x)) in
     rw (
       append_assoc bytes (encode_utf8 x) rest,
       inside,
@@ -140,7 +138,7 @@ first-char Utf32 bytes rest x w h =
     length-append bytes (new ++ rest) in
     let more : length (new ++ rest) ≡ length new + length rest = length-append new rest in
     let inside : nat_lt (length bytes / 4) (length (bytes ++ (new ++ rest)) / 4) ≡ true =
-    below _ _ (omega (arith, long, more, four, w)) in
+    lt-ltb _ _ (omega (arith, long, more, four, w)) in
     let fits : x < 256 ^ 4 = grind (arith, common_steps, h) in
     let value : number_at 4 (bytes ++ (new ++ rest)) (4 * (length bytes / 4)) ≡ x =
     rw (w, drop-append_seam bytes (new ++ rest)) (big_number-reads_back 4 x rest fits) in

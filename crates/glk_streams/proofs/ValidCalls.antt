@@ -4,7 +4,7 @@ use Rattle.std.proofs.Common.{◌++◌, refl, Option, Some, None, Result, Ok, Er
 use Rattle.std.proofs.Common.{nat_le, ◌==◌, length, not, take, drop, length-append, length-drop}
 use Rattle.std.specs.Prelude.{cond}
 use Rattle.std.proofs.lemmas.Grind.{common_steps}
-use Rattle.std.proofs.lemmas.Bool.{and_parts}
+use Rattle.std.proofs.lemmas.Bool.{and_from, and_parts, not-false, or_parts}
 use Rattle.std.proofs.lemmas.List.{length-take}
 use Rattle.vm_memory.specs.Chaining.{◌>>=◌}
 use Rattle.vm_memory.specs.MemoryMap.{MemoryMap, replaced}
@@ -38,15 +38,11 @@ use Rattle.glk_streams.specs.Streams.{StreamTable, ref_number_of, stream_at}
 use Rattle.glk_streams.specs.Streams.{ref_at, stream_of_window, is_window_target}
 use Rattle.glk_streams.specs.Streams.{of_stream, with_stream, is_write_mode}
 use Rattle.glk_streams.specs.Valid.{is_current, are_files, are_streams}
-use Rattle.glk_streams.proofs.ValidLemmas.{count-window, count-more, or_parts}
+use Rattle.glk_streams.proofs.ValidLemmas.{count-window, count-more}
 use Rattle.glk_streams.proofs.ValidLaws.{Parts, parts_of, of_parts, changed-valid, files_of}
-use Rattle.glk_streams.proofs.ValidLaws.{files-held, both}
-use Rattle.glk_streams.proofs.ValidLaws.{files-without, held_of, streams-more, streams-changed}
+use Rattle.glk_streams.proofs.ValidLaws.{files-held}
+use Rattle.glk_streams.proofs.ValidLaws.{files-without, held_of, streams-more}
 use Rattle.glk_streams.proofs.ValidLaws.{streams-without, streams-current, refs-more, refs-without}
-
-negated : (x : Bool) → not x ≡ false → x ≡ true
-negated true e = refl
-negated false e = absurd (grind (arith, e))
 
 -- opening
 
@@ -87,7 +83,7 @@ memory-by t buf len mode rock unicode true false e f h =
     grind (arith, common_steps, count-more t.streams v, room.1) in
     rw (e, f) (of_parts (added_with_number t v).0 (record {
       streams = streams-more t.next t.current t.streams v p.streams room.0 refl
-          (both (is_memory_mode mode) true e refl) few;
+          (and_from (is_memory_mode mode) true e refl) few;
       refs = p.refs;
       files = p.files;
     }))
@@ -115,7 +111,7 @@ name-by t u n mode rock unicode s e m stand f h =
     let few : count_of (t.streams ++ v ∷ []) ≤ 64 =
     grind (arith, common_steps, count-more t.streams v, room.1) in
     let streams = streams-more t.next t.current t.streams v p.streams room.0 refl
-    (both (is_file_mode mode) true m refl) few in
+    (and_from (is_file_mode mode) true m refl) few in
     by s e v streams p stand
   where
     by : (s : Bool) → (mode == 1 || not (has_file t.files u n)) ≡ s → (v : Stream)
@@ -143,7 +139,7 @@ ref-by t r mode rock unicode true false e f h =
     let a = or_parts (are_streams_full t) (not (can_open t.files r.usage r.name mode)) f in
     rw (e, f) (name-by t r.usage r.name mode rock unicode
     (mode == 1 || not (has_file t.files r.usage r.name)) refl e
-    (stands t.files r.usage r.name mode (negated _ a.1)) a.0 h)
+    (stands t.files r.usage r.name mode (not-false _ a.1)) a.0 h)
 
 file-by : (t : StreamTable) (o : Option FileRef) (mode rock : ℕ) (unicode : Bool)
     → AreValidStreams t

@@ -2,7 +2,7 @@
 use Rattle.std.proofs.Common.{◌≡◌, ◌≤◌, ◌<◌, ℕ, ◌+◌, Bool, true, false, ◌&&◌, ◌||◌, List, [], ◌∷◌}
 use Rattle.std.proofs.Common.{◌++◌, refl, ap, ◌∙◌, Some, arith, nat_le, ◌==◌, length}
 use Rattle.std.proofs.lemmas.Grind.{common_steps}
-use Rattle.std.proofs.lemmas.Bool.{and_parts}
+use Rattle.std.proofs.lemmas.Bool.{and_from, and_parts}
 use Rattle.std.specs.Prelude.{cond}
 use Rattle.glk_numbers.specs.Numbered.{found, changed_at, without, ascends}
 use Rattle.glk_streams.specs.declared.file.File.{File}
@@ -17,17 +17,13 @@ use Rattle.glk_streams.specs.Opening.{count_of}
 use Rattle.glk_streams.specs.Valid.{is_mode, is_sound_stream, are_sound_streams}
 use Rattle.glk_streams.specs.Valid.{is_current, is_next, files_in_order, are_kinds}
 use Rattle.glk_streams.specs.Valid.{are_files, are_streams, are_refs, are_valid_streams}
+use Rattle.glk_numbers.proofs.EachLemmas as all
+use Rattle.glk_numbers.proofs.FoundLemmas.{has-changed, has-more, has-without, length-left, number-found}
+use Rattle.glk_numbers.proofs.OrderLemmas.{ascends-changed, ascends-more, ascends-without}
 use Rattle.glk_streams.proofs.ValidLemmas.{in_order-bytes, in_order-file, in_order-without}
 use Rattle.glk_streams.proofs.ValidLemmas.{kinds-bytes, kinds-file, kinds-without, length-bytes}
 use Rattle.glk_streams.proofs.ValidLemmas.{length-file, length-without, bytes-bytes, bytes-file}
-use Rattle.glk_streams.proofs.ValidLemmas.{bytes-without, ascends-changed, ascends-more}
-use Rattle.glk_streams.proofs.ValidLemmas.{ascends-without, has-changed, has-without, has-more}
-use Rattle.glk_streams.proofs.ValidLemmas.{number-found, length-left, modes-changed, mode-found}
-use Rattle.glk_streams.proofs.ValidLemmas.{modes-without, modes-more, count-changed, count-without}
-
--- the parts of a conjunction, and back
-pub both : (x y : Bool) → x ≡ true → y ≡ true → (x && y) ≡ true
-both x y a b = λ i. a i && b i
+use Rattle.glk_streams.proofs.ValidLemmas.{bytes-without, count-changed, count-without}
 
 pub record Files (fs : List File) : Type 0 where
   pub order : files_in_order fs ≡ true
@@ -43,7 +39,7 @@ files_of fs h =
     record { order = c.0; kinds = c.1; count = b.1; bytes = a.1 }
 
 pub of_files : (fs : List File) → Files fs → are_files fs ≡ true
-of_files fs f = both _ _ (both _ _ (both _ _ f.order f.kinds) f.count) f.bytes
+of_files fs f = and_from _ _ (and_from _ _ (and_from _ _ f.order f.kinds) f.count) f.bytes
 
 held-as : (fs : List File) (u : ℕ) (n b : List ℕ) (s : Bool) → has_file fs u n ≡ s
     → are_files fs ≡ true
@@ -112,7 +108,7 @@ held_of next current ss h =
 pub of_held : (next current : ℕ) (ss : List Stream) → Held next current ss
     → are_streams next current ss ≡ true
 of_held next current ss h =
-    both _ _ (both _ _ (both _ _ (both _ _ h.next_is h.order) h.modes) h.count) h.live
+    and_from _ _ (and_from _ _ (and_from _ _ (and_from _ _ h.next_is h.order) h.modes) h.count) h.live
 
 or-then : (x y z : Bool) → (x || y) ≡ true → (y ≡ true → z ≡ true) → (x || z) ≡ true
 or-then true y z e f = refl
@@ -124,6 +120,15 @@ next-more next h l = grind (arith, common_steps, h)
 next-some : (next : ℕ) → is_next next ≡ true → 0 < next
 next-some next h = grind (arith, common_steps, h)
 
+sound-none : are_sound_streams [] ≡ true
+unfolding are_sound_streams
+sound-none = refl
+
+sound-more : (s : Stream) (ss : List Stream)
+    → are_sound_streams (s ∷ ss) ≡ (is_sound_stream s && are_sound_streams ss)
+unfolding are_sound_streams
+sound-more s ss = refl
+
 pub streams-more : (next current : ℕ) (ss : List Stream) (v : Stream)
     → are_streams next current ss ≡ true
     → next ≤ 4294967294 → v.number ≡ next → is_sound_stream v ≡ true
@@ -134,7 +139,8 @@ streams-more next current ss v h l e m k =
     of_held (next + 1) current (ss ++ v ∷ []) (record {
       next_is = next-more next s.next_is l;
       order = ascends-more stream_number ss 0 next v (next-some next s.next_is) e s.order;
-      modes = modes-more ss v s.modes m;
+      modes = all.all-more stream_number are_sound_streams is_sound_stream sound-none sound-more
+          ss v s.modes m;
       count = grind (arith, common_steps, k);
       live = or-then _ _ _ s.live (has-more stream_number ss v current);
     })
@@ -149,16 +155,19 @@ streams-changed next current ss n s v f e t m y h =
     let r = held_of next current ss h in
     let num : v.number ≡ n = e ∙ number-found stream_number ss n s f in
     let was = and_parts (is_mode s.target s.mode) (nat_le s.style 10)
-    (mode-found ss n s f r.modes) in
+    (all.each-found stream_number are_sound_streams is_sound_stream sound-none sound-more
+    ss n s f r.modes) in
     let kind : is_mode v.target v.mode ≡ true = rw (t, m) was.0 in
     let mode : is_sound_stream v ≡ true =
-    both (is_mode v.target v.mode) (nat_le v.style 10) kind (y was.1) in
+    and_from (is_mode v.target v.mode) (nat_le v.style 10) kind (y was.1) in
     of_held next current (changed_at stream_number (λ _. v) ss n) (record {
       next_is = r.next_is;
-      order = ascends-changed stream_number ss 0 next n v num ∙ r.order;
-      modes = modes-changed ss n v mode r.modes;
+      order = ascends-changed stream_number (λ _. v) n (λ _ _. num) ss 0 next ∙ r.order;
+      modes = all.all-changed stream_number are_sound_streams is_sound_stream sound-none sound-more
+          (λ _. v) (λ _ _. mode) ss n r.modes;
       count = rw (count-changed ss n s v f (ap is_window_target t)) r.count;
-      live = or-then _ _ _ r.live (λ live. has-changed stream_number ss n current v num ∙ live);
+      live = or-then _ _ _ r.live
+          (λ live. has-changed stream_number (λ _. v) n (λ _ _. num) ss current ∙ live);
     })
 
 without-current : (ss : List Stream) (n current : ℕ) (s : Bool) → (current == n) ≡ s
@@ -176,7 +185,8 @@ streams-without next current ss n h =
     of_held next (cond (current == n) 0 current) (without stream_number ss n) (record {
       next_is = r.next_is;
       order = ascends-without stream_number ss 0 next n r.order;
-      modes = modes-without ss n r.modes;
+      modes = all.all-without stream_number are_sound_streams is_sound_stream sound-none sound-more
+          ss n r.modes;
       count = grind (arith, common_steps, count-without ss n, r.count);
       live = without-current ss n current (current == n) refl r.live;
     })
@@ -201,7 +211,7 @@ pub refs-more : (next : ℕ) (rs : List FileRef) (v : FileRef) → are_refs next
 refs-more next rs v h l e k =
     let a = and_parts _ _ h in
     let b = and_parts _ _ a.0 in
-    both _ _ (both _ _ (next-more next b.0 l)
+    and_from _ _ (and_from _ _ (next-more next b.0 l)
     (ascends-more ref_number_of rs 0 next v (next-some next b.0) e b.1))
     (grind (arith, common_steps, k))
 
@@ -210,7 +220,7 @@ pub refs-without : (next : ℕ) (rs : List FileRef) (n : ℕ) → are_refs next 
 refs-without next rs n h =
     let a = and_parts _ _ h in
     let b = and_parts _ _ a.0 in
-    both _ _ (both _ _ b.0 (ascends-without ref_number_of rs 0 next n b.1))
+    and_from _ _ (and_from _ _ b.0 (ascends-without ref_number_of rs 0 next n b.1))
     (grind (arith, common_steps, length-left ref_number_of rs n, a.1))
 
 -- the whole
@@ -226,7 +236,7 @@ parts_of t h =
     record { streams = b.0; refs = b.1; files = a.1 }
 
 pub of_parts : (t : StreamTable) → Parts t → are_valid_streams t ≡ true
-of_parts t p = both _ _ (both _ _ p.streams p.refs) p.files
+of_parts t p = and_from _ _ (and_from _ _ p.streams p.refs) p.files
 
 pub begins : are_valid_streams no_streams ≡ true
 unfolding are_sound_streams ascends files_in_order are_kinds count_of sum_of_bytes

@@ -1,13 +1,15 @@
 -- What a change of files, streams or references keeps of their validity.
-use Rattle.std.proofs.Common.{◌≡◌, ◌≢◌, ◌≤◌, ◌<◌, ℕ, ◌+◌, Bool, true, false, ◌&&◌, ◌||◌, List, []}
+use Rattle.std.proofs.Common.{◌≡◌, ◌≤◌, ℕ, ◌+◌, Bool, true, false, ◌&&◌, List, []}
 use Rattle.std.proofs.Common.{◌∷◌, ◌++◌, refl, ap, ◌∙◌, Some, arith, length}
 use Rattle.std.proofs.lemmas.Grind.{common_steps}
-use Rattle.std.proofs.lemmas.Bool.{and_parts}
+use Rattle.std.proofs.lemmas.Bool.{and_parts, or_parts}
 use Rattle.std.specs.Ordering.{is_eq, is_lt, nat_cmp, ordering_reverse}
 use Rattle.std.specs.declared.cmp.Ordering.{Ordering}
 use Rattle.std.specs.declared.cmp.Ordering.TheVariants.{Less, Equal, Greater}
 use Rattle.std.specs.Cmp.Lexicographic.{slice_cmp, nat_list_cmp_total}
-use Rattle.glk_numbers.specs.Numbered.{has, found, changed_at, without, ascends}
+use Rattle.glk_numbers.specs.Numbered.{found, changed_at, without}
+pub use Rattle.glk_numbers.proofs.FoundLemmas.{number-found}
+pub use Rattle.glk_numbers.proofs.OrderLemmas.{ascends-without}
 use Rattle.glk_streams.specs.declared.file.File.{File}
 use Rattle.glk_streams.specs.declared.stream.Stream.{Stream}
 use Rattle.glk_streams.specs.Files.{key_of_file, file_key, is_named, stands_before}
@@ -15,12 +17,7 @@ use Rattle.glk_streams.specs.Files.{has_file, content_of, file_with_bytes}
 use Rattle.glk_streams.specs.Files.{with_file, without_file, sum_of_bytes}
 use Rattle.glk_streams.specs.Streams.{stream_number, is_window_target}
 use Rattle.glk_streams.specs.Opening.{count_of}
-use Rattle.glk_streams.specs.Valid.{is_sound_stream, are_sound_streams}
 use Rattle.glk_streams.specs.Valid.{is_first, files_in_order, are_kinds}
-
-pub or_parts : (x y : Bool) → (x || y) ≡ false → (x ≡ false) × (y ≡ false)
-or_parts true y e = absurd (grind (arith, e))
-or_parts false y e = (refl, e)
 
 -- keys
 
@@ -186,100 +183,7 @@ unfolding without_file sum_of_bytes
 bytes-without [] u n = omega arith
 bytes-without (f ∷ fs) u n = grind (arith, common_steps, bytes-without fs u n)
 
--- streams and references by number
-
-module _ {X : Type 0} (number : X → ℕ) where
-  pub ascends-changed : (xs : List X) (low high n : ℕ) (v : X) → number v ≡ n
-      → ascends number low high (changed_at number (λ _. v) xs n) ≡ ascends number low high xs
-  unfolding ascends changed_at
-  ascends-changed [] low high n v e = refl
-  ascends-changed (x ∷ xs) low high n v e =
-      grind (arith, common_steps, e, ascends-changed xs (number x) high n v e)
-
-  pub ascends-more : (xs : List X) (low high : ℕ) (v : X) → low < high → number v ≡ high
-      → ascends number low high xs ≡ true → ascends number low (high + 1) (xs ++ v ∷ []) ≡ true
-  unfolding ascends
-  ascends-more [] low high v l e a = grind (arith, common_steps, e, l)
-  ascends-more (x ∷ xs) low high v l e a =
-      grind (arith, common_steps, a, ascends-more xs (number x) high v)
-
-  ascends-lower : (xs : List X) (low lower high : ℕ) → lower ≤ low
-      → ascends number low high xs ≡ true
-      → ascends number lower high xs ≡ true
-  unfolding ascends
-  ascends-lower [] low lower high l a = refl
-  ascends-lower (x ∷ xs) low lower high l a = grind (arith, common_steps, a, l)
-
-  pub ascends-without : (xs : List X) (low high n : ℕ) → ascends number low high xs ≡ true
-      → ascends number low high (without number xs n) ≡ true
-  unfolding ascends without
-  ascends-without [] low high n a = refl
-  ascends-without (x ∷ xs) low high n a =
-      grind (
-        arith,
-        common_steps,
-        a,
-        ascends-without xs (number x) high n,
-        ascends-lower xs
-            (number x) low high,
-      )
-
-  pub has-changed : (xs : List X) (n m : ℕ) (v : X) → number v ≡ n
-      → has number (changed_at number (λ _. v) xs n) m ≡ has number xs m
-  unfolding has changed_at
-  has-changed [] n m v e = refl
-  has-changed (x ∷ xs) n m v e = grind (arith, common_steps, e, has-changed xs n m v e)
-
-  pub has-without : (xs : List X) (n m : ℕ) → m ≢ n
-      → has number (without number xs n) m ≡ has number xs m
-  unfolding has without
-  has-without [] n m h = refl
-  has-without (x ∷ xs) n m h = grind (arith, common_steps, h, has-without xs n m h)
-
-  pub has-more : (xs : List X) (v : X) (m : ℕ) → has number xs m ≡ true
-      → has number (xs ++ v ∷ []) m ≡ true
-  unfolding has
-  has-more [] v m h = absurd (grind (arith, h))
-  has-more (x ∷ xs) v m h = grind (arith, common_steps, h, has-more xs v m)
-
-  pub number-found : (xs : List X) (n : ℕ) (x : X) → found number xs n ≡ Some x → number x ≡ n
-  unfolding found
-  number-found [] n x e = absurd (grind (arith, e))
-  number-found (y ∷ ys) n x e = grind (arith, common_steps, e, number-found ys n x)
-
-  pub length-left : (xs : List X) (n : ℕ) → length (without number xs n) ≤ length xs
-  unfolding without
-  length-left [] n = omega arith
-  length-left (x ∷ xs) n = grind (arith, common_steps, length-left xs n)
-
--- modes and the count
-
-pub modes-changed : (ss : List Stream) (n : ℕ) (v : Stream) → is_sound_stream v ≡ true
-    → are_sound_streams ss ≡ true
-    → are_sound_streams (changed_at stream_number (λ _. v) ss n) ≡ true
-unfolding are_sound_streams changed_at
-modes-changed [] n v m a = refl
-modes-changed (s ∷ ss) n v m a = grind (arith, common_steps, m, a, modes-changed ss n v m)
-
-pub mode-found : (ss : List Stream) (n : ℕ) (s : Stream) → found stream_number ss n ≡ Some s
-    → are_sound_streams ss ≡ true
-    → is_sound_stream s ≡ true
-unfolding are_sound_streams found
-mode-found [] n s e a = absurd (grind (arith, e))
-mode-found (x ∷ ss) n s e a = grind (arith, common_steps, e, a, mode-found ss n s)
-
-pub modes-without : (ss : List Stream) (n : ℕ) → are_sound_streams ss ≡ true
-    → are_sound_streams (without stream_number ss n) ≡ true
-unfolding are_sound_streams without
-modes-without [] n a = refl
-modes-without (s ∷ ss) n a = grind (arith, common_steps, a, modes-without ss n)
-
-pub modes-more : (ss : List Stream) (v : Stream) → are_sound_streams ss ≡ true
-    → is_sound_stream v ≡ true
-    → are_sound_streams (ss ++ v ∷ []) ≡ true
-unfolding are_sound_streams
-modes-more [] v a m = grind (arith, common_steps, m)
-modes-more (s ∷ ss) v a m = grind (arith, common_steps, a, m, modes-more ss v)
+-- the count
 
 pub count-changed : (ss : List Stream) (n : ℕ) (s v : Stream) → found stream_number ss n ≡ Some s
     → is_window_target v.target ≡ is_window_target s.target

@@ -1,6 +1,7 @@
 -- The five checks, both ways.
 use Rattle.std.proofs.Common.{◌≡◌, ◌≤◌, ◌==◌, ◌&&◌, ◌||◌, ◌%◌, ℕ, Bool, true, false, nat_le}
 use Rattle.std.proofs.Common.{nat_lt, List, length, arith, refl, Result, Ok, Err, if◌then◌else◌}
+use Rattle.std.proofs.lemmas.Bool.{and_from, and_parts, eq-eqb, eqb-true, le-ltb, ltb-false}
 use Rattle.std.proofs.lemmas.Bool.Decides.{nat_tests}
 use Rattle.glulx_image.specs.Header.{magic, version, has_version, is_page, has_pages, has_order}
 use Rattle.glulx_image.specs.Header.{is_too_large, extstart, ramstart, endmem, stack_size}
@@ -43,13 +44,6 @@ taken : (short n k l large cut : Bool) (file : List ℕ) → Passed short n k l 
     → tested short n k l large cut file ≡ Ok file
 taken short n k l large cut file p = rw (p.long, p.named, p.known, p.laid, p.small, p.whole) refl
 
-two : (a b : Bool) → (a && b) ≡ true → (a ≡ true) × (b ≡ true)
-two true b e = (refl, e)
-two false b e = absurd cc
-
-joined : (a b : Bool) → a ≡ true → b ≡ true → (a && b) ≡ true
-joined a b e f = rw (e, f) refl
-
 pages : (a b c d : ℕ) → ((is_page a && is_page b) && (is_page c && is_page d)) ≡ true
     → (a % 256 ≡ 0) × (b % 256 ≡ 0) × (c % 256 ≡ 0) × (d % 256 ≡ 0)
 pages a b c d h = grind (arith, nat_tests)
@@ -86,28 +80,16 @@ in_between : (v : ℕ)
     → (nat_le 0x00020000 v && nat_le v 0x000301FF) ≡ true
 in_between v e f = grind (arith, nat_tests)
 
-equal : (a b : ℕ) → (a == b) ≡ true → a ≡ b
-equal a b h = grind (arith, nat_tests)
-
-are_equal : (a b : ℕ) → a ≡ b → (a == b) ≡ true
-are_equal a b h = grind (arith, nat_tests)
-
-not_below : (a b : ℕ) → nat_lt a b ≡ false → b ≤ a
-not_below a b h = grind (arith, nat_tests)
-
-none_below : (a b : ℕ) → b ≤ a → nat_lt a b ≡ false
-none_below a b h = grind (arith, nat_tests)
-
 keeps : (file : List ℕ) → image_of file ≡ Ok file → IsImage file
 keeps file e =
     let p =
     passes (nat_lt (length file) 36) (magic file == 0x476C756C) (has_version file)
     (has_pages file && has_order file)
     (is_too_large file) (nat_lt (length file) (extstart file)) file e in
-    let l = two (has_pages file) (has_order file) p.laid in
+    let l = and_parts (has_pages file) (has_order file) p.laid in
     record {
-      whole = (not_below (length file) 36 p.long, not_below (length file) (extstart file) p.whole);
-      named = equal (magic file) 0x476C756C p.named;
+      whole = (ltb-false (length file) 36 p.long, ltb-false (length file) (extstart file) p.whole);
+      named = eqb-true (magic file) 0x476C756C p.named;
       known = between (version file) p.known;
       pages = pages (ramstart file) (extstart file) (endmem file) (stack_size file) l.0;
       order = order (ramstart file) (extstart file) (endmem file) l.1;
@@ -120,15 +102,15 @@ takes file i =
     (has_pages file && has_order file)
     (is_too_large file) (nat_lt (length file) (extstart file)) file
     (record {
-      long = none_below (length file) 36 i.whole.0;
-      named = are_equal (magic file) 0x476C756C i.named;
+      long = le-ltb (length file) 36 i.whole.0;
+      named = eq-eqb (magic file) 0x476C756C i.named;
       known = in_between (version file) i.known.0 i.known.1;
-      laid = joined (has_pages file) (has_order file)
+      laid = and_from (has_pages file) (has_order file)
           (are_pages (ramstart file) (extstart file) (endmem file)
           (stack_size file) i.pages.0 i.pages.1 i.pages.2 i.pages.3)
           (in_order (ramstart file) (extstart file) (endmem file) i.order.0 i.order.1 i.order.2);
       small = in_limits (length file) (endmem file) (stack_size file) i.sizes.0 i.sizes.1 i.sizes.2;
-      whole = none_below (length file) (extstart file) i.whole.1;
+      whole = le-ltb (length file) (extstart file) i.whole.1;
     })
 
 pub accepts_images : AcceptsImages

@@ -10,6 +10,7 @@ use Rattle.vm_heap.proofs.HeapLemmas.{none, left_one, Next, next_of}
 use Rattle.vm_heap.proofs.HeapLemmas.{in_order-cons, in_order-limit, filled_heap}
 use Rattle.vm_heap.specs.Allocation.{with_block}
 use Rattle.std.proofs.Math.ListN.{get_or, drop_of_length-le}
+use Rattle.std.proofs.lemmas.Bool.{and_right}
 
 -- the address where the walk stops
 abbrev pub walk : ℕ → ℕ → List Block → ℕ
@@ -51,10 +52,6 @@ at_once bs b size from s n l e = record {
 both_false : (x y z : Bool) → x ≡ false → y ≡ false → ((x || y) && z) ≡ false
 both_false x y z e f = rw e (rw f refl)
 
-last_false : (x y : Bool) → y ≡ false → (x && y) ≡ false
-last_false true y e = e
-last_false false y e = refl
-
 right_true : (x y z : Bool) → y ≡ true → z ≡ true → ((x || y) && z) ≡ true
 right_true true y z e f = f
 right_true false y z e f = rw e f
@@ -76,7 +73,7 @@ further bs b size from w n e r = record {
       as (λ t. nat_le (block_end b) a ≡ t → fits (b ∷ bs) size a ≡ false) [
         | true ↦ (λ f.
             let up : block_end b ≤ a = grind (arith, common_steps) in
-            last_false (nat_le (a + size) b.at || nat_le (block_end b) a) (fits bs size a)
+            and_right (nat_le (a + size) b.at || nat_le (block_end b) a) (fits bs size a)
             (r.least a up u))
         | false ↦ (λ f.
             let meets : nat_le (a + size) b.at ≡ false = grind (arith, common_steps) in

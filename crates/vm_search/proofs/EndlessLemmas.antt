@@ -1,11 +1,11 @@
 -- A search that goes on for 2^32 steps goes on for ever.
-use Rattle.std.proofs.Common.{◌≡◌, ◌∙◌, ◌⊎◌, inl, inr, ℕ, zero, suc, ◌+◌, ◌-◌, ◌*◌, ◌%◌, ◌<◌, ◌≤◌}
-use Rattle.std.proofs.Common.{◌==◌, ◌&&◌, ◌||◌, not, nat_le, nat_lt, Bool, true, false, cond, List}
+use Rattle.std.proofs.Common.{◌≡◌, ◌∙◌, inl, inr, ℕ, zero, suc, ◌+◌, ◌-◌, ◌*◌, ◌%◌, ◌<◌, ◌≤◌}
+use Rattle.std.proofs.Common.{◌==◌, ◌&&◌, not, nat_le, nat_lt, Bool, true, false, cond, List}
 use Rattle.std.proofs.Common.{[], ◌∷◌, length, Option, Some, None, Result, Ok, Err, refl, sym, ap}
 use Rattle.std.proofs.Common.{subst, arith}
 use Rattle.std.proofs.Math.Dec.{eqb}
 use Rattle.std.proofs.Math.Nat.{add-mod, mod-mod, mod-lt}
-use Rattle.std.proofs.lemmas.Bool.{eqb-true, leb-true, ne_eqb}
+use Rattle.std.proofs.lemmas.Bool.{eq-eqb, eqb-true, leb-true, ne_eqb, or_cases}
 use Rattle.std.proofs.lemmas.Nat.{mul-mod}
 use Rattle.std.proofs.lemmas.Map.Steps.{length-le_from_distinct_below}
 use Rattle.std.specs.List.{AllByRecursion, IsDistinct, list_any}
@@ -72,9 +72,6 @@ limitless : (b c d : Bool) → c ≡ true → (b && c) ≡ false → (b && d) �
 limitless true c d e h = absurd cc
 limitless false c d e h = refl
 
-same_number : (n : ℕ) → (n == n) ≡ true
-same_number n = grind arith
-
 no_end : (b : Bool) (x : Ending) (o : Option Ending) → b ≡ false → o ≡ None
     → cond b (Some x) o ≡ None
 no_end b x o e h = rw (e, h) refl
@@ -91,7 +88,7 @@ linear_endless m q c h k =
     (none_among (linear_ends m q) 0 4294967296 h r (omega arith) (omega (arith, l))) in
     no_end (is_past q k) (ending k (Ok (failure q))) (at_index m q k)
     (limitless (not (q.count == 4294967295)) (q.count == q.count) (q.count == k)
-    (same_number q.count) limit.0)
+    (eq-eqb q.count q.count refl) limit.0)
     (subst (λ (a : ℕ). at_structure (k + 1) (found_at q k) (failure q)
     (ends_at_zero q && is_zero m q a) (compared m q a) ≡ None) (again q k)
     (stays (r + 1) (found_at q r) (failure q) (k + 1) (found_at q k) (failure q)
@@ -183,16 +180,12 @@ all_apart f (suc n) h = (
       (λ i j l k. h i j l (omega (arith, k))),
 )
 
-either : (a b : Bool) → (a || b) ≡ true → (a ≡ true) ⊎ (b ≡ true)
-either true b h = inl refl
-either false b h = inr h
-
 all_below : (f : ℕ → ℕ) (n limit q : ℕ) → ((i : ℕ) → i < n → f i < limit)
     → list_any (eqb q) (upto f n) ≡ true → q < limit
 unfolding upto
 all_below f zero limit q h e = absurd cc
 all_below f (suc n) limit q h e =
-    elim (either (eqb q (f n)) (list_any (eqb q) (upto f n)) e) as (λ _. q < limit) [
+    elim (or_cases (eqb q (f n)) (list_any (eqb q) (upto f n)) e) as (λ _. q < limit) [
       | inl t ↦ (let s = eqb-true q (f n) t in let b = h n (omega arith) in omega (arith, s, b))
       | inr r ↦ all_below f n limit q (λ i l. h i (omega (arith, l))) r
     ]

@@ -4,6 +4,7 @@ use Rattle.std.proofs.Common.{true, false, cond, nat_lt, Option, Some, None, Res
 use Rattle.std.proofs.Common.{sym, ap, subst, arith}
 use Rattle.std.specs.declared.cmp.Ordering.TheVariants.{Less, Equal, Greater}
 use Rattle.std.specs.declared.cmp.Ordering.{Ordering}
+use Rattle.std.proofs.lemmas.Bool.{and_from, and_parts, both_ways}
 use Rattle.vm_memory.specs.MemoryMap.{MemoryMap}
 use Rattle.vm_memory.specs.Access.{read}
 use Rattle.vm_memory.specs.declared.fault.MemFault.{MemFault}
@@ -60,13 +61,6 @@ first ends (suc k) n e h =
     look ends n e (ends n) (first_ending ends (suc n) k) (λ g. first ends k (suc n) e g) refl h
 
 -- ---- one step
-
-both : (a b : Bool) → a ≡ true → b ≡ true → (a && b) ≡ true
-both a b e f = rw (e, f) refl
-
-two : (a b : Bool) → (a && b) ≡ true → (a ≡ true) × (b ≡ true)
-two true b e = (refl, e)
-two false b e = cc
 
 -- a look without an end
 record Goes (r : Result Ordering MemFault) (last : Bool) : Type 0 where
@@ -126,8 +120,8 @@ none_before : (m : MemoryMap) (q : Query) (s : Structures) (next : ℕ → Resul
 none_before m q s next ends steps n h = record {
   some = λ i l. (step_open i l).0;
   other = λ i l e. (went i l).other e;
-  goes_on = λ i l t. clash (last m q (s.place i))
-      (both (ends_at_zero q) (is_zero m q (s.place i)) t.0 t.1) (went i l).more;
+  goes_on = λ i l t. both_ways (last m q (s.place i)) (went i l).more
+      (and_from (ends_at_zero q) (is_zero m q (s.place i)) t.0 t.1);
 }
   where
     step_open : (i : ℕ) → i < n → (s.none_left i ≡ false)
@@ -141,9 +135,6 @@ none_before m q s next ends steps n h = record {
     went i l = goes (i + 1) (s.found i) s.failure (last m q (s.place i)) (compared m q (s.place i))
         (linkable (i + 1) (at_structure (i + 1) (s.found i) s.failure (last m q (s.place i))
         (compared m q (s.place i))) (next i) (step_open i l).1).0
-
-    clash : (b : Bool) → b ≡ true → b ≡ false → ⊥
-    clash b e f = cc
 
 -- ---- what is told
 
@@ -263,7 +254,7 @@ at_end m q s i e found next false p h a l n =
         answer = answer_is e.answer found.answer s.failure a (ap (λ (x : Ending). x.answer) is);
         ends = inr (
           ne,
-          two (ends_at_zero q) (is_zero m q (s.place i)) last,
+          and_parts (ends_at_zero q) (is_zero m q (s.place i)) last,
           l
               ∙ ap (λ (x : Ending). x.looked) is,
         );

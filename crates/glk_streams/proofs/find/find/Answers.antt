@@ -1,4 +1,4 @@
-use Rattle.glk_streams.proofs.PlaceLemmas.{not_found, is_found, is_changed, is_left, none_is_left}
+use Rattle.glk_numbers.proofs.PlaceLemmas.{not_found, is_found, is_changed, is_left, none_is_left}
 use Rattle.glk_streams.proofs.find.find.Goals as goal
 
 pub returns-clause-none : goal.returns-clause-none
