@@ -1,4 +1,4 @@
-// Frames of functions whose locals all have four bytes, in one piece.
+//! Frames of functions whose locals all have four bytes, in one piece.
 ghost use Rattle.std.specs.Prelude.{◌≡◌, ◌≤◌, ◌<◌, ◌+◌, ◌*◌, ◌++◌, length};
 ghost use Rattle.std.specs.Prelude.{get_or, slice_index, true, false};
 ghost use Rattle.std.specs.Prelude.{IfNone, IfSome};
