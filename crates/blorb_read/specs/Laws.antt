@@ -1,7 +1,6 @@
 -- Which entry of a container's index names the story (Blorb 2.0.4, "Contents of the Resource Index
 -- Chunk").
-use Rattle.std.specs.Prelude.{◌≡◌, ℕ, ◌+◌, ◌*◌, ◌<◌, true, false, List}
-use Rattle.std.specs.Prelude.{MatchOption}
+use Rattle.std.specs.Prelude.{◌≡◌, ℕ, ◌+◌, ◌*◌, ◌<◌, true, false, List, MatchOption}
 use Rattle.blorb_read.specs.Container.{word, is_executable, story_start}
 
 -- where the i-th of the entries stands that begin at a place

@@ -1,27 +1,21 @@
 -- What `clap` has against the words of a command without a subcommand `help`: kinds that all ask
 -- for the same.
-use Rattle.std.proofs.Common.{◌≡◌, ℕ, suc, zero, inl, inr, List, [], ◌∷◌, Bool}
-use Rattle.std.proofs.Common.{true, false, not, ◌&&◌, if◌then◌else◌, refl, ap, ◌∙◌}
-use Rattle.std.proofs.Common.{Option, None, Some, find}
-use Rattle.std.proofs.Common.{is_some, slice_get, codes}
+use Rattle.std.proofs.Common.{◌≡◌, ℕ, suc, zero, inl, inr, List, [], ◌∷◌, Bool, true, false, not}
+use Rattle.std.proofs.Common.{◌&&◌, if◌then◌else◌, refl, ap, ◌∙◌, Option, None, Some, find, is_some}
+use Rattle.std.proofs.Common.{slice_get, codes}
 use Rattle.std.specs.Option.{option_map_or}
 use Rattle.std.specs.Str.{bytes_eq, chars}
 use Rattle.clap.specs.Facts.{parser_of_value}
-use Rattle.clap.specs.Faults.{count_fault, action_fault, use_fault, settle_fault}
-use Rattle.clap.specs.Faults.{react_fault, option_fault, long_fault, short_fault, bundle_step_fault}
-use Rattle.clap.specs.Faults.{flags_fault, flag_word_fault, other_fault}
-use Rattle.clap.specs.Faults.{stray_fault, step_fault, turn_fault}
-use Rattle.clap.specs.Faults.{walk_fault, defaults_fault}
-use Rattle.clap.specs.Faults.{level_fault, entered_fault, built_fault, fault_of}
-use Rattle.clap.specs.Kinds.{Kinds, IsAmong, or_else, values_kinds}
-use Rattle.clap.specs.Kinds.{request_kinds}
+use Rattle.clap.specs.Faults.{count_fault, action_fault, use_fault, settle_fault, react_fault}
+use Rattle.clap.specs.Faults.{option_fault, long_fault, short_fault, bundle_step_fault, flags_fault}
+use Rattle.clap.specs.Faults.{flag_word_fault, other_fault, stray_fault, step_fault, turn_fault}
+use Rattle.clap.specs.Faults.{walk_fault, defaults_fault, level_fault, entered_fault, built_fault}
+use Rattle.clap.specs.Faults.{fault_of}
+use Rattle.clap.specs.Kinds.{Kinds, IsAmong, or_else, values_kinds, request_kinds}
 use Rattle.clap.specs.Simple.{App, Shape, argument_words, built, entered, label_of, names_of}
-use Rattle.clap.specs.Walk.{answers_to, arg_by_long}
-use Rattle.clap.specs.Walk.{settled}
-use Rattle.clap.specs.Walk.{walk, walk_from}
-use Rattle.clap.specs.Walk.{Held, Names, Row, Rule, Step, Text, Waiting, Walk, idle}
-use Rattle.clap.specs.Walk.{value}
-use Rattle.clap.specs.Walk.{walked, with_default, nothing_held, subcommand_met}
+use Rattle.clap.specs.Walk.{answers_to, arg_by_long, settled, walk, walk_from, Held, Names, Row}
+use Rattle.clap.specs.Walk.{Rule, Step, Text, Waiting, Walk, idle, value, walked, with_default}
+use Rattle.clap.specs.Walk.{nothing_held, subcommand_met}
 use Rattle.clap.specs.declared.builder.action.ArgAction.{ArgAction}
 use Rattle.clap.specs.declared.builder.action.ArgAction.TheVariants as action
 use Rattle.clap.specs.declared.builder.value_parser.ValueParser.{ValueParser}

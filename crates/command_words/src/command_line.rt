@@ -6,8 +6,7 @@ ghost use Rattle.clap.specs.Words.{AddsSubcommand};
 ghost use Rattle.clap.specs.declared.builder.command.Command.TheViews.{out-Command as fields_of};
 ghost use Rattle.command_words.specs.CommandLine.{bare_app, check_app, drill_app, folder_app};
 ghost use Rattle.command_words.specs.CommandLine.{host_app, init_app, journal_app, named_rule};
-ghost use Rattle.command_words.specs.CommandLine.{pack_app, pipe_app};
-ghost use Rattle.command_words.specs.CommandLine.{repeated_rule, replay_app};
+ghost use Rattle.command_words.specs.CommandLine.{pack_app, pipe_app, repeated_rule, replay_app};
 ghost use Rattle.command_words.specs.CommandLine.{required_rule, run_app, serve_app, served_app};
 ghost use Rattle.command_words.specs.CommandLine.{solo_app, storyhost_app};
 

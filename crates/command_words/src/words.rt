@@ -10,10 +10,8 @@ ghost use Rattle.command_words.specs.Numbers.{IsWorkerCount};
 ghost use Rattle.command_words.specs.Packing.{IsNoPacking};
 ghost use Rattle.command_words.specs.Serving.{HasWorkers, port_in, serving_in, workers_in};
 ghost use Rattle.command_words.specs.Words.{command_asked, asked_alone, asked_by, asked_in};
-ghost use Rattle.command_words.specs.Words.{asked_on};
-ghost use Rattle.command_words.specs.Words.{asked_packing, asked_serving, asked_with, drill_in};
-ghost use Rattle.command_words.specs.Words.{folder_in};
-ghost use Rattle.command_words.specs.Words.{shown_by};
+ghost use Rattle.command_words.specs.Words.{asked_on, asked_packing, asked_serving, asked_with};
+ghost use Rattle.command_words.specs.Words.{drill_in, folder_in, shown_by};
 
 use crate::command::Command;
 use crate::command_line::storyhost;

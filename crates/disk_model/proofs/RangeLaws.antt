@@ -1,7 +1,5 @@
 -- Laws of lists of ranges: their greatest end, and the places outside them (own).
-use Rattle.std.proofs.Common.{◌≡◌, ◌⊎◌, ℕ, ◌<◌, ◌≤◌, max}
-use Rattle.std.proofs.Common.{[], ◌∷◌, ◌++◌}
-use Rattle.std.proofs.Common.{refl, arith}
+use Rattle.std.proofs.Common.{◌≡◌, ◌⊎◌, ℕ, ◌<◌, ◌≤◌, max, [], ◌∷◌, ◌++◌, refl, arith}
 use Rattle.disk_model.specs.DiskState.{Ranges, greatest_end, Untouched}
 
 -- with one range more

@@ -1,6 +1,5 @@
 -- Laws of writes, whole or cut short: what stands where (own).
-use Rattle.std.proofs.Common.{◌≡◌, ◌⊎◌, inl, inr, ℕ, ◌+◌, ◌-◌, ◌<◌}
-use Rattle.std.proofs.Common.{◌≤◌, max, List, ◌++◌, length}
+use Rattle.std.proofs.Common.{◌≡◌, ◌⊎◌, inl, inr, ℕ, ◌+◌, ◌-◌, ◌<◌, ◌≤◌, max, List, ◌++◌, length}
 use Rattle.std.proofs.Common.{get_or, take, drop, replicate, refl, sym, ◌∙◌, ap, arith}
 use Rattle.std.proofs.Common.{length-append}
 use Rattle.std.proofs.lemmas.List.{length-take, length-drop, length-replicate, get_or-take}

@@ -1,8 +1,6 @@
 -- What the calls of a disk do to its bytes, and what a stop may leave of them (own).
-use Rattle.std.specs.Prelude.{◌≡◌, ◌⊎◌, ℕ, ◌+◌, ◌-◌, ◌^◌, ◌<◌}
-use Rattle.std.specs.Prelude.{◌≤◌, min, max, Bool, IsTrue, List}
-use Rattle.std.specs.Prelude.{◌++◌, length, take, drop, replicate, slice_index, Result}
-use Rattle.std.specs.Prelude.{MatchResult}
+use Rattle.std.specs.Prelude.{◌≡◌, ◌⊎◌, ℕ, ◌+◌, ◌-◌, ◌^◌, ◌<◌, ◌≤◌, min, max, Bool, IsTrue, List}
+use Rattle.std.specs.Prelude.{◌++◌, length, take, drop, replicate, slice_index, Result, MatchResult}
 
 -- the file has these bytes at this place
 pub record Holds (file : List ℕ) (at : ℕ) (bytes : List ℕ) : Type 0 where

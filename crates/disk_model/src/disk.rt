@@ -1,11 +1,9 @@
 //! One file as a journal or a snapshot sees it: what it reads as, and what a stop may leave.
 
-ghost use Rattle.std.specs.Prelude.{◌≡◌, ◌⊎◌, ◌+◌, ◌<◌, ◌≤◌, ◌^◌};
-ghost use Rattle.std.specs.Prelude.{ℕ, Bool, List, length, max};
+ghost use Rattle.std.specs.Prelude.{◌≡◌, ◌⊎◌, ◌+◌, ◌<◌, ◌≤◌, ◌^◌, ℕ, Bool, List, length, max};
 ghost use Rattle.std.specs.Prelude.{IsTrue, IsOk, IsErr, IfOk, OnOk, OnErr, is_ok};
 ghost use Rattle.disk_model.specs.Disk.{ReadsFile, file_written, Torn, Follows, NoneNew, Only};
-ghost use Rattle.disk_model.specs.Disk.{Elapses};
-ghost use Rattle.disk_model.specs.Disk.{CountsErrors, SameDisk, FindsNoMemory};
+ghost use Rattle.disk_model.specs.Disk.{Elapses, CountsErrors, SameDisk, FindsNoMemory};
 ghost use Rattle.disk_model.specs.DiskState.{Asked, Looked, Wrote, Synced};
 
 /// The call failed, and was counted.

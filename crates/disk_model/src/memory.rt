@@ -1,8 +1,7 @@
 //! A disk in memory, for tests and models: it fails where it is told to, and may stop at any call.
 
-ghost use Rattle.std.specs.Prelude.{◌≡◌, ◌+◌, ◌≤◌, ◌<◌, ◌^◌, ◌++◌, []};
-ghost use Rattle.std.specs.Prelude.{◌∷◌, length, Bool};
-ghost use Rattle.std.specs.Prelude.{◌==◌, if◌then◌else◌, is_ok, IfOk};
+ghost use Rattle.std.specs.Prelude.{◌≡◌, ◌+◌, ◌≤◌, ◌<◌, ◌^◌, ◌++◌, [], ◌∷◌, length, Bool, ◌==◌};
+ghost use Rattle.std.specs.Prelude.{if◌then◌else◌, is_ok, IfOk};
 ghost use Rattle.std.specs.List.{list_any};
 ghost use Rattle.disk_model.specs.DiskState.{IsDiskImage, IsWell, settled};
 ghost use Rattle.disk_model.specs.Calls.{state_after, LeftSince};

@@ -1,8 +1,7 @@
 //! The calls of a disk in memory: what each does to its bytes, its ranges and its list of calls.
 
-ghost use Rattle.std.specs.Prelude.{◌≡◌, ℕ, List, ◌+◌, ◌≤◌, ◌<◌, ◌^◌};
-ghost use Rattle.std.specs.Prelude.{◌++◌, [], ◌∷◌, length, take, drop};
-ghost use Rattle.std.specs.Prelude.{if◌then◌else◌, vec_capacity, IsOk, OnOk, OnErr};
+ghost use Rattle.std.specs.Prelude.{◌≡◌, ℕ, List, ◌+◌, ◌≤◌, ◌<◌, ◌^◌, ◌++◌, [], ◌∷◌, length, take};
+ghost use Rattle.std.specs.Prelude.{drop, if◌then◌else◌, vec_capacity, IsOk, OnOk, OnErr};
 ghost use Rattle.disk_model.specs.Disk.{file_written, ReadsFile, Elapses};
 ghost use Rattle.disk_model.specs.DiskState.{IsDiskImage, IsWell, after_write, after_sync};
 ghost use Rattle.disk_model.specs.Calls.{state_after, LeftSince};

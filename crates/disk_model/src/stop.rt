@@ -1,7 +1,6 @@
 //! An image that a stop may leave, drawn from a number.
 
-ghost use Rattle.std.specs.Prelude.{◌≡◌, ◌≤◌, ◌<◌, ◌%◌, true, false, IfOk, length};
-ghost use Rattle.std.specs.Prelude.{slice_index};
+ghost use Rattle.std.specs.Prelude.{◌≡◌, ◌≤◌, ◌<◌, ◌%◌, true, false, IfOk, length, slice_index};
 ghost use Rattle.disk_model.specs.DiskState.{DiskState, greatest_end, IsDiskImage, IsLanded};
 ghost use Rattle.disk_model.specs.Drawn.{keeps, written_by, IsDrawn};
 

@@ -10,8 +10,7 @@ use Rattle.session_saves.proofs.AgreementLemmas.{more_commands, new_opens}
 use Rattle.snap_store.specs.File.{Stored}
 use Rattle.store_events.specs.Events.{store_down_over}
 use Rattle.store_events.specs.Rows.{session_in_rows}
-use Rattle.store_events.specs.Session.{Begins, EachMayCome, SessionState, Takes}
-use Rattle.store_events.specs.Session.{lived}
+use Rattle.store_events.specs.Session.{Begins, EachMayCome, SessionState, Takes, lived}
 use Rattle.store_events.proofs.RowLemmas.{rows_are_told}
 use Rattle.story_run.specs.declared.story.Story.{Story}
 use Rattle.folder_runs.specs.Folder.{AgreeWith}

@@ -8,8 +8,7 @@ use Rattle.std.specs.Int.{w16, to_be_bytes}
 use Rattle.std.proofs.lemmas.Bool.{cases_lt, cases_eq, cases_Bool}
 use Rattle.std.proofs.lemmas.Bool.Decides.{Decides-eqb}
 use Rattle.std.proofs.lemmas.Slice.Eq.{starts_is}
-use Rattle.std.proofs.lemmas.List.{length-take, length-drop}
-use Rattle.std.proofs.lemmas.List.{drop_more}
+use Rattle.std.proofs.lemmas.List.{length-take, length-drop, drop_more}
 use Rattle.byteorder.specs.Endian.{big_number}
 use Rattle.line_words.specs.Field.{is_key}
 use Rattle.line_words.specs.Keycode.{is_code}
@@ -30,10 +29,9 @@ use Rattle.gate_journal.specs.Parsing.{BeginsWithRow, IsNoNext}
 use Rattle.gate_journal.specs.Laws.{Reading, Rows, CorruptAt, NoHeader, IsReading, HasOneReading}
 use Rattle.gate_journal.proofs.PayloadLemmas.{AreBytes, key_in, after_in, only_open, only_line}
 use Rattle.gate_journal.proofs.PayloadLemmas.{only_char, only_file, only_close, only_size}
-use Rattle.gate_journal.proofs.PayloadLemmas.{spells_size, spells_whole}
-use Rattle.gate_journal.proofs.PayloadLemmas.{spells_line, spells_char, spells_file, text_found}
-use Rattle.gate_journal.proofs.PayloadLemmas.{text_missing, line_text, file_text, same_command}
-use Rattle.gate_journal.proofs.PayloadLemmas.{bytes_drop, bytes_take, seam}
+use Rattle.gate_journal.proofs.PayloadLemmas.{spells_size, spells_whole, spells_line, spells_char}
+use Rattle.gate_journal.proofs.PayloadLemmas.{spells_file, text_found, text_missing, line_text}
+use Rattle.gate_journal.proofs.PayloadLemmas.{file_text, same_command, bytes_drop, bytes_take, seam}
 use Rattle.gate_journal.proofs.RowLemmas.{length-body, body_parts, behind_rows, spells_split}
 use Rattle.gate_journal.proofs.RowLemmas.{parse_step, one_list, never_both}
 use Rattle.gate_journal.proofs.VersionLemmas.{has_it}

@@ -18,9 +18,8 @@ use Rattle.gate_journal.specs.Rows.{row_body, payload_of, rows_behind_open_gates
 use Rattle.gate_journal.specs.Rows.{journal_bytes, EachNext, IsJournal, MayStand}
 use Rattle.gate_journal.specs.Log.{Log, IsBetween, IsOfSession, IsSinceOpened, entry_number}
 use Rattle.gate_journal.specs.Gate.{IsShut}
-use Rattle.gate_journal.specs.Log.{EndsInFaultOf, InTurn, StandsBehind, row_in}
-use Rattle.gate_journal.specs.Log.{IsSoundJournal, rows_kept, MayOpen, MaySpell}
-use Rattle.gate_journal.specs.Log.{Meanwhile, next_row, rows_of}
+use Rattle.gate_journal.specs.Log.{EndsInFaultOf, InTurn, StandsBehind, row_in, IsSoundJournal}
+use Rattle.gate_journal.specs.Log.{rows_kept, MayOpen, MaySpell, Meanwhile, next_row, rows_of}
 use Rattle.gate_journal.proofs.InTurnLemmas.{number_in, one_turn_more, owned}
 use Rattle.gate_journal.proofs.LimitLemmas.{payload_most}
 use Rattle.gate_journal.proofs.LogLemmas.{closed_shut, stands_closed, stands_well}

@@ -13,8 +13,7 @@ use Rattle.gate_journal.specs.Log.{Log, IsSoundJournal, rows_of, StandsInImage, 
 use Rattle.gate_journal.proofs.RowLemmas.{journal_push, shut_behind}
 use Rattle.std.proofs.lemmas.List.{append-nil}
 use Rattle.gate_journal.proofs.SinceLemmas.{rows_of-append}
-use Rattle.gate_journal.proofs.LogLemmas.{rises-kept}
-use Rattle.gate_journal.proofs.LogLemmas.{rises-faulted, closed_shut, closed_unsure}
+use Rattle.gate_journal.proofs.LogLemmas.{rises-kept, rises-faulted, closed_shut, closed_unsure}
 use Rattle.gate_journal.proofs.LogLemmas.{stands_well, stands_closed, end_push}
 
 module _ {D : Type 0} (tells : D → Bool) (may_leave : D → List ℕ → Type 0)

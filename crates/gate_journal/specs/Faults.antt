@@ -1,6 +1,5 @@
 -- What the refusals of a journal say (own).
-use Rattle.std.specs.Prelude.{◌≡◌, ℕ, ◌<◌, ◌≤◌, Bool, IsTrue, List, length}
-use Rattle.std.specs.Prelude.{Result, MatchResult}
+use Rattle.std.specs.Prelude.{◌≡◌, ℕ, ◌<◌, ◌≤◌, Bool, IsTrue, List, length, Result, MatchResult}
 use Rattle.disk_model.specs.Disk.{Rose}
 use Rattle.gate_journal.specs.declared.fault.DiskFault.{DiskFault}
 use Rattle.gate_journal.specs.declared.fault.JournalFault.{JournalFault}

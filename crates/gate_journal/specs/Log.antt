@@ -1,6 +1,5 @@
 -- A journal as contracts see it, and what a stop may leave of it (own).
-use Rattle.std.specs.Prelude.{◌≡◌, ◌⊎◌, ℕ, ◌+◌, ◌<◌, ◌≤◌, Bool, IsTrue}
-use Rattle.std.specs.Prelude.{max, Option, Some, None}
+use Rattle.std.specs.Prelude.{◌≡◌, ◌⊎◌, ℕ, ◌+◌, ◌<◌, ◌≤◌, Bool, IsTrue, max, Option, Some, None}
 use Rattle.std.specs.Prelude.{IfSome, List, [], ◌∷◌, ◌++◌, length, map, slice_index, take, drop}
 use Rattle.turn_cell.specs.History.{Each}
 use Rattle.disk_model.specs.Disk.{Holds, Rose, EachImage, LeavesOnly, SameDisk}

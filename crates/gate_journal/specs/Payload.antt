@@ -1,6 +1,5 @@
 -- Payloads and the commands that they are of (own: docs/FORMATS.md, "The journal").
-use Rattle.std.specs.Prelude.{◌≡◌, ℕ, List, take, drop}
-use Rattle.std.specs.Prelude.{slice_index}
+use Rattle.std.specs.Prelude.{◌≡◌, ℕ, List, take, drop, slice_index}
 use Rattle.std.specs.Str.{chars}
 use Rattle.byteorder.specs.Endian.{big_number}
 use Rattle.gate_journal.specs.declared.command.Command.{Command}

@@ -4,8 +4,7 @@ ghost use Rattle.std.specs.Prelude.{◌≡◌, ◌↔◌, ◌+◌, ◌≤◌, If
 ghost use Rattle.story_text.specs.Text.{IsText};
 ghost use Rattle.gate_journal.specs.Command.{IsCommand, HasDigest};
 ghost use Rattle.gate_journal.specs.declared.command.Command.TheVariants as Command;
-ghost use Rattle.gate_journal.specs.Rows.{is_open, is_close, command_kind, payload_of};
-ghost use Rattle.gate_journal.specs.Rows.{IsInVersion};
+ghost use Rattle.gate_journal.specs.Rows.{is_open, is_close, command_kind, payload_of, IsInVersion};
 
 use line_words::{Key, is_code, is_key, is_terminator};
 use std::alloc::{AllocError, Global};

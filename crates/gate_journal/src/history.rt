@@ -1,9 +1,7 @@
 //! Rows and faults in their order (own).
 
-ghost use Rattle.std.specs.Prelude.{◌≡◌, ◌++◌, ◌<◌, ◌≤◌, [], ◌∷◌, IfOk};
-ghost use Rattle.std.specs.Prelude.{OnOk, MatchOption, length, replicate};
-ghost use Rattle.std.specs.Prelude.{slice_get, None, Some};
-ghost use Rattle.std.specs.Prelude.{IsTrue, ◌↔◌};
+ghost use Rattle.std.specs.Prelude.{◌≡◌, ◌++◌, ◌<◌, ◌≤◌, [], ◌∷◌, IfOk, OnOk, MatchOption, length};
+ghost use Rattle.std.specs.Prelude.{replicate, slice_get, None, Some, IsTrue, ◌↔◌};
 ghost use Rattle.gate_journal.specs.Log.{rows_of, rows_kept};
 ghost use Rattle.gate_journal.specs.Rows.{MayStand};
 ghost use Rattle.gate_journal.specs.declared.entry.Entry.TheVariants.{Kept, Faulted};

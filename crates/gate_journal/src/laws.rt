@@ -1,8 +1,7 @@
 //! What bytes spell, they spell alone (own).
 
-ghost use Rattle.gate_journal.specs.Laws.{SpellsOneList, IsNeverBoth, HasOnePlace};
-ghost use Rattle.gate_journal.specs.Laws.{EndsWithin, FindsRows, HasOneReading};
-ghost use Rattle.gate_journal.specs.Laws.{KeptFromThen, StopsInTurn};
+ghost use Rattle.gate_journal.specs.Laws.{SpellsOneList, IsNeverBoth, HasOnePlace, EndsWithin};
+ghost use Rattle.gate_journal.specs.Laws.{FindsRows, HasOneReading, KeptFromThen, StopsInTurn};
 
 use disk_model::Disk;
 

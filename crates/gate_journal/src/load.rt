@@ -7,8 +7,7 @@ ghost use Rattle.gate_journal.specs.Faults.{Explains, IsOfDisk, IsNoFault, Unles
 ghost use Rattle.gate_journal.specs.Faults.{IsFault, CountsOpening, IsDiskFault};
 ghost use Rattle.disk_model.specs.Work.{GoodCalls, FailedCall};
 ghost use Rattle.gate_journal.specs.Gate.{IsShut};
-ghost use Rattle.gate_journal.specs.Rows.{journal_bytes, SpellsRows, IsJournal};
-ghost use Rattle.gate_journal.specs.Rows.{version_byte};
+ghost use Rattle.gate_journal.specs.Rows.{journal_bytes, SpellsRows, IsJournal, version_byte};
 ghost use Rattle.gate_journal.specs.Log.{IsMigrating, ReachesGate, rows_of, rows_kept};
 ghost use Rattle.gate_journal.specs.Opening.{opening_calls};
 ghost use Rattle.std.specs.Prelude.{ℕ, MatchResult};

@@ -1,7 +1,6 @@
 //! The rows that bytes spell (own).
 
-ghost use Rattle.std.specs.Prelude.{◌≡◌, ◌+◌, ◌≤◌, ◌++◌, [], List, ℕ};
-ghost use Rattle.std.specs.Prelude.{IfOk, IfErr, MatchOption};
+ghost use Rattle.std.specs.Prelude.{◌≡◌, ◌+◌, ◌≤◌, ◌++◌, [], List, ℕ, IfOk, IfErr, MatchOption};
 ghost use Rattle.std.specs.Prelude.{length, drop, nat_eq, true};
 ghost use Rattle.std.specs.List.{starts_with};
 ghost use Rattle.gate_journal.specs.Rows.{journal_bytes, IsJournal, SpellsRows};

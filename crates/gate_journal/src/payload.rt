@@ -1,7 +1,6 @@
 //! The command of a row, read from its payload (own).
 
-ghost use Rattle.std.specs.Prelude.{◌≡◌, ◌≤◌, ◌+◌, IfOk, MatchOption, length};
-ghost use Rattle.std.specs.Prelude.{None, Some};
+ghost use Rattle.std.specs.Prelude.{◌≡◌, ◌≤◌, ◌+◌, IfOk, MatchOption, length, None, Some};
 ghost use Rattle.story_text.specs.Reading.{text_of_bytes};
 ghost use Rattle.gate_journal.specs.Command.{IsCommand};
 ghost use Rattle.gate_journal.specs.Payload.{IsPayload, IsNoPayload, open_in};

@@ -1,9 +1,7 @@
 //! Room for one row: what its command owns, and its bytes (own).
 
-ghost use Rattle.std.specs.Prelude.{◌≡◌, ◌+◌, ◌<◌, ◌≤◌, ◌++◌, [], ◌∷◌};
-ghost use Rattle.std.specs.Prelude.{length};
-ghost use Rattle.std.specs.Prelude.{vec_capacity, string_bytes, string_len, string_capacity};
-ghost use Rattle.std.specs.Prelude.{true, IfOk};
+ghost use Rattle.std.specs.Prelude.{◌≡◌, ◌+◌, ◌<◌, ◌≤◌, ◌++◌, [], ◌∷◌, length, vec_capacity};
+ghost use Rattle.std.specs.Prelude.{string_bytes, string_len, string_capacity, true, IfOk};
 ghost use Rattle.story_text.specs.Text.{IsText};
 ghost use Rattle.line_words.specs.Field.{is_key};
 ghost use Rattle.gate_journal.specs.Command.{IsCommand};

@@ -1,7 +1,6 @@
 //! What is counted of each session while rows are read (own).
 
-ghost use Rattle.std.specs.Prelude.{◌≡◌, ◌++◌, ◌∷◌, ◌↔◌, [], ◌<◌};
-ghost use Rattle.std.specs.Prelude.{IsTrue, List};
+ghost use Rattle.std.specs.Prelude.{◌≡◌, ◌++◌, ◌∷◌, ◌↔◌, [], ◌<◌, IsTrue, List};
 ghost use Rattle.gate_journal.specs.Rows.{MayStand};
 ghost use Rattle.gate_journal.specs.Seats.{CountsRows};
 ghost use Rattle.gate_journal.specs.declared.row.Row.{Row};

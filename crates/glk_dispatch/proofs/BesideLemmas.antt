@@ -1,8 +1,7 @@
 -- A window that is opened beside another, and the pair above both.
-use Rattle.std.proofs.Common.{◌≡◌, ℕ, ◌+◌, ◌==◌, nat_le, nat_lt}
-use Rattle.std.proofs.Common.{true, false, List, [], ◌∷◌, ◌++◌, refl, sym, ap, ◌∙◌, arith}
-use Rattle.std.proofs.Common.{append_assoc, subst, cond, Option, Some, None, option_map}
-use Rattle.std.proofs.Common.{if◌then◌else◌}
+use Rattle.std.proofs.Common.{◌≡◌, ℕ, ◌+◌, ◌==◌, nat_le, nat_lt, true, false, List, [], ◌∷◌, ◌++◌}
+use Rattle.std.proofs.Common.{refl, sym, ap, ◌∙◌, arith, append_assoc, subst, cond, Option, Some}
+use Rattle.std.proofs.Common.{None, option_map, if◌then◌else◌}
 use Rattle.std.proofs.lemmas.Bool.{both_ways, cond_both, ne_eqb}
 use Rattle.std.proofs.lemmas.Grind.{common_steps}
 use Rattle.glk_numbers.specs.Numbered.{changed_at, found}
@@ -20,8 +19,7 @@ use Rattle.glk_input.specs.declared.request.WindowInput.{WindowInput}
 use Rattle.glk_streams.specs.Streams as streams
 use Rattle.glk_streams.specs.Opening as sopen
 use Rattle.glk_dispatch.specs.Glk.{with_rectangles}
-use Rattle.glk_dispatch.specs.Links.{Ends, Links, stream_end}
-use Rattle.glk_dispatch.specs.Links.{stream_ends, window_link, links}
+use Rattle.glk_dispatch.specs.Links.{Ends, Links, stream_end, stream_ends, window_link, links}
 use Rattle.glk_dispatch.specs.Valid.{AreValid, IsReadyGlk, IsValidGlk}
 use Rattle.glk_dispatch.specs.Windows as rows
 use Rattle.glk_dispatch.specs.declared.glk.Glk.{Glk}

@@ -1,7 +1,6 @@
 -- What calls answered and left keeps what the work of a call keeps.
-use Rattle.std.proofs.Common.{◌≡◌, ◌⊎◌, inl, inr, refl, subst, sym, ℕ}
-use Rattle.std.proofs.Common.{Option, Result, Ok, Err, List}
-use Rattle.std.proofs.Common.{[], slice_index}
+use Rattle.std.proofs.Common.{◌≡◌, ◌⊎◌, inl, inr, refl, subst, sym, ℕ, Option, Result, Ok, Err}
+use Rattle.std.proofs.Common.{List, [], slice_index}
 use Rattle.std.specs.Prelude.{IfOk, OnOk}
 use Rattle.vm_memory.specs.MemoryMap.{MemoryMap, KeepsMap}
 use Rattle.vm_memory.specs.declared.fault.Trap.{Trap}
@@ -23,17 +22,13 @@ use Rattle.glk_dispatch.specs.Valid.{IsReadyGlk, IsValidGlk, LeavesValid}
 use Rattle.glk_dispatch.specs.declared.called.Called.{Called}
 use Rattle.glk_dispatch.specs.declared.glk.Glk.{Glk}
 use Rattle.glk_dispatch.specs.declared.selector.Call as call
-use Rattle.glk_dispatch.proofs.KeptLemmas.{Keeps, Kept, Leaves, Puts, begins-puts}
-use Rattle.glk_dispatch.proofs.KeptLemmas.{beside}
-use Rattle.glk_dispatch.proofs.KeptLemmas.{on}
-use Rattle.glk_dispatch.proofs.KeptLemmas.{puts, rested-valid, row}
+use Rattle.glk_dispatch.proofs.KeptLemmas.{Keeps, Kept, Leaves, Puts, begins-puts, beside, on, puts}
+use Rattle.glk_dispatch.proofs.KeptLemmas.{rested-valid, row}
 use Rattle.glk_dispatch.proofs.KeptStory.{at-first, ok-arguments}
-use Rattle.glk_dispatch.proofs.KeptEvents.{at_rest, kept-event_answered}
-use Rattle.glk_dispatch.proofs.KeptEvents.{kept-input_echoed}
+use Rattle.glk_dispatch.proofs.KeptEvents.{at_rest, kept-event_answered, kept-input_echoed}
 use Rattle.glk_dispatch.proofs.KeptOutput.{kept-put_code, kept-spread_all}
 use Rattle.glk_dispatch.proofs.KeptLemmas.{ahead-valid}
-use Rattle.glk_dispatch.proofs.KeptStreams.{kept-got_code}
-use Rattle.glk_dispatch.proofs.KeptStreams.{prompted-valid}
+use Rattle.glk_dispatch.proofs.KeptStreams.{kept-got_code, prompted-valid}
 use Rattle.glk_dispatch.proofs.KeptCalls.{kept-taken}
 
 -- by the value that the work should come to: memory and stack, and the Glk state

@@ -25,8 +25,7 @@ use Rattle.glk_dispatch.specs.Windows as rows
 use Rattle.glk_dispatch.specs.declared.glk.Glk.{Glk}
 use Rattle.glk_dispatch.proofs.AskLemmas.{asked-by, asked-less}
 use Rattle.glk_dispatch.proofs.BelowLemmas.{AreLeft, all_dropped-same, all_dropped-windows}
-use Rattle.glk_dispatch.proofs.BelowLemmas.{closed-left}
-use Rattle.glk_dispatch.proofs.BelowLemmas.{removed-left}
+use Rattle.glk_dispatch.proofs.BelowLemmas.{closed-left, removed-left}
 use Rattle.glk_dispatch.proofs.CloseLemmas.{ends_in, is-of, links_in}
 use Rattle.glk_dispatch.proofs.FoundLemmas.{found-low, found-without}
 use Rattle.glk_dispatch.proofs.LinkLemmas.{linked-same}

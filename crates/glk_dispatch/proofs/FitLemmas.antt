@@ -27,8 +27,7 @@ use Rattle.glk_dispatch.specs.Valid.{AreAsked, AreValid, IsValidGlk}
 use Rattle.glk_dispatch.specs.declared.glk.Glk.{Glk}
 use Rattle.glk_dispatch.proofs.AskLemmas.{request_in, request-found}
 use Rattle.glk_dispatch.proofs.CloseLemmas.{to-ascends}
-use Rattle.glk_dispatch.proofs.EchoLemmas.{all-listed, comes, follows, some-stream}
-use Rattle.glk_dispatch.proofs.EchoLemmas.{streams-ascend}
+use Rattle.glk_dispatch.proofs.EchoLemmas.{all-listed, comes, follows, some-stream, streams-ascend}
 use Rattle.glk_dispatch.proofs.FoundLemmas.{has-found, number-found}
 use Rattle.glk_dispatch.proofs.LoopLemmas.{is_in, over-same, over-within}
 use Rattle.glk_dispatch.proofs.NamedLemmas.{all-found, echo-next, found-all, named-stream}

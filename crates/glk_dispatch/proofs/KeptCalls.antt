@@ -9,16 +9,13 @@ use Rattle.vm_memory.specs.Fault.{coded}
 use Rattle.vm_memory.specs.MemoryMap.{MemoryMap, KeepsMap}
 use Rattle.vm_stack.specs.StackState.{StackState}
 use Rattle.glk_numbers.specs.Numbered.{found, has}
-use Rattle.glk_windows.proofs.AreaLemmas.{SamePlacement, areas-alike, content-placed}
-use Rattle.glk_windows.proofs.AreaLemmas.{placement-map}
+use Rattle.glk_windows.proofs.AreaLemmas.{SamePlacement, areas-alike, content-placed, placement-map}
 use Rattle.glk_windows.specs.Output as output
 use Rattle.glk_windows.specs.Tree as tree
 use Rattle.glk_windows.specs.declared.window.Content.TheVariants as wc
 use Rattle.glk_streams.specs.FileRefs as refs
 use Rattle.glk_input.specs.declared.request.WindowInput.{WindowInput}
-use Rattle.glk_dispatch.specs.Answer.{GlkCall}
-use Rattle.glk_dispatch.specs.Answer.{Reached}
-use Rattle.glk_dispatch.specs.Answer.{CallRule, within}
+use Rattle.glk_dispatch.specs.Answer.{GlkCall, Reached, CallRule, within}
 use Rattle.glk_dispatch.specs.Arguments.{call_arguments}
 use Rattle.glk_dispatch.specs.Call.{selector_called, called_with, call_work}
 use Rattle.glk_dispatch.specs.Case as cases
@@ -54,14 +51,12 @@ use Rattle.glk_dispatch.proofs.LoopLemmas.{end-go, end-stop}
 use Rattle.glk_dispatch.proofs.StreamLemmas.{styled-more}
 use Rattle.glk_dispatch.proofs.PartLemmas.{kind-kept, valid-alike}
 use Rattle.glk_dispatch.proofs.KeptLemmas.{Keeps, Kept, Puts, Valid, ahead-valid, answers}
-use Rattle.glk_dispatch.proofs.KeptLemmas.{begins-puts}
-use Rattle.glk_dispatch.proofs.KeptLemmas.{beside, charged-valid, kept-bind, kept-if, kept-leaves}
-use Rattle.glk_dispatch.proofs.KeptLemmas.{kept-left, kept-puts, kept-read, kept-step, laws, on}
-use Rattle.glk_dispatch.proofs.KeptLemmas.{puts, rested-valid, row, row-needs, self}
+use Rattle.glk_dispatch.proofs.KeptLemmas.{begins-puts, beside, charged-valid, kept-bind, kept-if}
+use Rattle.glk_dispatch.proofs.KeptLemmas.{kept-leaves, kept-left, kept-puts, kept-read, kept-step}
+use Rattle.glk_dispatch.proofs.KeptLemmas.{laws, on, puts, rested-valid, row, row-needs, self}
 use Rattle.glk_dispatch.proofs.KeptStory.{at-first, kept-array_begun, kept-told, ok-arguments}
 use Rattle.glk_dispatch.proofs.KeptStory.{ok-word}
-use Rattle.glk_dispatch.proofs.KeptEvents.{at_rest, kept-answered}
-use Rattle.glk_dispatch.proofs.KeptEvents.{kept-event_work}
+use Rattle.glk_dispatch.proofs.KeptEvents.{at_rest, kept-answered, kept-event_work}
 use Rattle.glk_dispatch.proofs.KeptOutput.{kept-output_work, kept-put_code}
 use Rattle.glk_dispatch.proofs.KeptStreams.{kept-fileref_work, kept-got_code, kept-stream_work}
 use Rattle.glk_dispatch.proofs.KeptWindows.{kept-window_work}

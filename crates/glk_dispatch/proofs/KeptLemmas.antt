@@ -1,10 +1,6 @@
 -- What the work of a call keeps, step by step: valid parts, the story's memory and its frames.
-use Rattle.std.proofs.Common.{◌≡◌, ◌≤◌, ℕ, Bool}
-use Rattle.std.proofs.Common.{true, false}
-use Rattle.std.proofs.Common.{List, refl, Result, Ok}
-use Rattle.std.proofs.Common.{Err, cond, sym}
-use Rattle.std.proofs.Common.{◌∙◌, ap}
-use Rattle.std.proofs.Common.{subst}
+use Rattle.std.proofs.Common.{◌≡◌, ◌≤◌, ℕ, Bool, true, false, List, refl, Result, Ok, Err, cond}
+use Rattle.std.proofs.Common.{sym, ◌∙◌, ap, subst}
 use Rattle.std.specs.Prelude.{IfOk}
 use Rattle.std.proofs.lemmas.Bool.{cond_both}
 use Rattle.vm_memory.specs.Chaining.{◌>>=◌}

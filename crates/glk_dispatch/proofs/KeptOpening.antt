@@ -1,7 +1,6 @@
 -- The call that opens a window keeps what the work of a call keeps.
-use Rattle.std.proofs.Common.{◌≡◌, ℕ, ◌+◌, ◌==◌, ◌||◌, not, nat_lt, nat_le, Bool}
-use Rattle.std.proofs.Common.{true, false, length, refl, cond, sym, subst}
-use Rattle.std.proofs.Common.{inl, inr, arith, ◌<◌, ◌≤◌}
+use Rattle.std.proofs.Common.{◌≡◌, ℕ, ◌+◌, ◌==◌, ◌||◌, not, nat_lt, nat_le, Bool, true, false}
+use Rattle.std.proofs.Common.{length, refl, cond, sym, subst, inl, inr, arith, ◌<◌, ◌≤◌}
 use Rattle.std.proofs.lemmas.Bool.{both_ways, cond_both, or_parts}
 use Rattle.std.proofs.lemmas.Bool.Decides.{nat_tests}
 use Rattle.glk_numbers.specs.declared.numbered.TheConstants.{MAX_NUMBER}
@@ -15,9 +14,7 @@ use Rattle.glk_dispatch.specs.Glk.{has_window, with_rectangles}
 use Rattle.glk_dispatch.specs.Valid.{AreValid}
 use Rattle.glk_dispatch.specs.Windows as rows
 use Rattle.glk_dispatch.specs.declared.glk.Glk.{Glk}
-use Rattle.glk_dispatch.proofs.KeptLemmas.{Kept, beside, kept-if}
-use Rattle.glk_dispatch.proofs.KeptLemmas.{laws, parts-windows}
-use Rattle.glk_dispatch.proofs.KeptLemmas.{row-needs}
+use Rattle.glk_dispatch.proofs.KeptLemmas.{Kept, beside, kept-if, laws, parts-windows, row-needs}
 use Rattle.glk_dispatch.proofs.BesideLemmas.{beside-ready}
 use Rattle.glk_dispatch.proofs.OpenLemmas.{first-ready}
 

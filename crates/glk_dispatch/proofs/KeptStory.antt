@@ -1,9 +1,8 @@
 -- The story's memory and frames are kept: words written, arguments taken, and references.
 use Rattle.std.proofs.Common.{◌≡◌, ◌≤◌, ℕ, zero, suc, ◌+◌, ◌*◌, ◌==◌, ◌&&◌, nat_le, nat_lt, Bool}
-use Rattle.std.proofs.Common.{true, false}
-use Rattle.std.proofs.Common.{List, [], ◌∷◌, ◌++◌, length, take, drop, refl, Option, Result, Ok}
-use Rattle.std.proofs.Common.{Err, cond, arith, sym}
-use Rattle.std.proofs.Common.{slice_set, replicate, length-append, length-drop, ◌∙◌, inl, inr}
+use Rattle.std.proofs.Common.{true, false, List, [], ◌∷◌, ◌++◌, length, take, drop, refl, Option}
+use Rattle.std.proofs.Common.{Result, Ok, Err, cond, arith, sym, slice_set, replicate}
+use Rattle.std.proofs.Common.{length-append, length-drop, ◌∙◌, inl, inr}
 use Rattle.std.specs.Prelude.{IfOk}
 use Rattle.std.proofs.lemmas.List.{length-take-le}
 use Rattle.std.proofs.lemmas.Bool.{and_parts, cases_Bool, cond_both, leb-true}

@@ -1,7 +1,6 @@
 -- The calls of windows keep what the work of a call keeps.
-use Rattle.std.proofs.Common.{◌≡◌, ℕ, zero, suc, ◌==◌, ◌||◌, ◌&&◌, not}
-use Rattle.std.proofs.Common.{true, [], ◌∷◌, length, refl, Result, Ok, Err, sym, subst}
-use Rattle.std.proofs.Common.{Option, Some, None, ◌≤◌, List, ap}
+use Rattle.std.proofs.Common.{◌≡◌, ℕ, zero, suc, ◌==◌, ◌||◌, ◌&&◌, not, true, [], ◌∷◌, length, refl}
+use Rattle.std.proofs.Common.{Result, Ok, Err, sym, subst, Option, Some, None, ◌≤◌, List, ap}
 use Rattle.std.proofs.lemmas.Bool.{and_parts, cond_both, ne_eqb, not-true}
 use Rattle.vm_memory.specs.Chaining.{◌>>=◌}
 use Rattle.glk_numbers.specs.Numbered.{number_above, has}
@@ -44,8 +43,7 @@ use Rattle.glk_dispatch.proofs.KeptOpening.{kept-opened, or-second, placed-parts
 use Rattle.glk_dispatch.proofs.KeptStory.{kept-one, kept-refers, kept-refers_all, kept-then}
 use Rattle.glk_dispatch.proofs.KeptStory.{kept-told}
 use Rattle.glk_dispatch.proofs.StreamLemmas.{LeavesAlone, current-more}
-use Rattle.glk_dispatch.proofs.OpenLemmas.{beside-of, beside-same}
-use Rattle.glk_dispatch.proofs.OpenLemmas.{placed-valid}
+use Rattle.glk_dispatch.proofs.OpenLemmas.{beside-of, beside-same, placed-valid}
 use Rattle.glk_dispatch.proofs.PartLemmas.{asked-kinds, kind-cleared}
 use Rattle.glk_dispatch.proofs.EchoLemmas.{echo_set-kinds, echo_set-linked}
 

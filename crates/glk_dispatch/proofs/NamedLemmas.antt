@@ -1,7 +1,6 @@
 -- Windows and streams of lists as they name each other.
-use Rattle.std.proofs.Common.{◌≡◌, ◌∙◌, inl, inr, ℕ, ◌==◌, ◌&&◌}
-use Rattle.std.proofs.Common.{Bool, true, false, List, [], ◌∷◌, refl, sym, ap}
-use Rattle.std.proofs.Common.{arith, Option, Some, None, option_map, is_some}
+use Rattle.std.proofs.Common.{◌≡◌, ◌∙◌, inl, inr, ℕ, ◌==◌, ◌&&◌, Bool, true, false, List, [], ◌∷◌}
+use Rattle.std.proofs.Common.{refl, sym, ap, arith, Option, Some, None, option_map, is_some}
 use Rattle.std.proofs.Common.{if◌then◌else◌, nat_lt}
 use Rattle.std.specs.List.{list_all}
 use Rattle.std.proofs.lemmas.Bool.{and_from, and_parts, cases_Bool}
@@ -22,8 +21,7 @@ use Rattle.glk_dispatch.specs.Links.{owner_in, live_stream}
 use Rattle.glk_dispatch.specs.Output.{echo_from}
 use Rattle.glk_dispatch.specs.Valid.{AreValid}
 use Rattle.glk_dispatch.specs.declared.glk.Glk.{Glk}
-use Rattle.glk_dispatch.proofs.EchoLemmas.{echo-link}
-use Rattle.glk_dispatch.proofs.EchoLemmas.{window-none, window-some}
+use Rattle.glk_dispatch.proofs.EchoLemmas.{echo-link, window-none, window-some}
 use Rattle.glk_dispatch.proofs.FoundLemmas.{found-low, has-found}
 use Rattle.glk_dispatch.proofs.LoopLemmas.{end-go, end-stop}
 

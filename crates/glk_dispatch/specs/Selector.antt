@@ -1,7 +1,6 @@
 -- The selectors, and how many arguments each call takes (Glk 0.7.5, "Table of Selectors").
-use Rattle.std.specs.Prelude.{ℕ, ◌==◌, ◌&&◌, ◌||◌, nat_le, Bool, true, false}
-use Rattle.std.specs.Prelude.{if◌then◌else◌, List, []}
-use Rattle.std.specs.Prelude.{◌∷◌, Option, Some, None}
+use Rattle.std.specs.Prelude.{ℕ, ◌==◌, ◌&&◌, ◌||◌, nat_le, Bool, true, false, if◌then◌else◌, List}
+use Rattle.std.specs.Prelude.{[], ◌∷◌, Option, Some, None}
 use Rattle.glk_dispatch.specs.declared.selector.Call.{Call}
 use Rattle.glk_dispatch.specs.declared.selector.Call.TheVariants as call
 use Rattle.glk_dispatch.specs.declared.base.BaseCall.{BaseCall}

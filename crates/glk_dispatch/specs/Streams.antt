@@ -1,7 +1,6 @@
 -- The calls of streams (Glk 0.7.5, "Streams").
-use Rattle.std.specs.Prelude.{ℕ, zero, suc, ◌+◌, ◌-◌, ◌*◌, ◌%◌, ◌^◌, ◌==◌}
-use Rattle.std.specs.Prelude.{◌&&◌, Bool, if◌then◌else◌}
-use Rattle.std.specs.Prelude.{true, false, [], ◌∷◌, Option, Some, None, Ok}
+use Rattle.std.specs.Prelude.{ℕ, zero, suc, ◌+◌, ◌-◌, ◌*◌, ◌%◌, ◌^◌, ◌==◌, ◌&&◌, Bool}
+use Rattle.std.specs.Prelude.{if◌then◌else◌, true, false, [], ◌∷◌, Option, Some, None, Ok}
 use Rattle.vm_memory.specs.Chaining.{◌>>=◌}
 use Rattle.vm_memory.specs.MemoryMap.{MemoryMap}
 use Rattle.glk_numbers.specs.Numbered.{number_above}

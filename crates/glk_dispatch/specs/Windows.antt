@@ -1,7 +1,6 @@
 -- The calls of windows (Glk 0.7.5, "Windows").
-use Rattle.std.specs.Prelude.{ℕ, zero, suc, ◌+◌, ◌==◌, ◌||◌, ◌&&◌, not, nat_lt}
-use Rattle.std.specs.Prelude.{nat_le, Bool, false, if◌then◌else◌}
-use Rattle.std.specs.Prelude.{List, [], ◌∷◌, length, Result, Ok, Err}
+use Rattle.std.specs.Prelude.{ℕ, zero, suc, ◌+◌, ◌==◌, ◌||◌, ◌&&◌, not, nat_lt, nat_le, Bool, false}
+use Rattle.std.specs.Prelude.{if◌then◌else◌, List, [], ◌∷◌, length, Result, Ok, Err}
 use Rattle.vm_memory.specs.Chaining.{◌>>=◌}
 use Rattle.glk_numbers.specs.Numbered.{number_above}
 use Rattle.glk_numbers.specs.declared.numbered.TheConstants.{MAX_NUMBER}
@@ -18,8 +17,7 @@ use Rattle.glk_input.specs.Request.{with_window, without_window}
 use Rattle.glk_dispatch.specs.Answer.{GlkCall, Reached, CallRule, over_glk_alone, within}
 use Rattle.glk_dispatch.specs.Fault.{streams_coded}
 use Rattle.glk_dispatch.specs.Glk.{has_window, with_rectangles, takes, stream_or_none, window}
-use Rattle.glk_dispatch.specs.Glk.{window_of_stream}
-use Rattle.glk_dispatch.specs.Glk.{window_or_none, written_to}
+use Rattle.glk_dispatch.specs.Glk.{window_of_stream, window_or_none, written_to}
 use Rattle.glk_dispatch.specs.Reference.{gives, refers, refers_all}
 use Rattle.glk_dispatch.specs.declared.called.Called.{Called}
 use Rattle.glk_dispatch.specs.declared.called.Called.TheVariants.{Value}

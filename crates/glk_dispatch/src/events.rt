@@ -1,7 +1,6 @@
 //! Events and requests (Glk 0.7.5, "Events", "Line Input Events", "Character Input Events").
 
-ghost use Rattle.std.specs.Prelude.{◌≡◌, ◌≤◌, [], length, slice_index, not, ◌==◌};
-ghost use Rattle.std.specs.Prelude.{◌<◌, ◌+◌, IfOk};
+ghost use Rattle.std.specs.Prelude.{◌≡◌, ◌≤◌, [], length, slice_index, not, ◌==◌, ◌<◌, ◌+◌, IfOk};
 ghost use Rattle.glk_input.specs.Request as request;
 ghost use Rattle.glk_dispatch.specs.Answer.{AnswersOverGlk, DoesCall, Gets, LeavesMemoryAndStack};
 ghost use Rattle.glk_dispatch.specs.Answer.{Lists, LeavesGlkAndMemory, glk_call};

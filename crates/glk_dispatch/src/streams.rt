@@ -1,7 +1,6 @@
 //! The calls of streams (Glk 0.7.5, "Streams").
 
-ghost use Rattle.std.specs.Prelude.{◌≡◌, ◌≤◌, ◌<◌, ◌+◌, ◌-◌, ◌==◌};
-ghost use Rattle.std.specs.Prelude.{◌&&◌, slice_index};
+ghost use Rattle.std.specs.Prelude.{◌≡◌, ◌≤◌, ◌<◌, ◌+◌, ◌-◌, ◌==◌, ◌&&◌, slice_index};
 ghost use Rattle.glk_input.specs.Delivery as delivery;
 ghost use Rattle.glk_dispatch.specs.Answer.{AnswersOverGlk, ChangesGlk, DoesCall, Gets};
 ghost use Rattle.glk_dispatch.specs.Answer.{MakesAnswer, UnlessNoMemory};

@@ -1,8 +1,7 @@
 -- Changes keep the order of windows and their requests valid.
 use native.Mathlib.Numerals.{unary_clauses}
-use Rattle.std.proofs.Common.{◌≡◌, ℕ, ◌+◌, ◌<◌, ◌≤◌, ◌==◌, ◌&&◌, not, nat_lt}
-use Rattle.std.proofs.Common.{nat_le, Bool, true, false, List, [], ◌∷◌, length, refl, arith}
-use Rattle.std.proofs.Common.{Option, Some, None, cond}
+use Rattle.std.proofs.Common.{◌≡◌, ℕ, ◌+◌, ◌<◌, ◌≤◌, ◌==◌, ◌&&◌, not, nat_lt, nat_le, Bool, true}
+use Rattle.std.proofs.Common.{false, List, [], ◌∷◌, length, refl, arith, Option, Some, None, cond}
 use Rattle.std.proofs.Common.{inl, inr, ◌∙◌}
 use Rattle.std.proofs.lemmas.Bool.{and_from, and_parts, cases_Bool, le-leb}
 use Rattle.std.proofs.lemmas.Grind.{common_steps}

@@ -1,8 +1,7 @@
 -- What each call leaves valid (own).
 use Rattle.std.specs.Prelude.{◌≡◌, ℕ, ◌≤◌, ◌<◌, Bool, true, List, [], length}
 use Rattle.glk_input.specs.Request.{window_input_changed, line_asked, char_asked, without_line}
-use Rattle.glk_input.specs.Request.{without_char}
-use Rattle.glk_input.specs.Request.{request_ended, with_echo, with_keys, with_window}
+use Rattle.glk_input.specs.Request.{without_char, request_ended, with_echo, with_keys, with_window}
 use Rattle.glk_input.specs.Request.{without_window}
 use Rattle.glk_input.specs.Valid.{are_valid_inputs}
 use Rattle.glk_input.specs.declared.request.WindowInput.{WindowInput}

@@ -1,7 +1,6 @@
 -- What windows ask for (Glk 0.7.5, "Line Input Events", "Character Input Events").
-use Rattle.std.specs.Prelude.{ℕ, ◌+◌, ◌==◌, ◌&&◌, nat_lt, Bool, true}
-use Rattle.std.specs.Prelude.{if◌then◌else◌, is_some}
-use Rattle.std.specs.Prelude.{List, [], ◌∷◌, filter, not, Option, Some, None}
+use Rattle.std.specs.Prelude.{ℕ, ◌+◌, ◌==◌, ◌&&◌, nat_lt, Bool, true, if◌then◌else◌, is_some, List}
+use Rattle.std.specs.Prelude.{[], ◌∷◌, filter, not, Option, Some, None}
 use Rattle.std.specs.List.{insert}
 use Rattle.glk_numbers.specs.Numbered.{changed_at, has}
 use Rattle.glk_input.specs.declared.event.Event.{Event}

@@ -1,7 +1,6 @@
 -- The bytes ahead of a stream are the characters that it gives one by one.
-use Rattle.std.proofs.Common.{◌≡◌, ◌<◌, ℕ, Bool, true, false, List, length, drop}
-use Rattle.std.proofs.Common.{refl, ap}
-use Rattle.std.proofs.Common.{◌∙◌, Option, Some, None, Ok, cond, nat_lt, slice_index, arith}
+use Rattle.std.proofs.Common.{◌≡◌, ◌<◌, ℕ, Bool, true, false, List, length, drop, refl, ap, ◌∙◌}
+use Rattle.std.proofs.Common.{Option, Some, None, Ok, cond, nat_lt, slice_index, arith}
 use Rattle.std.proofs.lemmas.Bool.{le-ltb, lt-ltb, ltb-true}
 use Rattle.vm_memory.specs.MemoryMap.{MemoryMap}
 use Rattle.glk_numbers.proofs.FoundLemmas.{changed-again, found-same, number-found}

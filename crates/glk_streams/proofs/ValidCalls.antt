@@ -40,8 +40,7 @@ use Rattle.glk_streams.specs.Streams.{of_stream, with_stream, is_write_mode}
 use Rattle.glk_streams.specs.Valid.{is_current, are_files, are_streams}
 use Rattle.glk_streams.proofs.ValidLemmas.{count-window, count-more}
 use Rattle.glk_streams.proofs.ValidLaws.{Parts, parts_of, of_parts, changed-valid, files_of}
-use Rattle.glk_streams.proofs.ValidLaws.{files-held}
-use Rattle.glk_streams.proofs.ValidLaws.{files-without, held_of, streams-more}
+use Rattle.glk_streams.proofs.ValidLaws.{files-held, files-without, held_of, streams-more}
 use Rattle.glk_streams.proofs.ValidLaws.{streams-without, streams-current, refs-more, refs-without}
 
 -- opening

@@ -1,15 +1,13 @@
 -- Opening and closing of streams (Glk 0.7.5, "Streams").
-use Rattle.std.specs.Prelude.{ℕ, ◌+◌, ◌==◌, ◌&&◌, ◌||◌, not, nat_le, nat_lt}
-use Rattle.std.specs.Prelude.{if◌then◌else◌, Bool, false, List, [], ◌∷◌, ◌++◌}
-use Rattle.std.specs.Prelude.{Result, Ok, Err}
+use Rattle.std.specs.Prelude.{ℕ, ◌+◌, ◌==◌, ◌&&◌, ◌||◌, not, nat_le, nat_lt, if◌then◌else◌, Bool}
+use Rattle.std.specs.Prelude.{false, List, [], ◌∷◌, ◌++◌, Result, Ok, Err}
 use Rattle.glk_numbers.specs.Numbered.{without}
 use Rattle.glk_numbers.specs.declared.numbered.TheConstants.{MAX_NUMBER}
 use Rattle.glk_streams.specs.Answer.{live}
 use Rattle.glk_streams.specs.Files.{has_file, files_holding, file_may_stand}
 use Rattle.glk_streams.specs.Position.{end_in}
 use Rattle.glk_streams.specs.Streams.{StreamTable, stream_number, stream_at, ref_at}
-use Rattle.glk_streams.specs.Streams.{stream_of_window}
-use Rattle.glk_streams.specs.Streams.{of_stream, is_window_target}
+use Rattle.glk_streams.specs.Streams.{stream_of_window, of_stream, is_window_target}
 use Rattle.glk_streams.specs.declared.stream.Stream.{Stream}
 use Rattle.glk_streams.specs.declared.stream.Target.{Target}
 use Rattle.glk_streams.specs.declared.stream.Target.TheVariants.{Window, Memory, File}

@@ -1,7 +1,6 @@
 //! Names of files (Glk 0.7.5, "File References").
 
-ghost use Rattle.std.specs.Prelude.{◌≡◌, ◌≢◌, ◌<◌, ◌≤◌, ◌-◌, ◌++◌};
-ghost use Rattle.std.specs.Prelude.{◌∷◌, List, ℕ, IfOk};
+ghost use Rattle.std.specs.Prelude.{◌≡◌, ◌≢◌, ◌<◌, ◌≤◌, ◌-◌, ◌++◌, ◌∷◌, List, ℕ, IfOk};
 ghost use Rattle.std.specs.Str.{chars};
 ghost use Rattle.std.specs.String.{string_bytes};
 ghost use Rattle.glk_streams.specs.Names.{cleaned, name_cut, is_taken_out, temporary};

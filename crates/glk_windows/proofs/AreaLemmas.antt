@@ -7,8 +7,7 @@ use Rattle.std.proofs.lemmas.Bool.{and_parts, cases_eq}
 use Rattle.glk_numbers.specs.Numbered.{changed_at, found}
 use Rattle.glk_windows.specs.Areas.{HaveAreas, PlacesWindows}
 use Rattle.glk_windows.specs.Laws.{window_area, nowhere}
-use Rattle.glk_windows.specs.OneTree.{Shape, Leaf, Fork, IsTree}
-use Rattle.glk_windows.specs.OneTree.{times_reached}
+use Rattle.glk_windows.specs.OneTree.{Shape, Leaf, Fork, IsTree, times_reached}
 use Rattle.glk_windows.specs.Placing.{pair_divided, first_part, has_size, place}
 use Rattle.glk_windows.specs.Placing.{windows_placed, second_part, is_shown_content, with_area}
 use Rattle.glk_windows.specs.Resizing.{content_sized, sized}

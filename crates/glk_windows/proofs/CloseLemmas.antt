@@ -14,8 +14,7 @@ use Rattle.glk_windows.specs.Valid.{Ascends, IsOrdered}
 use Rattle.glk_windows.specs.OneTree.{Shape, Leaf, Fork, top, times_reached}
 use Rattle.glk_windows.specs.OneTree.{pair_without_key, node_of, SpellsTree, IsTree}
 use Rattle.glk_windows.specs.OneTree.{tree_size, below, tree_without, pair_above}
-use Rattle.glk_windows.proofs.OneTreeLemmas.{node_relinked, once_at, once_le}
-use Rattle.glk_windows.proofs.OneTreeLemmas.{node_parent, is_eq}
+use Rattle.glk_windows.proofs.OneTreeLemmas.{node_relinked, once_at, once_le, node_parent, is_eq}
 use Rattle.glk_windows.proofs.CutLemmas.{node_lower, node_removed}
 use Rattle.glk_windows.proofs.CutLemmas.{node_closed, node_pair, size_length}
 use Rattle.glk_windows.proofs.LiftLemmas.{Cuts, count_below, count_cut, outside, relift, spells_cut}

@@ -7,8 +7,7 @@ use Rattle.glk_numbers.specs.Numbered.{without}
 use Rattle.glk_windows.specs.declared.window.Window.{Window}
 use Rattle.glk_windows.specs.declared.window.Area.{Area}
 use Rattle.glk_windows.specs.declared.window.Pair as pairs
-use Rattle.glk_windows.specs.Tree.{WindowTree, window_number, set_at, swapped}
-use Rattle.glk_windows.specs.Tree.{parent_of, stream_of}
+use Rattle.glk_windows.specs.Tree.{WindowTree, window_number, set_at, swapped, parent_of, stream_of}
 use Rattle.glk_windows.specs.Reading.{other_window as sibling}
 use Rattle.glk_windows.specs.Resizing.{sized}
 use Rattle.glk_windows.specs.Placing.{windows_placed}

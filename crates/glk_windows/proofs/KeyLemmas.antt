@@ -1,8 +1,7 @@
 -- The keys of pairs stay below them.
-use Rattle.std.proofs.Common.{◌≡◌, ◌≢◌, ℕ, ◌≤◌, ◌<◌, ◌==◌, ◌||◌, ◌&&◌, List, []}
-use Rattle.std.proofs.Common.{◌∷◌, ◌++◌, length, refl, sym, ap, ◌∙◌, Option, Some, None}
-use Rattle.std.proofs.Common.{arith, Bool, true, false, if◌then◌else◌}
-use Rattle.std.proofs.Common.{inl, inr, subst}
+use Rattle.std.proofs.Common.{◌≡◌, ◌≢◌, ℕ, ◌≤◌, ◌<◌, ◌==◌, ◌||◌, ◌&&◌, List, [], ◌∷◌, ◌++◌, length}
+use Rattle.std.proofs.Common.{refl, sym, ap, ◌∙◌, Option, Some, None, arith, Bool, true, false}
+use Rattle.std.proofs.Common.{if◌then◌else◌, inl, inr, subst}
 use Rattle.std.proofs.lemmas.Bool.{and_from, and_parts, cases_eq, cond_both, or_left, or_right}
 use Rattle.std.proofs.lemmas.Grind.{common_steps}
 use Rattle.glk_numbers.specs.Numbered.{found, without}
@@ -22,8 +21,7 @@ use Rattle.glk_windows.specs.OneTree.{tree_forked, key_in, pair_key, has_leaf, a
 use Rattle.glk_windows.specs.Valid.{Ascends, IsOrdered}
 use Rattle.glk_windows.proofs.OrderLemmas.{ascends-removed}
 use Rattle.glk_windows.proofs.OneTreeLemmas.{count_top, once_at, once_le}
-use Rattle.glk_windows.proofs.CutLemmas.{node_closed}
-use Rattle.glk_windows.proofs.CutLemmas.{removed_from, size_length}
+use Rattle.glk_windows.proofs.CutLemmas.{node_closed, removed_from, size_length}
 use Rattle.glk_windows.proofs.LiftLemmas.{First, InFirst, InSecond, Second, cut_at, count_below}
 use Rattle.glk_windows.proofs.LiftLemmas.{leaf_top}
 use Rattle.glk_windows.proofs.CloseLemmas.{size_below, spells_below}

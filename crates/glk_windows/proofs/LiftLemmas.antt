@@ -8,9 +8,8 @@ use Rattle.glk_windows.specs.Tree.{parent_of}
 use Rattle.glk_windows.specs.Reading.{other_window as sibling}
 use Rattle.glk_windows.specs.OneTree.{Shape, Leaf, Fork, top, times_reached, node_of}
 use Rattle.glk_windows.specs.OneTree.{SpellsTree, below, tree_without, pair_above}
-use Rattle.glk_windows.proofs.OneTreeLemmas.{count_top, not_top, spells_top}
-use Rattle.glk_windows.proofs.OneTreeLemmas.{node_parent, is_eq, isnt_eq, relinked, relinked_same}
-use Rattle.glk_windows.proofs.OneTreeLemmas.{relinked_top}
+use Rattle.glk_windows.proofs.OneTreeLemmas.{count_top, not_top, spells_top, node_parent, is_eq}
+use Rattle.glk_windows.proofs.OneTreeLemmas.{isnt_eq, relinked, relinked_same, relinked_top}
 
 -- the parent and pair of a window where another took the place of its pair
 abbrev pub relift : ℕ → ℕ → ℕ → ℕ → ℕ × Option p.Pair → ℕ × Option p.Pair

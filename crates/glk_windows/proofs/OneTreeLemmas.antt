@@ -7,8 +7,7 @@ use Rattle.std.proofs.lemmas.Grind.{common_steps}
 use Rattle.glk_windows.specs.declared.window.Window.{Window}
 use Rattle.glk_windows.specs.declared.window.Pair as p
 use Rattle.glk_numbers.specs.Numbered.{changed_at, found}
-use Rattle.glk_windows.specs.Tree.{set_at, pair_swapped}
-use Rattle.glk_windows.specs.Tree.{swapped, parent_of, pair_content}
+use Rattle.glk_windows.specs.Tree.{set_at, pair_swapped, swapped, parent_of, pair_content}
 use Rattle.glk_windows.specs.Opening.{pair_joined}
 use Rattle.glk_windows.specs.OneTree.{Shape, Leaf, Fork, top, kids, times_reached, pair_without_key}
 use Rattle.glk_windows.specs.OneTree.{bare_in, node_of, SpellsTree, tree_forked}

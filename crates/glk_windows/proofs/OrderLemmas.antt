@@ -1,11 +1,9 @@
 -- Calls keep the order of numbers.
-use Rattle.std.proofs.Common.{◌≡◌, ℕ, ◌+◌, ◌≤◌, List, [], ◌∷◌, ◌++◌, map}
-use Rattle.std.proofs.Common.{refl, arith, true}
-use Rattle.std.proofs.Common.{false, cond, nat_eq}
+use Rattle.std.proofs.Common.{◌≡◌, ℕ, ◌+◌, ◌≤◌, List, [], ◌∷◌, ◌++◌, map, refl, arith, true, false}
+use Rattle.std.proofs.Common.{cond, nat_eq}
 use Rattle.glk_windows.specs.declared.window.Window.{Window}
 use Rattle.glk_numbers.specs.Numbered.{changed_at, without}
-use Rattle.glk_windows.specs.Tree.{window_number, set_at}
-use Rattle.glk_windows.specs.Tree.{stream_of}
+use Rattle.glk_windows.specs.Tree.{window_number, set_at, stream_of}
 use Rattle.glk_windows.specs.Closing.{windows_without, unlinked, removed}
 use Rattle.glk_windows.specs.Valid.{Ascends}
 use Rattle.glk_windows.proofs.KeepLemmas.{removed_keeps}

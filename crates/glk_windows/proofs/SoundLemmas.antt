@@ -1,8 +1,7 @@
 -- Methods of pairs and cells of grids stay sound, and the windows few.
-use Rattle.std.proofs.Common.{◌≡◌, ℕ, zero, suc, ◌+◌, ◌-◌, ◌*◌, ◌≤◌, ◌==◌, ◌&&◌, ◌++◌}
-use Rattle.std.proofs.Common.{min, List, [], ◌∷◌, map, take, drop, replicate, length, refl}
-use Rattle.std.proofs.Common.{ap, ◌∙◌, arith, Bool, true}
-use Rattle.std.proofs.Common.{if◌then◌else◌, nat_eq, nat_le, slice_set, length-append}
+use Rattle.std.proofs.Common.{◌≡◌, ℕ, zero, suc, ◌+◌, ◌-◌, ◌*◌, ◌≤◌, ◌==◌, ◌&&◌, ◌++◌, min, List}
+use Rattle.std.proofs.Common.{[], ◌∷◌, map, take, drop, replicate, length, refl, ap, ◌∙◌, arith}
+use Rattle.std.proofs.Common.{Bool, true, if◌then◌else◌, nat_eq, nat_le, slice_set, length-append}
 use Rattle.std.proofs.lemmas.Bool.{and_from, and_parts, cond_both}
 use Rattle.std.proofs.lemmas.List.{length-take, length-replicate}
 use Rattle.std.proofs.lemmas.Grind.{common_steps}

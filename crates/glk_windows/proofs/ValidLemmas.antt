@@ -20,8 +20,7 @@ use Rattle.glk_windows.specs.Placing.{place}
 use Rattle.glk_windows.specs.OneTree.{Shape, Leaf, top, pair_without_key, bare_in, node_of, IsTree}
 use Rattle.glk_windows.specs.OneTree.{shape_of, is_tree, tree_without, tree_forked, tree_of, key_in}
 use Rattle.glk_windows.specs.OneTree.{pair_key, are_keyed}
-use Rattle.glk_windows.specs.Valid.{Ascends, IsOrdered, IsValidTree}
-use Rattle.glk_windows.specs.Valid.{is_sound_content}
+use Rattle.glk_windows.specs.Valid.{Ascends, IsOrdered, IsValidTree, is_sound_content}
 use Rattle.glk_windows.specs.Laws.{IsKeyOf, KeepsWindowsValid}
 use Rattle.glk_windows.proofs.ArrangeLemmas.{reshaped, keyed_reshaped, keyed_arranged}
 use Rattle.glk_windows.proofs.ArrangeLemmas.{none_arranged, tree_arranged}

@@ -1,7 +1,6 @@
 -- What holds of all windows that are one tree (Glk 0.7.5, "The Window Tree").
-use Rattle.std.specs.Prelude.{◌≡◌, ◌≢◌, ℕ, ◌+◌, ◌≤◌, ◌<◌, ◌==◌, ◌||◌, nat_lt, Bool, true}
-use Rattle.std.specs.Prelude.{[], ◌∷◌, ◌++◌, List, length, map, ◌⊎◌, Option, Some, None}
-use Rattle.std.specs.Prelude.{if◌then◌else◌}
+use Rattle.std.specs.Prelude.{◌≡◌, ◌≢◌, ℕ, ◌+◌, ◌≤◌, ◌<◌, ◌==◌, ◌||◌, nat_lt, Bool, true, [], ◌∷◌}
+use Rattle.std.specs.Prelude.{◌++◌, List, length, map, ◌⊎◌, Option, Some, None, if◌then◌else◌}
 use Rattle.glk_windows.specs.declared.text.Run.{Run}
 use Rattle.glk_windows.specs.declared.window.Window.{Window}
 use Rattle.glk_windows.specs.declared.window.Area.{Area}

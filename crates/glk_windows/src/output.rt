@@ -4,8 +4,7 @@ ghost use Rattle.std.specs.Prelude.{◌≡◌, ◌≤◌, ◌<◌, ◌*◌, leng
 ghost use Rattle.glk_windows.specs.Output as output;
 ghost use Rattle.glk_windows.specs.Output.{buffer_put, cell_put, grid_put, next_grid_row};
 ghost use Rattle.glk_windows.specs.Output.{content_cleared, content_kept, put_at_window};
-ghost use Rattle.glk_windows.specs.Output.{window_put};
-ghost use Rattle.glk_windows.specs.Output.{window_cleared, window_kept};
+ghost use Rattle.glk_windows.specs.Output.{window_put, window_cleared, window_kept};
 ghost use Rattle.glk_windows.specs.Tree.{IsLive, set_at};
 
 use crate::window::{Buffer, Content, Grid, Window};

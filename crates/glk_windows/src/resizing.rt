@@ -1,7 +1,6 @@
 //! Grids that change their size (Glk 0.7.5, "Text Grid Windows").
 
-ghost use Rattle.std.specs.Prelude.{◌≡◌, ◌≤◌, ◌<◌, ◌-◌, ◌++◌, length, take};
-ghost use Rattle.std.specs.Prelude.{drop, IfOk, OnErr};
+ghost use Rattle.std.specs.Prelude.{◌≡◌, ◌≤◌, ◌<◌, ◌-◌, ◌++◌, length, take, drop, IfOk, OnErr};
 ghost use Rattle.glk_windows.specs.Resizing as sizes;
 
 use crate::text::Codes;

@@ -1,6 +1,5 @@
 -- The checksum of a story file (Glulx 3.1.3, "The Header").
-use Rattle.std.specs.Prelude.{ℕ, zero, suc, ◌+◌, ◌*◌, ◌%◌, ◌^◌, ◌/◌, ◌==◌}
-use Rattle.std.specs.Prelude.{if◌then◌else◌, List}
+use Rattle.std.specs.Prelude.{ℕ, zero, suc, ◌+◌, ◌*◌, ◌%◌, ◌^◌, ◌/◌, ◌==◌, if◌then◌else◌, List}
 use Rattle.glulx_image.specs.Header.{word, extstart, checksum}
 
 -- the k-th word of a file, the ninth, which is the checksum itself, taken as 0

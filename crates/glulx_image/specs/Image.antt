@@ -1,6 +1,5 @@
 -- Which files are images (Glulx 3.1.3, "The Header").
-use Rattle.std.specs.Prelude.{ℕ, ◌==◌, ◌&&◌, nat_lt, if◌then◌else◌, List, length}
-use Rattle.std.specs.Prelude.{Result, Ok, Err}
+use Rattle.std.specs.Prelude.{ℕ, ◌==◌, ◌&&◌, nat_lt, if◌then◌else◌, List, length, Result, Ok, Err}
 use Rattle.glulx_image.specs.Header.{magic, has_version, has_pages, has_order, is_too_large}
 use Rattle.glulx_image.specs.Header.{extstart}
 use Rattle.glulx_image.specs.declared.fault.ImageFault.{ImageFault}

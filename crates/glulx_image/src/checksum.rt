@@ -1,7 +1,6 @@
 //! The checksum of a file.
 
-ghost use Rattle.std.specs.Prelude.{◌≡◌, ◌≤◌, ◌*◌, ◌+◌, ◌%◌, ◌^◌};
-ghost use Rattle.std.specs.Prelude.{length};
+ghost use Rattle.std.specs.Prelude.{◌≡◌, ◌≤◌, ◌*◌, ◌+◌, ◌%◌, ◌^◌, length};
 ghost use Rattle.glulx_image.specs.Checksum.{sum_of_words, summand, verified};
 
 use crate::Image;

@@ -1,7 +1,6 @@
 -- The lines of a script name its session, and are players'.
-use Rattle.std.proofs.Common.{◌≡◌, ℕ, ◌+◌, ◌-◌, ◌%◌, ◌^◌, ◌<◌, ◌==◌, cond, Bool, true, false}
-use Rattle.std.proofs.Common.{List, [], ◌∷◌, map, codes, min, Some, refl, ap, sym, subst, ◌∙◌}
-use Rattle.std.proofs.Common.{arith}
+use Rattle.std.proofs.Common.{◌≡◌, ℕ, ◌+◌, ◌-◌, ◌%◌, ◌^◌, ◌<◌, ◌==◌, cond, Bool, true, false, List}
+use Rattle.std.proofs.Common.{[], ◌∷◌, map, codes, min, Some, refl, ap, sym, subst, ◌∙◌, arith}
 use Rattle.turn_cell.specs.History.{Each}
 use Rattle.line_talk.specs.Lines.{lines}
 use Rattle.line_words.specs.Request.{request_of}

@@ -9,8 +9,7 @@ use Rattle.std.proofs.lemmas.List.{take-append-drop}
 use native.Mathlib.Decide.{ℕ_discrete}
 use Rattle.turn_cell.specs.History.{Each}
 use Rattle.disk_model.specs.declared.disk.Disk.{Ghosts as DiskWords}
-use Rattle.gate_journal.specs.Log.{EndsInFaultOf, IsClosedWell, IsOfSession, MaySpell}
-use Rattle.gate_journal.specs.Log.{rows_of}
+use Rattle.gate_journal.specs.Log.{EndsInFaultOf, IsClosedWell, IsOfSession, MaySpell, rows_of}
 use Rattle.gate_journal.specs.Rows.{commands_of}
 use Rattle.gate_journal.specs.declared.command.Command.{Command}
 use Rattle.gate_journal.specs.declared.entry.Entry.{Entry as JournalEntry}

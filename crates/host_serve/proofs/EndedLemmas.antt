@@ -1,7 +1,6 @@
 -- The lines of a conversation, and how a call ends with it.
-use Rattle.std.proofs.Common.{◌≡◌, ℕ, List, [], ◌∷◌, ◌++◌, length, map, None}
-use Rattle.std.proofs.Common.{refl, ap, sym, ◌∙◌, subst}
-use Rattle.std.proofs.Common.{arith}
+use Rattle.std.proofs.Common.{◌≡◌, ℕ, List, [], ◌∷◌, ◌++◌, length, map, None, refl, ap, sym, ◌∙◌}
+use Rattle.std.proofs.Common.{subst, arith}
 use Rattle.line_words.specs.declared.reply.Reply.{Reply}
 use Rattle.line_talk.specs.Conversation.{Line}
 use Rattle.line_talk.specs.Lines.{heard}

@@ -6,8 +6,7 @@ use Rattle.session_core.specs.declared.entry.Entry.{Entry}
 use Rattle.session_core.specs.Turning.{entry_by}
 use Rattle.host_serve.specs.Holders.{Holder, IsAloneHolder, holder_at, seen_at}
 use Rattle.host_serve.specs.Serves.{AnsweredLine, IsOfItsSession, IsOfNoSession, MayMeetIn}
-use Rattle.host_serve.specs.Serves.{own_world}
-use Rattle.host_serve.specs.Serves.{turned_again}
+use Rattle.host_serve.specs.Serves.{own_world, turned_again}
 
 module _ (stories : List Story) (budget : ℕ) where
   -- an answer without a session, on a history that is empty

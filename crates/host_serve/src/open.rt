@@ -10,8 +10,7 @@ ghost use Rattle.gate_journal.specs.Rows.{IsJournal, SpellsRows};
 ghost use Rattle.gate_journal.specs.declared.row.Row.{Row};
 ghost use Rattle.host_serve.specs.Hosts.{IsSound, rows_at_opening, opened_stores};
 ghost use Rattle.host_serve.specs.Opening.{AreAgreed, IsOpenedHost, IsRefused, IsStoreOf};
-ghost use Rattle.host_serve.specs.Opening.{OnJournal};
-ghost use Rattle.host_serve.specs.Opening.{OnStore};
+ghost use Rattle.host_serve.specs.Opening.{OnJournal, OnStore};
 
 use crate::desks::{open_desks, open_stores, rows_copied};
 use crate::fault::OpenFault;

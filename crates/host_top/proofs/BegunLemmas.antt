@@ -11,9 +11,8 @@ use Rattle.line_talk.specs.Causes.{Rose}
 use Rattle.line_talk.specs.Streams.{SourceState, SinkState}
 use Rattle.line_talk.proofs.StreamsLemmas.{gave_none, wrote_none}
 use Rattle.turn_cell.specs.History.{Each}
-use Rattle.host_top.specs.Begun.{Begun, Inits, InitsFolder, InitsOver, IsLookedAt}
-use Rattle.host_top.specs.Begun.{LooksOnly, MakesAll, MakesStores, NotBegun, SaysRefusal}
-use Rattle.host_top.specs.Begun.{TriesStores, Unmade}
+use Rattle.host_top.specs.Begun.{Begun, Inits, InitsFolder, InitsOver, IsLookedAt, LooksOnly}
+use Rattle.host_top.specs.Begun.{MakesAll, MakesStores, NotBegun, SaysRefusal, TriesStores, Unmade}
 use Rattle.host_top.specs.Borrowed.{AreNamed, Borrowed, CountsFaults, IsOther, Lending}
 use Rattle.host_top.specs.Borrowed.{NotLent, journal_in, loan_by, snap_in, snaps_below}
 use Rattle.disk_model.specs.declared.disk.Disk.{Ghosts as DiskWords}

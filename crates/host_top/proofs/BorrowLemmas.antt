@@ -1,19 +1,16 @@
 -- A disk that is lent and put back.
-use Rattle.std.proofs.Common.{◌≡◌, ◌≢◌, ◌⊎◌, inl, inr, ℕ, List, [], ◌∷◌, ◌++◌, arith, refl}
-use Rattle.std.proofs.Common.{sym, ap, ◌∙◌, subst, cond, Bool, true, false, Option}
-use Rattle.std.proofs.Common.{None, Some, IsTrue}
+use Rattle.std.proofs.Common.{◌≡◌, ◌≢◌, ◌⊎◌, inl, inr, ℕ, List, [], ◌∷◌, ◌++◌, arith, refl, sym, ap}
+use Rattle.std.proofs.Common.{◌∙◌, subst, cond, Bool, true, false, Option, None, Some, IsTrue}
 use Rattle.std.proofs.lemmas.Slice.Eq.{bytes_eq-Decides}
 use Rattle.std.proofs.lemmas.Option.{same_Some}
 use Rattle.std.specs.Str.{bytes_eq}
 use Rattle.disk_model.specs.Disk.{SameDisk}
 use Rattle.turn_cell.specs.History.{Each}
 use Rattle.turn_cell.proofs.HistoryLemmas.{each_append, each_first, each_map}
-use Rattle.host_top.specs.Borrowed.{Borrowed, IsLending, IsOther}
-use Rattle.host_top.specs.Borrowed.{Lending, left_by, loan_by}
+use Rattle.host_top.specs.Borrowed.{Borrowed, IsLending, IsOther, Lending, left_by, loan_by}
 use Rattle.disk_model.specs.declared.disk.Disk.{Ghosts as DiskWords}
-use Rattle.host_top.specs.Files.{HasOwnLabel, IsLent, IsLentFrom}
-use Rattle.host_top.specs.Files.{Lends, OutsideState, TakesDiskBack, Told}
-use Rattle.host_top.specs.Files.{Untold, Missing, There, told_now, returned}
+use Rattle.host_top.specs.Files.{HasOwnLabel, IsLent, IsLentFrom, Lends, OutsideState}
+use Rattle.host_top.specs.Files.{TakesDiskBack, Told, Untold, Missing, There, told_now, returned}
 use Rattle.host_top.specs.declared.loan.Loan.{Loan}
 
 -- ---- names

@@ -12,8 +12,7 @@ use Rattle.journal_pack.specs.declared.fault.PackFault.TheVariants as pack
 use Rattle.story_run.specs.declared.story.Story.{Story}
 use Rattle.host_top.specs.DoorServed.{OfDoor}
 use Rattle.host_top.specs.Begun.{InitsOn, SaysRefusal}
-use Rattle.host_top.specs.Borrowed.{HasFailed, Lending, NotLent, journal_in}
-use Rattle.host_top.specs.Borrowed.{lent_as, snaps_below}
+use Rattle.host_top.specs.Borrowed.{HasFailed, Lending, NotLent, journal_in, lent_as, snaps_below}
 use Rattle.host_top.specs.Folder.{TakesDisks, back_at, folder_back}
 use Rattle.host_top.specs.declared.folder.Back.{Back}
 use Rattle.host_top.specs.declared.folder.Back.TheVariants as back

@@ -1,14 +1,12 @@
 -- The disks of a folder, taken and put back.
-use Rattle.std.proofs.Common.{◌≡◌, ℕ, zero, suc, List, [], ◌∷◌, ◌++◌, length}
-use Rattle.std.proofs.Common.{arith, refl, sym, ap, ◌∙◌, subst, Option, None, Some, IsTrue}
-use Rattle.std.proofs.Common.{slice_get, false}
+use Rattle.std.proofs.Common.{◌≡◌, ℕ, zero, suc, List, [], ◌∷◌, ◌++◌, length, arith, refl, sym, ap}
+use Rattle.std.proofs.Common.{◌∙◌, subst, Option, None, Some, IsTrue, slice_get, false}
 use Rattle.std.specs.Str.{bytes_eq}
 use Rattle.disk_model.specs.Disk.{SameDisk}
 use Rattle.turn_cell.specs.History.{Each}
 use Rattle.turn_cell.proofs.HistoryLemmas.{each_map, nil_right}
 use Rattle.host_top.specs.Borrowed.{AreDifferentNames, AreAsGiven, AreNamed, Borrowed, CountsFaults}
-use Rattle.host_top.specs.Borrowed.{IsLending, IsOther, Lending, back_as}
-use Rattle.host_top.specs.Borrowed.{lent_as, loan_by}
+use Rattle.host_top.specs.Borrowed.{IsLending, IsOther, Lending, back_as, lent_as, loan_by}
 use Rattle.disk_model.specs.declared.disk.Disk.{Ghosts as DiskWords}
 use Rattle.host_top.specs.Files.{IsLent, IsLentFrom, Lends, OutsideState, TakesDiskBack}
 use Rattle.host_top.specs.Folder.{AreSame, IsSameBack, MayPutBack, PutsFolderBack}

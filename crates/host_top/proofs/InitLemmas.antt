@@ -1,7 +1,6 @@
 -- The stores of a new folder are made.
-use Rattle.std.proofs.Common.{◌≡◌, ℕ, ◌+◌, ◌<◌, ◌≤◌, List, [], ◌∷◌, ◌++◌, length}
-use Rattle.std.proofs.Common.{map, arith, refl, sym, ap, ◌∙◌, subst, None, Some, Bool, true}
-use Rattle.std.proofs.Common.{false, IsTrue, IsSomeAnd}
+use Rattle.std.proofs.Common.{◌≡◌, ℕ, ◌+◌, ◌<◌, ◌≤◌, List, [], ◌∷◌, ◌++◌, length, map, arith, refl}
+use Rattle.std.proofs.Common.{sym, ap, ◌∙◌, subst, None, Some, Bool, true, false, IsTrue, IsSomeAnd}
 use Rattle.std.proofs.lemmas.List.{map-append}
 use Rattle.std.specs.Str.{bytes_eq}
 use Rattle.disk_model.specs.Disk.{Elapses, NoneNew, SameDisk}
@@ -9,9 +8,7 @@ use Rattle.disk_model.proofs.Moments.{goes_on, started}
 use Rattle.line_talk.specs.Causes.{Rose}
 use Rattle.turn_cell.specs.History.{Each}
 use Rattle.turn_cell.proofs.HistoryLemmas.{each_append, each_first, each_map}
-use Rattle.host_top.specs.Begun.{IsLookedAt, IsMade, IsTried}
-use Rattle.host_top.specs.Begun.{MakesStores}
-use Rattle.host_top.specs.Begun.{TriesStores}
+use Rattle.host_top.specs.Begun.{IsLookedAt, IsMade, IsTried, MakesStores, TriesStores}
 use Rattle.host_top.specs.Borrowed.{AreNamed, CountsFaults, HasFailed, IsOther, Lending}
 use Rattle.host_top.specs.Borrowed.{snap_in, snaps_below}
 use Rattle.disk_model.specs.declared.disk.Disk.{Ghosts as DiskWords}
@@ -19,8 +16,7 @@ use Rattle.host_top.specs.Files.{IsLentFrom, Lends, OutsideState, TakesDiskBack}
 use Rattle.host_top.proofs.BorrowLemmas.{each_last, lent_loan}
 use Rattle.host_top.proofs.LoansLemmas.{counts_one, counts_out, lent_nothing}
 use Rattle.host_top.proofs.BorrowLemmas.{together, turned_about}
-use Rattle.host_top.proofs.NameLemmas.{each_snap, snap_each, snaps_before}
-use Rattle.host_top.proofs.NameLemmas.{snaps_more, snaps_none}
+use Rattle.host_top.proofs.NameLemmas.{each_snap, snap_each, snaps_before, snaps_more, snaps_none}
 use Rattle.host_top.proofs.LendingLemmas.{returned_one}
 
 -- ---- a disk's size

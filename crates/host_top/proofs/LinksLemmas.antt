@@ -28,8 +28,7 @@ use Rattle.host_top.specs.Status.{status_of_stop}
 use Rattle.host_top.specs.declared.door_call.DoorCall.{DoorCall}
 use Rattle.host_top.specs.declared.status.Status.{Status}
 use Rattle.host_top.specs.declared.status.Status.TheVariants as ends
-use Rattle.host_top.proofs.ConversedLemmas.{EndsOn, counts, grows, journal_back, meanwhile}
-use Rattle.host_top.proofs.ConversedLemmas.{reaches}
+use Rattle.host_top.proofs.ConversedLemmas.{EndsOn, counts, grows, journal_back, meanwhile, reaches}
 
 -- ---- the journal
 

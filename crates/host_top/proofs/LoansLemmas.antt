@@ -1,7 +1,6 @@
 -- Disks of many loans, and what becomes of the disks, files and doors of an outside.
-use Rattle.std.proofs.Common.{◌≡◌, ℕ, ◌≤◌, List, [], ◌∷◌, ◌++◌, arith, refl}
-use Rattle.std.proofs.Common.{sym, ◌∙◌, subst, append_assoc, false, Option}
-use Rattle.std.proofs.Common.{None, Some, IsSomeAnd}
+use Rattle.std.proofs.Common.{◌≡◌, ℕ, ◌≤◌, List, [], ◌∷◌, ◌++◌, arith, refl, sym, ◌∙◌, subst}
+use Rattle.std.proofs.Common.{append_assoc, false, Option, None, Some, IsSomeAnd}
 use Rattle.std.specs.Str.{bytes_eq}
 use Rattle.line_talk.specs.Causes.{Rose}
 use Rattle.turn_cell.specs.History.{Each}

@@ -14,12 +14,10 @@ use Rattle.story_run.specs.declared.story.Story.{Story}
 use Rattle.turn_cell.specs.History.{Each}
 use Rattle.turn_cell.proofs.HistoryLemmas.{each_map}
 use Rattle.host_top.specs.Begun.{InitsOver}
-use Rattle.host_top.specs.Borrowed.{HasFailed, IsLending, Lending, journal_in, loan_by}
-use Rattle.host_top.specs.Borrowed.{snaps_below}
+use Rattle.host_top.specs.Borrowed.{HasFailed, IsLending, Lending, journal_in, loan_by, snaps_below}
 use Rattle.host_top.specs.Calls.{DisksStand, NoneFailed, NoneIsListed, NoneIsOut}
 use Rattle.host_top.specs.DoorServed.{OfDoor}
-use Rattle.host_top.specs.Files.{KeepsDisks, Lends, OutsideState, TakesDiskBack, is_out}
-use Rattle.host_top.specs.Files.{returned}
+use Rattle.host_top.specs.Files.{KeepsDisks, Lends, OutsideState, TakesDiskBack, is_out, returned}
 use Rattle.host_top.specs.Folder.{TakesDisks, folder_back}
 use Rattle.host_top.specs.declared.folder.Back.{Back}
 use Rattle.host_top.specs.Headline.{Speech}

@@ -14,8 +14,7 @@ use Rattle.host_top.specs.declared.stories.Refusal.{Refusal}
 use Rattle.host_drill.specs.Drill.{drill_text}
 use Rattle.command_words.specs.declared.words.Action.{Action}
 use Rattle.command_words.specs.declared.words.Action.TheVariants.{Run, Check, Pipe, Serve, Drill}
-use Rattle.command_words.specs.declared.words.Action.TheVariants.{Init, Replay, Pack, Help}
-use Rattle.command_words.specs.declared.words.Action.TheVariants.{Version}
+use Rattle.command_words.specs.declared.words.Action.TheVariants.{Init, Replay, Pack, Help, Version}
 use Rattle.host_top.specs.Borrowed.{journal_in, snaps_below}
 use Rattle.host_top.specs.Files.{OutsideState, KeepsDisks, KeepsDoors, Told}
 use Rattle.host_top.specs.Follows.{DoesTask, FollowsCommand, TellsCaller, WritesFor}

@@ -22,8 +22,7 @@ use Rattle.line_talk.specs.Causes.{Rose}
 use Rattle.line_talk.specs.Streams.{SourceState, SinkState}
 use Rattle.line_talk.proofs.StreamsLemmas.{gave_none, wrote_none}
 use Rattle.host_top.proofs.LoansLemmas.{borrowed_still}
-use Rattle.host_top.proofs.BorrowLemmas.{elsewhere}
-use Rattle.host_top.proofs.BorrowLemmas.{turned_about}
+use Rattle.host_top.proofs.BorrowLemmas.{elsewhere, turned_about}
 use Rattle.host_top.proofs.BegunLemmas.{no_folder}
 use Rattle.host_top.specs.Piped.{HostedOver}
 use Rattle.host_top.proofs.NameLemmas.{journal_apart, snap_at, snaps_apart, snaps_many}

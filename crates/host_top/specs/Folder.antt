@@ -1,7 +1,6 @@
 -- The disks of a folder, as a host takes them and gives them back (own).
 use Rattle.std.specs.Prelude.{◌≡◌, ◌⊎◌, ℕ, ◌<◌, ◌≤◌, zero, suc, List, [], ◌∷◌, length, Option, None}
-use Rattle.std.specs.Prelude.{Some}
-use Rattle.std.specs.Prelude.{slice_get}
+use Rattle.std.specs.Prelude.{Some, slice_get}
 use Rattle.disk_model.specs.Disk.{OnlyLooks, SameDisk}
 use Rattle.line_talk.specs.Causes.{Rose}
 use Rattle.line_talk.specs.Streams.{SourceState, SinkState, Gave, Wrote}

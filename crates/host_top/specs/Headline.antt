@@ -1,6 +1,5 @@
 -- What a command writes for an input, by its exit status (own).
-use Rattle.std.specs.Prelude.{◌≡◌, ℕ, ◌⊎◌, List, [], Bool, true, Result, Ok, Err}
-use Rattle.std.specs.Prelude.{IsOkAnd}
+use Rattle.std.specs.Prelude.{◌≡◌, ℕ, ◌⊎◌, List, [], Bool, true, Result, Ok, Err, IsOkAnd}
 use Rattle.line_talk.specs.Lines.{lines, talk, IsWithinLimits, ReachesLimit}
 use Rattle.line_talk.specs.Writing.{IsPartOf}
 use Rattle.host_top.specs.declared.status.Status.{Status}

@@ -3,8 +3,7 @@ use Rattle.std.specs.Prelude.{IsTrue, List, IfSome, Option, drop, length}
 use Rattle.turn_cell.specs.History.{Each}
 use Rattle.disk_model.specs.Disk.{EachImage}
 use Rattle.disk_model.specs.declared.disk.Disk.{Ghosts as DiskWords}
-use Rattle.gate_journal.specs.Log.{EndsInFaultOf, InTurn, IsOfSession, MayOpen, rows_kept}
-use Rattle.gate_journal.specs.Log.{rows_of}
+use Rattle.gate_journal.specs.Log.{EndsInFaultOf, InTurn, IsOfSession, MayOpen, rows_kept, rows_of}
 use Rattle.gate_journal.specs.Rows.{IsJournal}
 use Rattle.gate_journal.specs.declared.entry.Entry.{Entry as JournalEntry}
 use Rattle.gate_journal.specs.declared.row.Row.{Row}

@@ -1,6 +1,5 @@
 -- What a command leaves of its input and output, told or not (own).
-use Rattle.std.specs.Prelude.{◌≡◌, ℕ, ◌^◌, ◌≤◌, ◌⊎◌, List, length, true}
-use Rattle.std.specs.Prelude.{Result, Err, IsOkAnd}
+use Rattle.std.specs.Prelude.{◌≡◌, ℕ, ◌^◌, ◌≤◌, ◌⊎◌, List, length, true, Result, Err, IsOkAnd}
 use Rattle.host_top.specs.Headline.{Speech, whole_text}
 use Rattle.line_talk.specs.Lines.{lines, talk, ReachesLimit}
 use Rattle.line_talk.specs.Streams.{SourceState, SinkState, Gave, Wrote}

@@ -1,7 +1,6 @@
 //! An outside in memory, with the calls that are to fail.
 ghost use Rattle.std.specs.Prelude.{◌≡◌, Some, None, IfSome, IfNone, IsSomeAnd, OnOk, OnErr};
-ghost use Rattle.std.specs.Prelude.{is_some, true, false};
-ghost use Rattle.std.specs.Prelude.{ℕ, List, option_map};
+ghost use Rattle.std.specs.Prelude.{is_some, true, false, ℕ, List, option_map};
 ghost use Rattle.std.specs.BTreeMap.{get_by_text};
 ghost use Rattle.host_top.specs.Files.{Told, told_of_all, IsLentFrom, IsLent, returned, RisesWith};
 ghost use Rattle.host_top.specs.Files.{told_at, is_out, AreBelow};

@@ -5,8 +5,7 @@ ghost use Rattle.story_run.specs.Solo.{is_wanted, world_after_input};
 ghost use Rattle.line_talk.specs.Streams.{Wrote};
 ghost use Rattle.line_talk.specs.Writing.{Stopped};
 ghost use Rattle.line_talk.specs.Lines.{IsHeard};
-ghost use Rattle.host_top.specs.RunText.{show_text, input_next, input_reply};
-ghost use Rattle.host_top.specs.RunText.{line_next, line_reply};
+ghost use Rattle.host_top.specs.RunText.{show_text, input_next, input_reply, line_next, line_reply};
 
 use line_talk::{Answers, Sink, Stop, write_all};
 use line_words::{LineFault, read_play};

@@ -1,6 +1,5 @@
 //! The whole program but for the streams and files of the system.
-ghost use Rattle.std.specs.Prelude.{◌≡◌, ◌⊎◌, [], map, string_bytes, None, IfSome};
-ghost use Rattle.std.specs.Prelude.{IsSomeAnd, true};
+ghost use Rattle.std.specs.Prelude.{◌≡◌, ◌⊎◌, [], map, string_bytes, None, IfSome, IsSomeAnd, true};
 ghost use Rattle.line_talk.specs.Causes.{Rose};
 ghost use Rattle.line_talk.specs.Streams.{Gave, Wrote};
 ghost use Rattle.host_top.specs.DoorServed.{HostServes};

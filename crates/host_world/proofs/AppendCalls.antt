@@ -1,7 +1,6 @@
 -- The device calls of an append.
 use Rattle.std.proofs.Common.{Bool, List, None, Option, Some, [], ap, arith, false, length, refl}
-use Rattle.std.proofs.Common.{set}
-use Rattle.std.proofs.Common.{subst, sym, true, ℕ, ◌++◌, ◌+◌, ◌∙◌, ◌∷◌, ◌≡◌}
+use Rattle.std.proofs.Common.{set, subst, sym, true, ℕ, ◌++◌, ◌+◌, ◌∙◌, ◌∷◌, ◌≡◌}
 use Rattle.std.proofs.lemmas.Bool.Decides.{nat_tests}
 use Rattle.std.proofs.lemmas.List.{append-nil}
 use Rattle.std.specs.List.{slice_get}

@@ -6,8 +6,7 @@ use Rattle.std.specs.List.{slice_get}
 use Rattle.story_run.specs.declared.story.Story.{Story}
 use Rattle.host_world.specs.Events.{after, run}
 use Rattle.host_world.specs.Happenings.{all_told}
-use Rattle.host_world.specs.Headline.{EachLives, EventsAreIsolated, NothingIsLost}
-use Rattle.host_world.specs.Headline.{OpeningsFindRows}
+use Rattle.host_world.specs.Headline.{EachLives, EventsAreIsolated, NothingIsLost, OpeningsFindRows}
 use Rattle.host_world.specs.declared.event.JournalEvent.{JournalEvent}
 use Rattle.host_world.specs.declared.state.JournalHost.{JournalHost}
 use Rattle.host_world.proofs.Apart.{isolated_holds, nothing_lost}

@@ -4,8 +4,7 @@ use Rattle.std.proofs.Common.{Some, None, Result, Ok, Err, refl, sym, ap, subst,
 use Rattle.std.proofs.lemmas.List.{append-nil, drop_all}
 use Rattle.std.specs.Prelude.{◌&&◌, ◌==◌, IfOk, IfSome, if◌then◌else◌, option_map}
 use Rattle.std.specs.List.{last_or}
-use Rattle.gate_journal.specs.Rows.{is_open}
-use Rattle.gate_journal.specs.Rows.{commands_of}
+use Rattle.gate_journal.specs.Rows.{is_open, commands_of}
 use Rattle.gate_journal.specs.declared.command.Command.{Command}
 use Rattle.gate_journal.specs.declared.row.Row.{Row}
 use Rattle.story_run.specs.declared.story.Story.{Story}

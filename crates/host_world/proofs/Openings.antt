@@ -32,8 +32,7 @@ use Rattle.host_world.specs.Happenings.{Happening, Opened, further, history_left
 use Rattle.host_world.specs.Headline.{AreGiven}
 use Rattle.host_world.specs.Journal.{broken, gate_closed, host_called, comes_up}
 use Rattle.host_world.specs.Journal.{looked, next_call, onward, with_disk, with_fault}
-use Rattle.host_world.specs.Reading.{past_gate}
-use Rattle.host_world.specs.Reading.{rows_in}
+use Rattle.host_world.specs.Reading.{past_gate, rows_in}
 use Rattle.host_world.specs.Sessions.{history_found, found_session, found_sessions}
 use Rattle.store_events.specs.declared.disk.DiskCall.{DiskCall}
 use Rattle.store_events.specs.declared.disk.DiskCall.TheVariants.{Look, Sync, Write}
@@ -48,8 +47,7 @@ use Rattle.host_world.specs.declared.state.Step.TheVariants.{VersionSync, Versio
 use Rattle.host_world.specs.declared.turn.Session.{Session}
 use Rattle.host_world.specs.declared.turn.Turn.{Turn}
 use Rattle.host_world.proofs.AppendCalls.{broken_well, goes_on, open_syncs_good, opens_good}
-use Rattle.host_world.proofs.AppendCalls.{seen_is}
-use Rattle.host_world.proofs.AppendCalls.{shut_syncs_good, shuts_good, write_syncs_good}
+use Rattle.host_world.proofs.AppendCalls.{seen_is, shut_syncs_good, shuts_good, write_syncs_good}
 use Rattle.host_world.proofs.AppendCalls.{writes_good}
 use Rattle.host_world.proofs.Appends.{SameHost, begun_well}
 use Rattle.host_world.proofs.Folds.{history-push, replies-push}
@@ -57,8 +55,7 @@ use Rattle.host_world.proofs.ImageLemmas.{images_after}
 use Rattle.store_events.proofs.ImageLemmas.{stays_after, stays_bad}
 use Rattle.host_world.proofs.Phases.{if_kept}
 use Rattle.host_world.proofs.ReadingLemmas.{reads_rows}
-use Rattle.host_world.proofs.Reopening.{CallsWell, found_at, nobody, of_down}
-use Rattle.host_world.proofs.Reopening.{one_more_of, same_up}
+use Rattle.host_world.proofs.Reopening.{CallsWell, found_at, nobody, of_down, one_more_of, same_up}
 use Rattle.host_world.proofs.Rephasing.{stepped}
 use Rattle.host_world.proofs.RowsOf.{commands-found}
 use Rattle.host_world.proofs.Sound.{Busy, Knows, MayBeFound, Sound, Stands, StepFact, TurnFact}

@@ -1,8 +1,7 @@
 -- What is read of bytes, as it is read; and how many commands a journal has of a session.
 use Rattle.std.proofs.Common.{Bool, List, None, Option, Some, [], ap, append_assoc, arith, drop}
-use Rattle.std.proofs.Common.{false, inl, inr, true, ◌+◌, ◌==◌}
-use Rattle.std.proofs.Common.{length, length-append, refl, subst, sym, ℕ, ◌++◌, ◌<◌, ◌∙◌, ◌∷◌, ◌≡◌}
-use Rattle.std.proofs.Common.{◌≢◌, ◌≤◌}
+use Rattle.std.proofs.Common.{false, inl, inr, true, ◌+◌, ◌==◌, length, length-append, refl, subst}
+use Rattle.std.proofs.Common.{sym, ℕ, ◌++◌, ◌<◌, ◌∙◌, ◌∷◌, ◌≡◌, ◌≢◌, ◌≤◌}
 use Rattle.std.proofs.lemmas.Bool.{cases_eq}
 use Rattle.std.proofs.lemmas.Bool.Decides.{nat_tests}
 use Rattle.std.proofs.lemmas.List.{append-nil, drop_all}

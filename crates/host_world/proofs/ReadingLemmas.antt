@@ -9,8 +9,7 @@ use Rattle.std.proofs.lemmas.List.{take_at}
 use Rattle.std.proofs.lemmas.Option.{none-some}
 use Rattle.std.specs.Prelude.{if◌then◌else◌, nat_le, nat_lt, ◌&&◌, ◌||◌}
 use Rattle.std.specs.Str.{all_scalars}
-use Rattle.gate_journal.proofs.PayloadLemmas.{only_char, only_file, only_line, only_open}
-use Rattle.gate_journal.proofs.PayloadLemmas.{only_size}
+use Rattle.gate_journal.proofs.PayloadLemmas.{only_char, only_file, only_line, only_open, only_size}
 use Rattle.gate_journal.proofs.RowLemmas.{body_parts, holds_split, length-body, parse_step}
 use Rattle.gate_journal.proofs.RowLemmas.{spells_split}
 use Rattle.gate_journal.specs.Command.{IsCommand}
@@ -29,8 +28,7 @@ use Rattle.story_text.specs.Keycode.{is_terminator}
 use Rattle.line_words.specs.Keycode.{is_code}
 use Rattle.story_text.specs.Text.{IsText, is_short}
 use Rattle.host_world.specs.Reading.{begins_with, command_in, has_row, is_command, is_text}
-use Rattle.host_world.specs.Reading.{is_in_version}
-use Rattle.host_world.specs.Reading.{may_stand, row_at, rows_from, rows_in}
+use Rattle.host_world.specs.Reading.{is_in_version, may_stand, row_at, rows_from, rows_in}
 use Rattle.host_world.proofs.Lists.{some_same}
 use Rattle.std.proofs.lemmas.Slice.Eq.{bytes_eq-Decides}
 

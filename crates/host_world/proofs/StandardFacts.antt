@@ -1,7 +1,6 @@
 -- Hosts that there are, and what an opening makes of the least journal.
-use Rattle.std.proofs.Common.{List, None, Some, [], ap, arith, get_or, refl, replicate, subst}
-use Rattle.std.proofs.Common.{sym, true, ℕ}
-use Rattle.std.proofs.Common.{◌++◌, ◌∷◌, ◌≡◌}
+use Rattle.std.proofs.Common.{List, None, Some, [], ap, arith, get_or, refl, replicate, subst, sym}
+use Rattle.std.proofs.Common.{true, ℕ, ◌++◌, ◌∷◌, ◌≡◌}
 use Rattle.disk_model.proofs.StateLaws.{only_settled, settled_image}
 use Rattle.disk_model.specs.Disk.{Holds}
 use Rattle.disk_model.specs.DiskState.{IsDiskImage, settled}

@@ -37,8 +37,7 @@ use Rattle.disk_model.proofs.PlainLaws.{image_is}
 use Rattle.host_world.proofs.Lists.{false_true, map_at}
 use Rattle.host_world.proofs.Phases.{untold}
 use Rattle.host_world.proofs.RowsOf.{rows-here, rows-other}
-use Rattle.host_world.proofs.Sound.{Knows, PhaseFact, RowsFact, Sound, TurnFact}
-use Rattle.host_world.proofs.Sound.{stands_either_way}
+use Rattle.host_world.proofs.Sound.{Knows, PhaseFact, RowsFact, Sound, TurnFact, stands_either_way}
 
 module _ (stories : List Story) (budget : ℕ) where
   uncut : (h : List Entry) (past : List Happening) (x : List Entry)

@@ -10,8 +10,7 @@ use Rattle.disk_model.specs.Plain.{is_image}
 use Rattle.story_run.specs.declared.story.Story.{Story}
 use Rattle.store_events.specs.declared.event.FileEvent.TheVariants as files
 use Rattle.store_events.specs.declared.state.StoreState.{StoreState}
-use Rattle.store_events.specs.Events.{begins_opening}
-use Rattle.store_events.specs.Events.{file_after}
+use Rattle.store_events.specs.Events.{begins_opening, file_after}
 use Rattle.host_world.specs.Events.{after, run}
 use Rattle.host_world.specs.Whole.{are_images, closes_host, fails_at, is_up, no_put, stopped_files}
 use Rattle.host_world.specs.Keeping.{with_event}

@@ -1,9 +1,7 @@
 -- What becomes of the files of a host's sessions in one event, and of a file by a row more.
-use Rattle.std.proofs.Common.{◌≡◌, ◌⊎◌, inl, inr, ◌∙◌, ℕ, zero, suc, ◌-◌}
-use Rattle.std.proofs.Common.{◌==◌, Bool, true, false}
+use Rattle.std.proofs.Common.{◌≡◌, ◌⊎◌, inl, inr, ◌∙◌, ℕ, zero, suc, ◌-◌, ◌==◌, Bool, true, false}
 use Rattle.std.proofs.lemmas.Bool.{cases_eq}
-use Rattle.std.proofs.Common.{List, [], ◌∷◌, ◌++◌, Option}
-use Rattle.std.proofs.Common.{Some, None, refl, sym, ap, subst}
+use Rattle.std.proofs.Common.{List, [], ◌∷◌, ◌++◌, Option, Some, None, refl, sym, ap, subst}
 use Rattle.std.specs.Prelude.{◌&&◌, map, set, if◌then◌else◌}
 use Rattle.std.specs.List.{slice_get}
 use Rattle.disk_model.specs.Plain.{is_image}
@@ -14,8 +12,7 @@ use Rattle.session_saves.specs.Agreement.{Agrees}
 use Rattle.store_events.specs.declared.event.FileEvent.{FileEvent}
 use Rattle.store_events.specs.declared.event.FileEvent.TheVariants as files
 use Rattle.store_events.specs.declared.state.StoreState.{StoreState}
-use Rattle.store_events.specs.Events.{begins_opening}
-use Rattle.store_events.specs.Events.{file_after}
+use Rattle.store_events.specs.Events.{begins_opening, file_after}
 use Rattle.store_events.specs.Rows.{session_in_rows, told_of}
 use Rattle.store_events.specs.Session.{Does, EachMissesNone, IsInAgreement, IsUpToDate}
 use Rattle.store_events.specs.Session.{MayCome, SessionState}
@@ -25,13 +22,11 @@ use Rattle.store_events.proofs.SessionLemmas.{stays_in_agreement, warms_in_sixte
 use Rattle.store_events.proofs.SteadyLemmas.{opens_steady}
 use Rattle.host_world.specs.Keeping.{file_set, put_begun, with_event}
 use Rattle.host_world.specs.Puts.{IsOwnPut}
-use Rattle.host_world.specs.Whole.{are_images, is_up}
-use Rattle.host_world.specs.Whole.{put_of, stopped_files, to_files}
+use Rattle.host_world.specs.Whole.{are_images, is_up, put_of, stopped_files, to_files}
 use Rattle.host_world.specs.declared.keeping.Snapshot.{Snapshot}
 use Rattle.host_world.specs.declared.whole.Event.{Event}
-use Rattle.host_world.specs.declared.whole.Event.TheVariants.{Take, Want, Hold, Call}
-use Rattle.host_world.specs.declared.whole.Event.TheVariants.{Free, Run, Keep, Accept}
-use Rattle.host_world.specs.declared.whole.Event.TheVariants.{Give, Stop, Recover}
+use Rattle.host_world.specs.declared.whole.Event.TheVariants.{Take, Want, Hold, Call, Free, Run}
+use Rattle.host_world.specs.declared.whole.Event.TheVariants.{Keep, Accept, Give, Stop, Recover}
 use Rattle.host_world.specs.declared.whole.HostState.{HostState}
 use Rattle.host_world.proofs.Lists.{get_else, get_here, map_at, some_same}
 use Rattle.host_world.proofs.WholeRows.{Grows}

@@ -2,8 +2,7 @@
 use Rattle.std.proofs.Common.{◌≡◌, ◌⊎◌, inl, inr, ◌∙◌, ℕ, ◌+◌, ◌-◌}
 use Rattle.std.proofs.Common.{◌<◌, ◌≤◌, ◌==◌, Bool, true, false, drop, get_or}
 use Rattle.std.proofs.lemmas.List.{at_drop_all, drop_all, drop_more}
-use Rattle.std.proofs.Common.{List, [], ◌∷◌, ◌++◌, length}
-use Rattle.std.proofs.Common.{Some, refl, sym, ap, subst}
+use Rattle.std.proofs.Common.{List, [], ◌∷◌, ◌++◌, length, Some, refl, sym, ap, subst}
 use Rattle.std.specs.Prelude.{◌&&◌, if◌then◌else◌}
 use Rattle.std.specs.List.{slice_get}
 use Rattle.disk_model.specs.Plain.{is_image}
@@ -23,16 +22,14 @@ use Rattle.host_world.specs.Starts.{IsStart}
 use Rattle.host_world.specs.Puts.{AreOwnPuts, IsOwnPut}
 use Rattle.host_world.specs.Whole.{all_to_host, are_images, closes_host, fails_at, is_up, no_put}
 use Rattle.host_world.specs.Whole.{to_files, to_host, whole_after, whole_run}
-use Rattle.host_world.specs.WholeHeadline.{EachInAgreement, FilesAgree, LivesAsHost}
-use Rattle.host_world.specs.WholeHeadline.{NoneAreMissed, NoneIsMissed, NothingIsLostInAll}
-use Rattle.host_world.specs.WholeHeadline.{SessionWarmsInSixteen}
+use Rattle.host_world.specs.WholeHeadline.{EachInAgreement, FilesAgree, LivesAsHost, NoneAreMissed}
+use Rattle.host_world.specs.WholeHeadline.{NoneIsMissed, NothingIsLostInAll, SessionWarmsInSixteen}
 use Rattle.host_world.specs.declared.event.JournalEvent.{JournalEvent}
 use Rattle.host_world.specs.declared.event.JournalEvent.TheVariants as journal
 use Rattle.host_world.specs.declared.state.JournalHost.{JournalHost}
 use Rattle.host_world.specs.declared.whole.Event.{Event}
-use Rattle.host_world.specs.declared.whole.Event.TheVariants.{Take, Want, Hold, Call}
-use Rattle.host_world.specs.declared.whole.Event.TheVariants.{Free, Run, Keep, Accept}
-use Rattle.host_world.specs.declared.whole.Event.TheVariants.{Give, Stop, Recover}
+use Rattle.host_world.specs.declared.whole.Event.TheVariants.{Take, Want, Hold, Call, Free, Run}
+use Rattle.host_world.specs.declared.whole.Event.TheVariants.{Keep, Accept, Give, Stop, Recover}
 use Rattle.host_world.specs.declared.whole.HostState.{HostState}
 use Rattle.host_world.specs.Reading.{rows_in}
 use Rattle.host_world.specs.Starts.{rows_or_none}

@@ -19,8 +19,7 @@ use Rattle.host_world.specs.declared.turn.Phase.TheVariants.{Ready, Plain}
 use Rattle.host_world.specs.declared.turn.Turn.{Turn}
 use Rattle.host_world.specs.declared.turn.Session.{Session}
 use Rattle.host_world.specs.declared.state.Step.{Step}
-use Rattle.host_world.specs.declared.state.Step.TheVariants.{Idle, RepairWrite, RowWrite}
-use Rattle.host_world.specs.declared.state.Step.TheVariants.{FirstSync}
+use Rattle.host_world.specs.declared.state.Step.TheVariants.{Idle, RepairWrite, RowWrite, FirstSync}
 use Rattle.host_world.specs.declared.state.JournalHost.{JournalHost}
 use Rattle.host_world.specs.declared.event.JournalEvent.{JournalEvent}
 use Rattle.host_world.specs.declared.event.JournalEvent.TheVariants.{Take, Want, Hold, Call, Free, Run}

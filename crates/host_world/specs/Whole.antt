@@ -6,17 +6,15 @@ use Rattle.disk_model.specs.Plain.{is_image}
 use Rattle.story_run.specs.declared.story.Story.{Story}
 use Rattle.store_events.specs.declared.event.FileEvent.TheVariants as files
 use Rattle.store_events.specs.declared.state.StoreState.{StoreState}
-use Rattle.store_events.specs.Events.{is_opening, is_putting, begins_opening}
-use Rattle.store_events.specs.Events.{file_after}
+use Rattle.store_events.specs.Events.{is_opening, is_putting, begins_opening, file_after}
 use Rattle.store_events.specs.Events.{store_down_over as file_down}
 use Rattle.host_world.specs.declared.event.JournalEvent.{JournalEvent}
 use Rattle.host_world.specs.declared.event.JournalEvent.TheVariants as journal
 use Rattle.host_world.specs.declared.keeping.Snapshot.{Snapshot}
 use Rattle.host_world.specs.declared.state.JournalHost.{JournalHost}
 use Rattle.host_world.specs.declared.whole.Event.{Event}
-use Rattle.host_world.specs.declared.whole.Event.TheVariants.{Take, Want, Hold, Call}
-use Rattle.host_world.specs.declared.whole.Event.TheVariants.{Free, Run, Keep, Accept}
-use Rattle.host_world.specs.declared.whole.Event.TheVariants.{Give, Stop, Recover}
+use Rattle.host_world.specs.declared.whole.Event.TheVariants.{Take, Want, Hold, Call, Free, Run}
+use Rattle.host_world.specs.declared.whole.Event.TheVariants.{Keep, Accept, Give, Stop, Recover}
 use Rattle.host_world.specs.declared.whole.HostState.{HostState}
 use Rattle.host_world.specs.Events.{holds_journal, run}
 use Rattle.host_world.specs.Keeping.{due_snapshot, put_begun, with_event}

@@ -2,9 +2,8 @@
 
 ghost use Rattle.std.specs.Prelude.{◌≡◌, [], ◌∷◌, IfOk, IsTrue, MatchOption, OnOk, false};
 ghost use Rattle.gate_journal.specs.Command.{IsBudget};
-ghost use Rattle.host_world.specs.Journal.{next_call, onward, failed, call_ended};
-ghost use Rattle.host_world.specs.Journal.{is_append, is_idle};
-ghost use Rattle.host_world.specs.Journal.{sessions_with};
+ghost use Rattle.host_world.specs.Journal.{next_call, onward, failed, call_ended, is_append};
+ghost use Rattle.host_world.specs.Journal.{is_idle, sessions_with};
 ghost use Rattle.host_world.specs.Events.{after, begun, begun_with, call_next, first_step};
 ghost use Rattle.host_world.specs.declared.event.JournalEvent.TheVariants as JournalEvent;
 ghost use Rattle.host_world.specs.declared.state.Step.TheVariants as Steps;

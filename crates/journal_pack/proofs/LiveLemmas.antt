@@ -8,9 +8,8 @@ use Rattle.std.proofs.lemmas.Bool.Decides.{nat_tests}
 use Rattle.gate_journal.specs.declared.command.Command.{Command}
 use Rattle.gate_journal.specs.declared.row.Row.{Row}
 use Rattle.gate_journal.specs.Command.{IsCommand}
-use Rattle.gate_journal.specs.Rows.{commands_of, is_free, is_close, is_open}
-use Rattle.gate_journal.specs.Rows.{may_follow, rows_behind_open_gates, row_body}
-use Rattle.gate_journal.specs.Rows.{EachNext, IsJournal}
+use Rattle.gate_journal.specs.Rows.{commands_of, is_free, is_close, is_open, may_follow}
+use Rattle.gate_journal.specs.Rows.{rows_behind_open_gates, row_body, EachNext, IsJournal}
 use Rattle.gate_journal.specs.Log.{next_row}
 use Rattle.gate_journal.proofs.SeatLemmas.{commands_of-same, commands_of-other, is_free-push}
 use Rattle.journal_pack.specs.Live.{has_open, is_live, live_rows, placed_behind, rebuilt}

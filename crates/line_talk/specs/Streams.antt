@@ -1,6 +1,5 @@
 -- What is known of a source and of a sink of bytes (own).
-use Rattle.std.specs.Prelude.{ℕ, ◌<◌, ◌≤◌, List, [], length, take, Bool, true, false}
-use Rattle.std.specs.Prelude.{Option}
+use Rattle.std.specs.Prelude.{ℕ, ◌<◌, ◌≤◌, List, [], length, take, Bool, true, false, Option}
 use Rattle.std.specs.Io.KnownBytes.{Consumes, Appends}
 use Rattle.line_talk.specs.Causes.{CountsMore}
 use Rattle.line_talk.specs.declared.source.Got.{Got}

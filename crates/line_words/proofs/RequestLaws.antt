@@ -6,22 +6,19 @@ use Rattle.story_text.specs.Escape.{escaped}
 use Rattle.story_text.specs.Escape as texts
 use Rattle.story_text.proofs.TextLaws.{text_again, spells_only}
 use Rattle.line_words.specs.declared.request.Request.{Request}
-use Rattle.line_words.specs.declared.request.Request.TheVariants.{Open, Line, Char}
-use Rattle.line_words.specs.declared.request.Request.TheVariants.{File, Size, Last, Close}
-use Rattle.line_words.specs.declared.request.Request.TheVariants.{Watch}
+use Rattle.line_words.specs.declared.request.Request.TheVariants.{Open, Line, Char, File, Size}
+use Rattle.line_words.specs.declared.request.Request.TheVariants.{Last, Close, Watch}
 use Rattle.story_text.specs.declared.input.Input.{Input}
 use Rattle.story_text.specs.declared.input.Input.TheVariants as plays
 use Rattle.line_words.specs.Keycode.{is_code}
 use Rattle.line_words.specs.Reading.{Reader, whole, made_if_read}
 use Rattle.line_words.specs.Field.{behind_name, fields_or, fields_named}
-use Rattle.line_words.specs.Play.{line_at, window_and_code_at, screen_at, line_play}
-use Rattle.line_words.specs.Play.{char_play, file_play, spelled_play}
-use Rattle.line_words.specs.Play.{play_of}
+use Rattle.line_words.specs.Play.{line_at, window_and_code_at, screen_at, line_play, char_play}
+use Rattle.line_words.specs.Play.{file_play, spelled_play, play_of}
 use Rattle.line_words.specs.Play as play
 use Rattle.line_words.specs.Request.{session_at, numbered_at, setup_fields_at, open_of}
 use Rattle.line_words.specs.Request.{line_request, char_request, file_request, size_request}
-use Rattle.line_words.specs.Request.{last_request, made_size}
-use Rattle.line_words.specs.Request.{watched_at, watch_of, made_watch}
+use Rattle.line_words.specs.Request.{last_request, made_size, watched_at, watch_of, made_watch}
 use Rattle.line_words.specs.Request.{close_of, made_open, made_line, made_char, made_file}
 use Rattle.line_words.specs.Request.{made_last, made_close, spelled_request, request_of}
 use Rattle.line_words.specs.Spelling.{number_field, session, numbered_fields, watched_fields}
@@ -35,8 +32,7 @@ use Rattle.line_words.proofs.ReaderLaws.{whole-again, whole-only, made-only, Num
 use Rattle.line_words.proofs.ReaderLaws.{KeyIs, TextIs, CodeIs, TerminatorIs, number_reads}
 use Rattle.line_words.specs.Field.{are_letters}
 use Rattle.line_words.proofs.WordLaws.{visible_lacks}
-use Rattle.line_words.proofs.ReaderLaws.{letters_visible, u32_reads}
-use Rattle.line_words.proofs.ReaderLaws.{WatchWordIs, watch_word_reads}
+use Rattle.line_words.proofs.ReaderLaws.{letters_visible, u32_reads, WatchWordIs, watch_word_reads}
 use Rattle.line_words.proofs.ReaderLaws.{key_reads, text_reads, code_reads, terminator_reads}
 
 -- ---- the fields of each kind of line

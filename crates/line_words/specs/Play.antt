@@ -1,7 +1,6 @@
 -- The lines that `run` reads, by reading them from the left (own).
-use Rattle.std.specs.Prelude.{◌≡◌, ℕ, Bool, true, false, ◌&&◌, ◌-◌, ◌==◌}
-use Rattle.std.specs.Prelude.{nat_lt, take, slice_index, if◌then◌else◌, List, length, Option}
-use Rattle.std.specs.Prelude.{None, codes}
+use Rattle.std.specs.Prelude.{◌≡◌, ℕ, Bool, true, false, ◌&&◌, ◌-◌, ◌==◌, nat_lt, take, slice_index}
+use Rattle.std.specs.Prelude.{if◌then◌else◌, List, length, Option, None, codes}
 use Rattle.line_words.specs.declared.fault.LineFault.{LineFault}
 use Rattle.line_words.specs.declared.fault.LineFault.TheVariants.{BadLine, LongLine, NoMemory}
 use Rattle.story_text.specs.declared.input.Input.{Input}

@@ -4,10 +4,8 @@ use Rattle.line_words.specs.declared.request.Request.{Request}
 use Rattle.line_words.specs.declared.request.Request.TheVariants.{Open, Line, Char, File, Size}
 use Rattle.line_words.specs.declared.request.Request.TheVariants.{Last, Close, Watch}
 use Rattle.line_words.specs.Reading.{Reader, ◌then◌, whole, made_if_read}
-use Rattle.line_words.specs.Field.{number_between, key_at, text_at}
-use Rattle.line_words.specs.Field.{watch_word_at, fields_named}
-use Rattle.line_words.specs.Play.{line_at, window_and_code_at, screen_at, without_cr}
-use Rattle.line_words.specs.Play.{unless_long}
+use Rattle.line_words.specs.Field.{number_between, key_at, text_at, watch_word_at, fields_named}
+use Rattle.line_words.specs.Play.{line_at, window_and_code_at, screen_at, without_cr, unless_long}
 
 -- a session and its key
 unfoldable pub session_at : Reader (ℕ × List ℕ)

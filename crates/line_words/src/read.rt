@@ -4,12 +4,9 @@ ghost use Rattle.std.specs.Prelude.{◌≡◌, IfOk, IfErr, Some};
 ghost use Rattle.line_words.specs.Reading.{GivesLineReading};
 ghost use Rattle.line_words.specs.Play.{RefusesLine};
 ghost use Rattle.line_words.specs.Request.{session_at, numbered_at, setup_fields_at, open_of};
-ghost use Rattle.line_words.specs.Request.{line_request};
-ghost use Rattle.line_words.specs.Request.{char_request, file_request, size_request, last_request};
-ghost use Rattle.line_words.specs.Request.{close_of};
-ghost use Rattle.line_words.specs.Request.{watched_at, watch_of};
-ghost use Rattle.line_words.specs.Request.{spelled_request};
-ghost use Rattle.line_words.specs.Request.{request_of};
+ghost use Rattle.line_words.specs.Request.{line_request, char_request, file_request, size_request};
+ghost use Rattle.line_words.specs.Request.{last_request, close_of, watched_at, watch_of};
+ghost use Rattle.line_words.specs.Request.{spelled_request, request_of};
 
 use crate::fault::LineFault;
 use crate::field::{after, at_end, key_at, number_at, text_at, u32_at, watch_word_at};

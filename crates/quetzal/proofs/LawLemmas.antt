@@ -1,13 +1,11 @@
 -- Runs, piece by piece.
-use Rattle.std.proofs.Common.{◌≡◌, ◌≢◌, ◌∙◌, ℕ, ◌==◌}
-use Rattle.std.proofs.Common.{true, false, List, [], ◌∷◌, length}
-use Rattle.std.proofs.Common.{Some, refl, ap, sym, arith}
+use Rattle.std.proofs.Common.{◌≡◌, ◌≢◌, ◌∙◌, ℕ, ◌==◌, true, false, List, [], ◌∷◌, length, Some}
+use Rattle.std.proofs.Common.{refl, ap, sym, arith}
 use Rattle.std.specs.Int.RustNames.{bit_xor}
 use Rattle.std.proofs.lemmas.Bool.Decides.{nat_tests}
 use Rattle.std.proofs.lemmas.List.Elements.{All-head, All-tail}
 use Rattle.vm_undo.specs.Runs.{runs_decoded, with_front}
-use Rattle.quetzal.specs.Laws.{Same, Changed, IsPiece}
-use Rattle.quetzal.specs.Laws.{coding_of_pieces, RestoresPieces}
+use Rattle.quetzal.specs.Laws.{Same, Changed, IsPiece, coding_of_pieces, RestoresPieces}
 use Rattle.vm_undo.proofs.RunLemmas.{run_skips}
 
 changed : (d byte : ℕ) (rest after bs : List ℕ) → d ≢ 0 → runs_decoded false rest bs ≡ Some after

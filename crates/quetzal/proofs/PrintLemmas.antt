@@ -1,8 +1,7 @@
 -- What is printed is read again.
-use Rattle.std.proofs.Common.{◌≡◌, ℕ, zero, suc, ◌+◌, ◌-◌, ◌%◌, ◌^◌, ◌<◌, ◌≤◌, Bool, true}
-use Rattle.std.proofs.Common.{false, ◌==◌, cond, nat_lt, List, [], ◌∷◌, ◌++◌, length, take, drop}
-use Rattle.std.proofs.Common.{Option, Some, None, Ok, refl, ap, subst, ◌∙◌}
-use Rattle.std.proofs.Common.{append_assoc, arith}
+use Rattle.std.proofs.Common.{◌≡◌, ℕ, zero, suc, ◌+◌, ◌-◌, ◌%◌, ◌^◌, ◌<◌, ◌≤◌, Bool, true, false}
+use Rattle.std.proofs.Common.{◌==◌, cond, nat_lt, List, [], ◌∷◌, ◌++◌, length, take, drop, Option}
+use Rattle.std.proofs.Common.{Some, None, Ok, refl, ap, subst, ◌∙◌, append_assoc, arith}
 use Rattle.std.specs.Int.{w32, to_be_bytes}
 use Rattle.std.proofs.lemmas.Bool.Decides.{nat_tests}
 use Rattle.std.proofs.lemmas.List.{append-nil, take_at, drop_at, take_all, length-append}
@@ -11,8 +10,7 @@ use Rattle.std.proofs.lemmas.List.Elements.{All-head, All-tail, All-nil, All-con
 use Rattle.glulx_image.specs.Header.{word}
 use Rattle.quetzal.specs.Chunks.{chunk_at, are_chunks, first_named, form_body, parts_of}
 use Rattle.quetzal.specs.Printing.{padding, chunk, heap_chunk, chunks_of, ReadsWhatIsPrinted}
-use Rattle.quetzal.specs.Laws.{IsChunk, bytes_of_chunks, first_contents}
-use Rattle.quetzal.specs.Laws.{ReadsFirstOfEachName}
+use Rattle.quetzal.specs.Laws.{IsChunk, bytes_of_chunks, first_contents, ReadsFirstOfEachName}
 use Rattle.quetzal.proofs.MemoryLemmas.{word_again}
 
 behind_by : (n : ℕ) (rest : List ℕ) (odd : Bool)

@@ -1,7 +1,6 @@
 -- What is read is a state of the story.
-use Rattle.std.proofs.Common.{◌≡◌, ℕ, ◌%◌, ◌≤◌, Bool, true, nat_le}
-use Rattle.std.proofs.Common.{List, [], ◌∷◌, length, Option, Ok, ap, sym, subst}
-use Rattle.std.proofs.Common.{refl, ◌∙◌, arith}
+use Rattle.std.proofs.Common.{◌≡◌, ℕ, ◌%◌, ◌≤◌, Bool, true, nat_le, List, [], ◌∷◌, length, Option}
+use Rattle.std.proofs.Common.{Ok, ap, sym, subst, refl, ◌∙◌, arith}
 use Rattle.std.proofs.lemmas.Bool.{and_parts}
 use Rattle.std.proofs.lemmas.Bool.Decides.{nat_tests}
 use Rattle.std.specs.Bool.{Decides, one_answer}

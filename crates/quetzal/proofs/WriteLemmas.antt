@@ -1,8 +1,7 @@
 -- What is written of a state fits a form, and is read as that state alone.
-use Rattle.std.proofs.Common.{◌≡◌, ℕ, zero, suc, ◌+◌, ◌*◌, ◌/◌, ◌%◌, ◌^◌, ◌<◌, ◌≤◌, Bool}
-use Rattle.std.proofs.Common.{true, false, ◌&&◌, ◌==◌, nat_le, cond, List, [], ◌∷◌, ◌++◌, length}
-use Rattle.std.proofs.Common.{Some, Ok, refl}
-use Rattle.std.proofs.Common.{ap, sym, subst, ◌∙◌, arith, IsTrue}
+use Rattle.std.proofs.Common.{◌≡◌, ℕ, zero, suc, ◌+◌, ◌*◌, ◌/◌, ◌%◌, ◌^◌, ◌<◌, ◌≤◌, Bool, true}
+use Rattle.std.proofs.Common.{false, ◌&&◌, ◌==◌, nat_le, cond, List, [], ◌∷◌, ◌++◌, length, Some}
+use Rattle.std.proofs.Common.{Ok, refl, ap, sym, subst, ◌∙◌, arith, IsTrue}
 use Rattle.std.proofs.lemmas.Bool.Decides.{nat_tests}
 use Rattle.std.proofs.lemmas.List.{length-append, length-take, length-drop}
 use Rattle.std.proofs.lemmas.List.Sorted.{IsPermutation-refl}
@@ -11,10 +10,8 @@ use Rattle.std.specs.Int.{w32, to_be_bytes}
 use Rattle.std.specs.Str.{bytes_eq}
 use Rattle.vm_heap.specs.HeapMap.{in_order, is_heap, heap_end, block_end}
 use Rattle.vm_heap.specs.declared.block.Block.{Block}
-use Rattle.vm_heap.proofs.HeapLemmas.{Next, next_of, in_order-limit}
-use Rattle.vm_heap.proofs.HeapLemmas.{is_heap-order, positive}
-use Rattle.glulx_image.specs.Header.{word}
-use Rattle.glulx_image.specs.Header.{IsLaidOut, extstart, endmem}
+use Rattle.vm_heap.proofs.HeapLemmas.{Next, next_of, in_order-limit, is_heap-order, positive}
+use Rattle.glulx_image.specs.Header.{word, IsLaidOut, extstart, endmem}
 use Rattle.vm_memory.specs.MemoryMap.{MemoryMap, Origin, origin_of, ram_of}
 use Rattle.vm_undo.specs.Contents.{IsMemoryOf, changes, contents, first_ram}
 use Rattle.vm_undo.specs.Runs.{differences, pairs, last_run, zeros, runs_coded}

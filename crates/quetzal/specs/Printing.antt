@@ -1,7 +1,6 @@
 -- A save as it is written (Quetzal 1.4, "Overall structure").
-use Rattle.std.specs.Prelude.{◌≡◌, ℕ, ◌+◌, ◌%◌, ◌<◌, ◌^◌, true, List, []}
-use Rattle.std.specs.Prelude.{◌∷◌, codes, ◌++◌, length, ◌==◌, if◌then◌else◌}
-use Rattle.std.specs.Prelude.{Option, Some, None, Ok}
+use Rattle.std.specs.Prelude.{◌≡◌, ℕ, ◌+◌, ◌%◌, ◌<◌, ◌^◌, true, List, [], ◌∷◌, codes, ◌++◌, length}
+use Rattle.std.specs.Prelude.{◌==◌, if◌then◌else◌, Option, Some, None, Ok}
 use Rattle.std.specs.Int.{w32, to_be_bytes}
 use Rattle.quetzal.specs.Chunks.{name, parts_of}
 

@@ -1,8 +1,7 @@
 //! The heap's chunk (Glulx 3.1.3, "Saving and Restoring").
 
-ghost use Rattle.std.specs.Prelude.{◌≡◌, ◌++◌, ◌+◌, ◌*◌, ◌/◌, ◌%◌};
-ghost use Rattle.std.specs.Prelude.{◌≤◌, ◌<◌, ◌^◌, length, drop, Some, None, OnOk};
-ghost use Rattle.std.specs.Prelude.{IfOk, MatchOption};
+ghost use Rattle.std.specs.Prelude.{◌≡◌, ◌++◌, ◌+◌, ◌*◌, ◌/◌, ◌%◌, ◌≤◌, ◌<◌, ◌^◌, length, drop};
+ghost use Rattle.std.specs.Prelude.{Some, None, OnOk, IfOk, MatchOption};
 ghost use Rattle.vm_heap.specs.HeapMap.{block_end, rounded_up};
 ghost use Rattle.quetzal.specs.Chunks.{now_of};
 ghost use Rattle.quetzal.specs.Heap as chunk;

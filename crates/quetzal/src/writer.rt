@@ -1,7 +1,6 @@
 //! Writing a form of chunks (Quetzal 1.4, "Overall structure").
 
-ghost use Rattle.std.specs.Prelude.{◌≡◌, ◌++◌, ◌+◌, ◌<◌, ◌^◌, length, OnOk};
-ghost use Rattle.std.specs.Prelude.{IfOk, Ok};
+ghost use Rattle.std.specs.Prelude.{◌≡◌, ◌++◌, ◌+◌, ◌<◌, ◌^◌, length, OnOk, IfOk, Ok};
 ghost use Rattle.quetzal.specs.Printing.{chunk, heap_chunk, chunks_of, print_save};
 ghost use Rattle.quetzal.specs.Printing.{ReadsWhatIsPrinted};
 ghost use Rattle.quetzal.specs.Chunks.{now_of};

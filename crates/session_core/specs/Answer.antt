@@ -18,10 +18,8 @@ use Rattle.session_core.specs.declared.decision.Decision.{Decision}
 use Rattle.session_core.specs.History.{game_of, command_count, input_of, is_in_use, turned_on}
 use Rattle.session_core.specs.History.{world_of}
 use Rattle.session_core.specs.Checks.{session_of, command_of, is_fresh, is_watch, is_absent}
-use Rattle.session_core.specs.Checks.{is_taken}
-use Rattle.session_core.specs.Checks.{is_story_missing, is_changed, is_early, is_different}
-use Rattle.session_core.specs.Checks.{is_ahead}
-use Rattle.session_core.specs.Checks.{comes_late, is_unwanted, is_full}
+use Rattle.session_core.specs.Checks.{is_taken, is_story_missing, is_changed, is_early}
+use Rattle.session_core.specs.Checks.{is_different, is_ahead, comes_late, is_unwanted, is_full}
 
 -- the first refusal whose check holds
 abbrev pub first_refusal : List (Bool × No) → Option No

@@ -1,7 +1,6 @@
 -- The checks of a request against a session's game, each by its reply (own).
-use Rattle.std.specs.Prelude.{ℕ, ◌+◌, Bool, true, false, ◌&&◌, ◌||◌, ◌==◌, not}
-use Rattle.std.specs.Prelude.{nat_lt, nat_le, List, [], ◌∷◌, length, is_none, Option, Some}
-use Rattle.std.specs.Prelude.{None}
+use Rattle.std.specs.Prelude.{ℕ, ◌+◌, Bool, true, false, ◌&&◌, ◌||◌, ◌==◌, not, nat_lt, nat_le}
+use Rattle.std.specs.Prelude.{List, [], ◌∷◌, length, is_none, Option, Some, None}
 use Rattle.std.specs.Str.{bytes_eq}
 use Rattle.story_text.specs.declared.input.Input.{Input}
 use Rattle.gate_journal.specs.declared.command.Command.{Command}

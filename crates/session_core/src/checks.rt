@@ -3,10 +3,9 @@
 ghost use Rattle.std.specs.Prelude.{◌≡◌, ◌≤◌, length, IfOk, Some, None, MatchOption};
 ghost use Rattle.session_core.specs.History.{game_of, command_count, is_in_use, has_key, last_of};
 ghost use Rattle.session_core.specs.Checks.{session_of, request_key, command_number, is_fresh};
-ghost use Rattle.session_core.specs.Checks.{is_known, is_watch};
-ghost use Rattle.session_core.specs.Checks.{is_absent, is_own_open, is_taken, is_story_missing};
-ghost use Rattle.session_core.specs.Checks.{is_other_story, is_changed, is_early, is_different};
-ghost use Rattle.session_core.specs.Checks.{is_ahead};
+ghost use Rattle.session_core.specs.Checks.{is_known, is_watch, is_absent, is_own_open, is_taken};
+ghost use Rattle.session_core.specs.Checks.{is_story_missing, is_other_story, is_changed, is_early};
+ghost use Rattle.session_core.specs.Checks.{is_different, is_ahead};
 
 use crate::history::{count, is_in_use, story_at};
 use crate::same::is_last;

@@ -10,8 +10,7 @@ use Rattle.story_run.specs.declared.story.Story.{Story}
 use Rattle.story_run.specs.World.{WorldState}
 use Rattle.session_core.specs.History.{game_of}
 use Rattle.session_core.specs.Checks.{comes_late, is_full, is_unwanted}
-use Rattle.session_core.specs.Answer.{accepted_by, first_refusal, plain_checks}
-use Rattle.session_core.specs.Answer.{refusal_in}
+use Rattle.session_core.specs.Answer.{accepted_by, first_refusal, plain_checks, refusal_in}
 use Rattle.session_desk.specs.Laws.{IsByWorld, WorldIsNeeded}
 use Rattle.session_desk.specs.Verdict.{foretold, is_to_story, needs_world, verdict_by}
 use Rattle.session_desk.proofs.NowLemmas.{asks_no_world}

@@ -1,6 +1,5 @@
 -- What a session answers whose world is the one that its desk holds (own).
-use Rattle.std.specs.Prelude.{◌≡◌, ◌⊎◌, ℕ, ◌≤◌, true, false, List, length, Option, Some}
-use Rattle.std.specs.Prelude.{None}
+use Rattle.std.specs.Prelude.{◌≡◌, ◌⊎◌, ℕ, ◌≤◌, true, false, List, length, Option, Some, None}
 use Rattle.gate_journal.specs.Command.{IsBudget}
 use Rattle.gate_journal.specs.Rows.{commands_of, IsJournal}
 use Rattle.gate_journal.specs.declared.command.Command.{Command}
@@ -21,8 +20,7 @@ use Rattle.session_saves.specs.Agreement.{AgreesWithBeginning, IsAgreedFile, ope
 use Rattle.session_desk.specs.Commit.{IsInRange}
 use Rattle.session_desk.specs.declared.verdict.Verdict.{Verdict}
 use Rattle.session_desk.specs.declared.verdict.Verdict.TheVariants.{Refuse, Again, Fresh, Cold}
-use Rattle.session_desk.specs.Desk.{DeskState, committed, game, is_cold, ran, shown_to}
-use Rattle.session_desk.specs.Desk.{world_now}
+use Rattle.session_desk.specs.Desk.{DeskState, committed, game, is_cold, ran, shown_to, world_now}
 use Rattle.session_desk.specs.Verdict.{foretold, lacks_world, needs_world, verdict}
 
 -- what the session answers to a request, by the world that the desk holds

@@ -18,8 +18,7 @@ use Rattle.story_run.specs.declared.story.Story.{Story}
 use Rattle.session_core.specs.declared.entry.Entry.{Entry}
 use Rattle.session_core.specs.declared.entry.Entry.TheVariants as entries
 use Rattle.session_core.specs.declared.entry.Outcome.{Outcome}
-use Rattle.session_core.specs.declared.entry.Outcome.TheVariants.{Answered, DiskFailed}
-use Rattle.session_core.specs.declared.entry.Outcome.TheVariants.{OutOfMemory}
+use Rattle.session_core.specs.declared.entry.Outcome.TheVariants.{Answered, DiskFailed, OutOfMemory}
 use Rattle.snap_store.specs.Store.{Snapshots}
 use Rattle.session_core.specs.Checks.{command_of}
 use Rattle.session_core.specs.Turning.{commands_in, MayMeet, turn_met}

@@ -1,7 +1,6 @@
 //! A world made again from a snapshot and the inputs behind it (own).
 
-ghost use Rattle.std.specs.Prelude.{◌≡◌, ◌≤◌, IsTrue};
-ghost use Rattle.std.specs.Prelude.{IfOk, IfSome, MatchOption};
+ghost use Rattle.std.specs.Prelude.{◌≡◌, ◌≤◌, IsTrue, IfOk, IfSome, MatchOption};
 ghost use Rattle.disk_model.specs.Disk.{EachImage, OnlyLooks};
 ghost use Rattle.story_snap.specs.Bytes.{HasBytes, HasNoWorld};
 ghost use Rattle.snap_store.specs.Store.{IsGiven, IsImageOf, store_area};

@@ -4,8 +4,7 @@ use Rattle.std.proofs.Common.{refl, sym, arith, append_assoc}
 use Rattle.std.specs.List.{AllByRecursion}
 use Rattle.std.proofs.lemmas.Bool.Decides.{nat_tests}
 use Rattle.snap_fields.specs.Numbers.{n1, n4, flag, IsByte, IsWord, IsListOf, list_of}
-use Rattle.snap_fields.specs.Reading.{n1_at}
-use Rattle.snap_fields.specs.Reading.{n4_at, list_at}
+use Rattle.snap_fields.specs.Reading.{n1_at, n4_at, list_at}
 use Rattle.snap_fields.specs.declared.glk.SnapArea.{SnapArea}
 use Rattle.snap_fields.specs.declared.glk.SnapContent.{SnapContent}
 use Rattle.snap_fields.specs.declared.glk.SnapContent.TheVariants.{Pair, Blank, Buffer, Grid}

@@ -1,6 +1,5 @@
 -- The items: each is read exactly as it is printed.
-use Rattle.std.proofs.Common.{◌≡◌, ℕ, ◌==◌, true, false, List, [], ◌++◌}
-use Rattle.std.proofs.Common.{refl, sym, arith}
+use Rattle.std.proofs.Common.{◌≡◌, ℕ, ◌==◌, true, false, List, [], ◌++◌, refl, sym, arith}
 use Rattle.std.proofs.lemmas.Bool.Decides.{nat_tests}
 use Rattle.vm_heap.specs.declared.block.Block.{Block}
 use Rattle.snap_fields.specs.Numbers.{n1, n4, IsByte, IsWord}
@@ -24,9 +23,8 @@ use Rattle.snap_fields.specs.Items.{machine_at, settings_item, settings_at, rand
 use Rattle.snap_fields.specs.Items.{random_at, store_item, store_at, select_of, prompt_of}
 use Rattle.snap_fields.specs.Items.{undo_state_at, undo_state_item, waiting_with, waiting_at}
 use Rattle.snap_fields.specs.Items.{numbers_of, numbers_at}
-use Rattle.snap_fields.proofs.Readers.{IsReader, ◌before◌, made_reads, led_reads}
-use Rattle.snap_fields.proofs.Readers.{none_reads, pure_reads, if_reads}
-use Rattle.snap_fields.proofs.Readers.{n1_reads, n4_reads, n8_reads}
+use Rattle.snap_fields.proofs.Readers.{IsReader, ◌before◌, made_reads, led_reads, none_reads}
+use Rattle.snap_fields.proofs.Readers.{pure_reads, if_reads, n1_reads, n4_reads, n8_reads}
 use Rattle.snap_fields.proofs.Lists.{list_reads, bytes_reads}
 
 -- ---- 1. the beginning

@@ -12,9 +12,8 @@ use Rattle.snap_fields.specs.Numbers.{flag, list_of, bytes_with_count}
 use Rattle.snap_fields.specs.Reading.{Reader, ◌>>=◌, none_at, pure_at, n1_at, n4_at, bool_at}
 use Rattle.snap_fields.specs.Reading.{flag1_at, flag4_at, many_at, taken_at, list_at, bytes_at}
 use Rattle.snap_fields.proofs.Readers.{bind_some, some_is, else_some, IsBytes, bytes_take}
-use Rattle.snap_fields.proofs.Readers.{rest_bytes, Takes, IsReader, led_reads}
-use Rattle.snap_fields.proofs.Readers.{none_reads, pure_reads}
-use Rattle.snap_fields.proofs.Readers.{if_reads, n1_reads, n4_reads}
+use Rattle.snap_fields.proofs.Readers.{rest_bytes, Takes, IsReader, led_reads, none_reads}
+use Rattle.snap_fields.proofs.Readers.{pure_reads, if_reads, n1_reads, n4_reads}
 
 -- ---- flags
 

@@ -9,17 +9,15 @@ use Rattle.snap_fields.specs.Reading.{reader_made, n4_at}
 use Rattle.snap_fields.specs.declared.fault.SnapFault.{SnapFault}
 use Rattle.snap_fields.specs.declared.fault.SnapFault.TheVariants.{BadSnap, NoMemory}
 use Rattle.snap_fields.specs.declared.fields.Fields.{Fields}
-use Rattle.snap_fields.specs.Printing.{print_setup, print_machine, print_settings}
-use Rattle.snap_fields.specs.Printing.{print_random, print_waiting, print_numbers, print_window}
-use Rattle.snap_fields.specs.Printing.{print_stream, print_fileref, print_file, print_fields}
-use Rattle.snap_fields.specs.Printing.{print_undo_state}
+use Rattle.snap_fields.specs.Printing.{print_setup, print_machine, print_settings, print_random}
+use Rattle.snap_fields.specs.Printing.{print_waiting, print_numbers, print_window, print_stream}
+use Rattle.snap_fields.specs.Printing.{print_fileref, print_file, print_fields, print_undo_state}
 use Rattle.snap_fields.specs.Printable.{IsWindow, IsStream, IsFileRef, IsFile, IsPrintable}
 use Rattle.snap_fields.specs.Printable.{IsUndoState}
 use Rattle.snap_fields.specs.Items.{undo_state_at}
 use Rattle.snap_fields.specs.GlkItems.{window_item_at, stream_item_at, fileref_at, file_at}
 use Rattle.snap_fields.specs.Whole.{objects_at, after_machine_at, parts_at, fields_of_parts}
-use Rattle.snap_fields.specs.Whole.{signed_fields}
-use Rattle.snap_fields.specs.Whole.{fields_at, if_all_read, FindsWhole}
+use Rattle.snap_fields.specs.Whole.{signed_fields, fields_at, if_all_read, FindsWhole}
 use Rattle.snap_fields.specs.Laws.{SpellsFields, RefusesFields, ReadsFields}
 use Rattle.snap_fields.specs.Laws.{ReadsEachSpellingOfFields, FieldsHaveOneSpelling, BeginsNoOther}
 use Rattle.snap_fields.proofs.Readers.{IsBytes, IsReader, ◌before◌, made_reads, led_reads}

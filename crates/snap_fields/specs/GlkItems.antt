@@ -1,8 +1,7 @@
 -- Windows, streams and files, read from the left (own: docs/FORMATS.md, "Snapshot bytes").
 use Rattle.std.specs.Prelude.{ℕ, ◌*◌, ◌==◌, if◌then◌else◌, Bool, List}
 use Rattle.snap_fields.specs.Reading.{Reader, ◌then◌, readers_joined, led_by, reader_made, none_at}
-use Rattle.snap_fields.specs.Reading.{pure_at}
-use Rattle.snap_fields.specs.Reading.{n1_at, n4_at, flag1_at, flag4_at, many_at, list_at}
+use Rattle.snap_fields.specs.Reading.{pure_at, n1_at, n4_at, flag1_at, flag4_at, many_at, list_at}
 use Rattle.snap_fields.specs.Reading.{bytes_at}
 use Rattle.snap_fields.specs.declared.glk.SnapArea.{SnapArea}
 use Rattle.snap_fields.specs.declared.glk.SnapContent.{SnapContent}

@@ -1,9 +1,8 @@
 -- The items, read from the left (own: docs/FORMATS.md, "Snapshot bytes").
 use Rattle.std.specs.Prelude.{ℕ, ◌==◌, if◌then◌else◌, List}
 use Rattle.vm_heap.specs.declared.block.Block.{Block}
-use Rattle.snap_fields.specs.Reading.{Reader, ◌then◌, led_by, reader_made, none_at, pure_at}
-use Rattle.snap_fields.specs.Reading.{n1_at, n4_at, n8_at, list_at}
-use Rattle.snap_fields.specs.Reading.{bytes_at}
+use Rattle.snap_fields.specs.Reading.{Reader, ◌then◌, led_by, reader_made, none_at, pure_at, n1_at}
+use Rattle.snap_fields.specs.Reading.{n4_at, n8_at, list_at, bytes_at}
 use Rattle.snap_fields.specs.declared.fields.SnapMachine.{SnapMachine}
 use Rattle.snap_fields.specs.declared.fields.Numbers.{Numbers}
 use Rattle.snap_fields.specs.declared.fields.SnapRandom.{SnapRandom}

@@ -4,8 +4,7 @@ ghost use Rattle.std.specs.Prelude.{◌≡◌, OnOk};
 ghost use Rattle.snap_fields.specs.Counts.{CountsRequest, CountsTarget, HasCells};
 ghost use Rattle.snap_fields.specs.Printable.{IsArea, IsContent, IsGlkRequest, IsTarget};
 ghost use Rattle.snap_fields.specs.Printing.{target_kind, print_area, print_content};
-ghost use Rattle.snap_fields.specs.Printing.{print_glk_request};
-ghost use Rattle.snap_fields.specs.Printing.{print_target, type_of};
+ghost use Rattle.snap_fields.specs.Printing.{print_glk_request, print_target, type_of};
 ghost use Rattle.snap_fields.specs.Writing.{PutsBehind};
 
 use crate::glk::{SnapArea, SnapContent, SnapRequest, SnapTarget};

@@ -1,6 +1,5 @@
 -- A Glk state that is told and made again, and fields that are made and told again.
-use Rattle.std.proofs.Common.{◌≡◌, ◌∙◌, ℕ, true}
-use Rattle.std.proofs.Common.{refl, ap, Option, Some, None, option_map}
+use Rattle.std.proofs.Common.{◌≡◌, ◌∙◌, ℕ, true, refl, ap, Option, Some, None, option_map}
 use Rattle.std.specs.List.{AllByRecursion}
 use Rattle.glk_numbers.specs.Numbered.{ascends}
 use Rattle.glk_windows.specs.Tree as tree
@@ -20,8 +19,7 @@ use Rattle.snap_glk.specs.Made.{file_made, fileref_made, stream_made}
 use Rattle.snap_glk.specs.Told.{file_told, fileref_told, glk_fields, stream_told}
 use Rattle.snap_glk.proofs.ListLemmas.{IsFound, all-found, all-weaker, map-back}
 use Rattle.snap_glk.proofs.StreamLemmas.{IsTold, Owns, stream-again, streams-back, window-found}
-use Rattle.snap_glk.proofs.WindowLemmas.{inputs-back, windows-again, windows-back}
-use Rattle.snap_glk.proofs.WindowLemmas.{windows-begun}
+use Rattle.snap_glk.proofs.WindowLemmas.{inputs-back, windows-again, windows-back, windows-begun}
 
 -- ---- which window a stream is told to have
 

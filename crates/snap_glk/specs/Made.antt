@@ -1,6 +1,5 @@
 -- The Glk state that a world's bytes tell (own: docs/FORMATS.md, "Snapshot bytes").
-use Rattle.std.specs.Prelude.{ℕ, ◌==◌, if◌then◌else◌, false, List, [], ◌∷◌, map}
-use Rattle.std.specs.Prelude.{Option, Some, None}
+use Rattle.std.specs.Prelude.{ℕ, ◌==◌, if◌then◌else◌, false, List, [], ◌∷◌, map, Option, Some, None}
 use Rattle.glk_windows.specs.Fields.{tree_with}
 use Rattle.glk_windows.specs.Tree.{WindowTree}
 use Rattle.glk_windows.specs.declared.window.Area as area

@@ -1,6 +1,5 @@
 -- Which fields the types of a Glk state take, and what making a part of it returns (own).
-use Rattle.std.specs.Prelude.{◌≡◌, ◌&&◌, nat_le, Bool, true, false, List, length}
-use Rattle.std.specs.Prelude.{Result, Ok, Err}
+use Rattle.std.specs.Prelude.{◌≡◌, ◌&&◌, nat_le, Bool, true, false, List, length, Result, Ok, Err}
 use Rattle.glk_input.specs.Valid.{are_few, are_valid_inputs}
 use Rattle.glk_input.specs.declared.request.WindowInput.{WindowInput}
 use Rattle.glk_streams.specs.declared.file.TheConstants.{MAX_FILE_BYTES}

@@ -1,7 +1,6 @@
 -- How writes change what stands in an image.
-use Rattle.std.proofs.Common.{◌≡◌, ◌⊎◌, inl, inr, ℕ, ◌+◌, ◌^◌, ◌<◌}
-use Rattle.std.proofs.Common.{◌≤◌, true, false, List, [], ◌∷◌, length}
-use Rattle.std.proofs.Common.{get_or, refl, ◌∙◌, ap, arith}
+use Rattle.std.proofs.Common.{◌≡◌, ◌⊎◌, inl, inr, ℕ, ◌+◌, ◌^◌, ◌<◌, ◌≤◌, true, false, List, [], ◌∷◌}
+use Rattle.std.proofs.Common.{length, get_or, refl, ◌∙◌, ap, arith}
 use Rattle.std.specs.Prelude.{Option, Some, None}
 use Rattle.disk_model.specs.Disk.{Torn, file_written}
 use Rattle.disk_model.proofs.Torn.{torn_written, written_within}

@@ -1,8 +1,7 @@
 -- Which area is the newest.
 use Rattle.std.proofs.Common.{◌≡◌, ◌⊎◌, inl, inr, ◌≤◌, ◌∙◌, sym, ap, arith}
 use Rattle.std.proofs.Common.{ℕ, Bool, true, false, List, ◌++◌, refl}
-use Rattle.std.specs.Prelude.{nat_lt, ◌&&◌, if◌then◌else◌, filter, Option, Some, None}
-use Rattle.std.specs.Prelude.{nat_le, ◌==◌}
+use Rattle.std.specs.Prelude.{nat_lt, ◌&&◌, if◌then◌else◌, filter, Option, Some, None, nat_le, ◌==◌}
 use Rattle.std.proofs.lemmas.Bool.Decides.{nat_tests}
 use Rattle.snap_store.specs.declared.side.Side.{Side}
 use Rattle.snap_store.specs.declared.side.Side.TheVariants.{A, B}

@@ -19,8 +19,7 @@ use Rattle.snap_store.specs.Store.{Snapshots, area_held, store_area, IsPutImage,
 use Rattle.snap_store.proofs.LaidLemmas.{laid_area_torn}
 use Rattle.snap_store.proofs.StoreLemmas.{openable_is, shut_closed, stands_openable}
 use Rattle.snap_store.proofs.SlotLemmas.{newest_is_beside}
-use Rattle.snap_store.proofs.StoreLemmas.{open_at, laid_turned, laid_seen}
-use Rattle.snap_store.proofs.StoreLemmas.{held_is, is_opened}
+use Rattle.snap_store.proofs.StoreLemmas.{open_at, laid_turned, laid_seen, held_is, is_opened}
 
 -- what is known of each side, once something is known of one
 pub slot_set :

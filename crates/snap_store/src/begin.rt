@@ -1,7 +1,6 @@
 //! A new snapshot file (own).
 
-ghost use Rattle.std.specs.Prelude.{◌≡◌, ◌≤◌, ◌++◌, IsTrue, IsOk, OnOk, IfErr};
-ghost use Rattle.std.specs.Prelude.{length, max, drop};
+ghost use Rattle.std.specs.Prelude.{◌≡◌, ◌≤◌, ◌++◌, IsTrue, IsOk, OnOk, IfErr, length, max, drop};
 ghost use Rattle.disk_model.specs.Disk.{Only, file_written, LeavesOnly, AfterWrite, SameDisk};
 ghost use Rattle.disk_model.specs.Work.{MakesCalls};
 ghost use Rattle.snap_store.specs.File.{snapshot_header, empty_snapshot_file};

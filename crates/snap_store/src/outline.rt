@@ -1,7 +1,6 @@
 //! What stands in a file: its header, its gates, and how its areas begin (own).
 
-ghost use Rattle.std.specs.Prelude.{◌≡◌, ◌<◌, ◌≤◌, ◌^◌, ◌&&◌, IsTrue};
-ghost use Rattle.std.specs.Prelude.{IsOk, IfOk, OnOk, List, ℕ};
+ghost use Rattle.std.specs.Prelude.{◌≡◌, ◌<◌, ◌≤◌, ◌^◌, ◌&&◌, IsTrue, IsOk, IfOk, OnOk, List, ℕ};
 ghost use Rattle.std.specs.Prelude.{length, false, option_map, IfSome};
 ghost use Rattle.disk_model.specs.Work.{MakesCalls};
 ghost use Rattle.disk_model.specs.Disk.{CountsErrors, ReadsFile, Only, OnlyLooks};

@@ -1,9 +1,8 @@
 //! One session's snapshot file (own).
 
-ghost use Rattle.std.specs.Prelude.{◌≡◌, ◌⊎◌, ◌+◌, ◌<◌, ◌≤◌, ℕ, Bool, IsTrue};
-ghost use Rattle.std.specs.Prelude.{IsOk, IfOk, IfErr, OnOk};
-ghost use Rattle.std.specs.Prelude.{OnErr, MatchResult, Ok, Some, None, IfSome, length, max, true};
-ghost use Rattle.std.specs.Prelude.{false};
+ghost use Rattle.std.specs.Prelude.{◌≡◌, ◌⊎◌, ◌+◌, ◌<◌, ◌≤◌, ℕ, Bool, IsTrue, IsOk, IfOk, IfErr};
+ghost use Rattle.std.specs.Prelude.{OnOk, OnErr, MatchResult, Ok, Some, None, IfSome, length, max};
+ghost use Rattle.std.specs.Prelude.{true, false};
 ghost use Rattle.disk_model.specs.Disk.{Only, LeavesOnly, EachImage, SameDisk, OnlyLooks};
 ghost use Rattle.disk_model.specs.Work.{FailedCall, GoodCalls, MakesCalls};
 ghost use Rattle.snap_store.specs.Frames.{IsFaultOfDisk, HasNewestCause};

@@ -1,6 +1,5 @@
 -- A list of events, one by one.
-use Rattle.std.proofs.Common.{List, [], drop, get_or, length, refl}
-use Rattle.std.proofs.Common.{sym, ℕ, ◌+◌, ◌<◌, ◌∷◌, ◌≡◌, ◌≤◌}
+use Rattle.std.proofs.Common.{List, [], drop, get_or, length, refl, sym, ℕ, ◌+◌, ◌<◌, ◌∷◌, ◌≡◌, ◌≤◌}
 use Rattle.std.proofs.lemmas.List.{at_drop_all, drop_more}
 use Rattle.store_events.specs.Events.{file_after, run_store}
 use Rattle.store_events.specs.Steady.{IsSteady}

@@ -1,6 +1,5 @@
 -- What device calls do to the images.
-use Rattle.std.proofs.Common.{Bool, List, false, length, refl, subst, sym, true, ℕ, ◌+◌, ◌^◌}
-use Rattle.std.proofs.Common.{◌≡◌}
+use Rattle.std.proofs.Common.{Bool, List, false, length, refl, subst, sym, true, ℕ, ◌+◌, ◌^◌, ◌≡◌}
 use Rattle.std.specs.Prelude.{if◌then◌else◌, nat_le}
 use Rattle.disk_model.proofs.PlainLaws.{image_is}
 use Rattle.disk_model.proofs.StateLaws.{if_fits, image_torn, only_settled, settled_image, wrote}

@@ -31,8 +31,7 @@ use Rattle.store_events.specs.declared.state.FileStep.{FileStep}
 use Rattle.store_events.specs.declared.state.FileStep.TheVariants.{Idle, Put, Opening}
 use Rattle.store_events.specs.declared.state.StoreState.{StoreState}
 use Rattle.store_events.specs.Disk.{disk_after}
-use Rattle.store_events.specs.Events.{file_after, store_called, store_comes_up}
-use Rattle.store_events.specs.Events.{next_store_call}
+use Rattle.store_events.specs.Events.{file_after, store_called, store_comes_up, next_store_call}
 use Rattle.store_events.specs.Events.{put_call, put_onward}
 use Rattle.store_events.specs.Steady.{HasStep, IsPutting, IsSteady, seen_of, store_of, always_tells}
 use Rattle.store_events.specs.Areas.{EachArea}

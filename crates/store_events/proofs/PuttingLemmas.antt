@@ -16,12 +16,10 @@ use Rattle.snap_store.specs.declared.outline.TheConstants.{MAX_SNAPSHOT}
 use Rattle.snap_store.specs.File.{Stored, gate_byte, gate_of, has_header, head_bytes, side_start}
 use Rattle.snap_store.specs.File.{whole_area}
 use Rattle.snap_store.specs.Images.{IsLaid, StandsOnSide, loosened}
-use Rattle.snap_store.specs.Slots.{opposite_side, slot_in}
-use Rattle.snap_store.specs.Slots.{slot_of, with_slot}
+use Rattle.snap_store.specs.Slots.{opposite_side, slot_in, slot_of, with_slot}
 use Rattle.snap_store.specs.Store.{IsSoundStore}
 use Rattle.snap_store.proofs.AreaWritten.{length-head, whole_there}
-use Rattle.snap_store.proofs.LaidLemmas.{laid_area_torn, laid_closed, laid_gate_torn}
-use Rattle.snap_store.proofs.LaidLemmas.{laid_opened}
+use Rattle.snap_store.proofs.LaidLemmas.{laid_area_torn, laid_closed, laid_gate_torn, laid_opened}
 use Rattle.snap_store.proofs.PutLemmas.{slot_kept, slot_set}
 use Rattle.snap_store.proofs.StoreLemmas.{laid_seen, laid_turned, sound_read}
 use Rattle.store_events.specs.declared.disk.DiskCall.TheVariants.{Write}
@@ -31,12 +29,10 @@ use Rattle.store_events.specs.declared.state.PutStage.TheVariants.{BytesWrite, A
 use Rattle.store_events.specs.declared.state.PutStage.TheVariants.{OpenSync}
 use Rattle.store_events.specs.declared.state.StoreState.{StoreState}
 use Rattle.store_events.specs.Disk.{disk_after}
-use Rattle.store_events.specs.Events.{has_room}
-use Rattle.store_events.specs.Events.{comes_to, knows, put_call, put_onward, slots_in}
+use Rattle.store_events.specs.Events.{has_room, comes_to, knows, put_call, put_onward, slots_in}
 use Rattle.store_events.specs.Steady.{HasStage, IsPutting, IsSettled}
 use Rattle.store_events.specs.Steady.{IsSteady, seen_of, always_tells}
-use Rattle.store_events.proofs.ImageLemmas.{stays_after, sync_leaves}
-use Rattle.store_events.proofs.ImageLemmas.{write_leaves}
+use Rattle.store_events.proofs.ImageLemmas.{stays_after, sync_leaves, write_leaves}
 
 abbrev pub Sound : DiskState → Bool → Slots → Type 0
 Sound p made slots =

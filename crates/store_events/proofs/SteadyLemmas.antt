@@ -1,6 +1,5 @@
 -- What the slots say holds in each image, through every event.
-use Rattle.std.proofs.Common.{◌≡◌, ◌∙◌, ℕ, Bool, true, false, List}
-use Rattle.std.proofs.Common.{refl, sym, subst}
+use Rattle.std.proofs.Common.{◌≡◌, ◌∙◌, ℕ, Bool, true, false, List, refl, sym, subst}
 use Rattle.std.specs.Prelude.{◌&&◌, if◌then◌else◌}
 use Rattle.std.proofs.lemmas.Bool.{and_parts}
 use Rattle.disk_model.specs.DiskState.{IsDiskImage, settled}
@@ -8,11 +7,9 @@ use Rattle.disk_model.proofs.StateLaws.{only_settled, settled_image}
 use Rattle.snap_store.specs.declared.side.Side.{Side}
 use Rattle.snap_store.specs.declared.slot.Slot.{Slot}
 use Rattle.snap_store.specs.declared.slot.Slot.TheVariants.{Closed, Open, Unsure}
-use Rattle.snap_store.specs.File.{Stored}
-use Rattle.snap_store.specs.File.{whole_area}
+use Rattle.snap_store.specs.File.{Stored, whole_area}
 use Rattle.snap_store.specs.Images.{StandsOnSide, loosened}
-use Rattle.snap_store.specs.Slots.{is_closed, opposite_side}
-use Rattle.snap_store.specs.Slots.{slot_of, taken_side, with_slot}
+use Rattle.snap_store.specs.Slots.{is_closed, opposite_side, slot_of, taken_side, with_slot}
 use Rattle.snap_store.proofs.LaidLemmas.{laid_loosened}
 use Rattle.snap_store.proofs.PutLemmas.{slot_kept, slot_set}
 use Rattle.snap_store.proofs.SlotLemmas.{spares_taken}
@@ -28,8 +25,7 @@ use Rattle.store_events.specs.declared.state.StoreState.{StoreState}
 use Rattle.store_events.specs.Events.{file_after, store_called, store_down_over, has_room}
 use Rattle.store_events.specs.Events.{next_store_call, begins_opening}
 use Rattle.store_events.specs.Events.{put_begins, put_call, store_stopped}
-use Rattle.store_events.specs.Steady.{HasStage, HasStep, IsSettled}
-use Rattle.store_events.specs.Steady.{IsSteady}
+use Rattle.store_events.specs.Steady.{HasStage, HasStep, IsSettled, IsSteady}
 use Rattle.store_events.proofs.ImageLemmas.{sync_leaves}
 use Rattle.store_events.proofs.EventLemmas.{bad_call, bad_reading, good_call, good_reading, keeps}
 use Rattle.store_events.proofs.EventLemmas.{reopens, stops}

@@ -9,8 +9,7 @@ use Rattle.session_saves.specs.Agreement.{IsAgreedFile, opens_of}
 use Rattle.store_events.specs.declared.state.StoreState.{StoreState}
 use Rattle.store_events.specs.Events.{store_down_over}
 use Rattle.store_events.specs.Session.{Begins, EachMayCome, FileHappening, IsInAgreement}
-use Rattle.store_events.specs.Session.{SessionState}
-use Rattle.store_events.specs.Session.{Takes, lived}
+use Rattle.store_events.specs.Session.{SessionState, Takes, lived}
 
 -- the session of this number, with this file
 abbrev pub session_in_rows : List Row → ℕ → StoreState → SessionState

@@ -2,8 +2,7 @@
 
 ghost use Rattle.std.specs.Prelude.{List};
 ghost use Rattle.story_run.specs.declared.story.Story.{Story};
-ghost use Rattle.store_events.specs.Laws.{StaysInAgreement, StaysOpen, StaysSteady};
-ghost use Rattle.store_events.specs.Laws.{WarmsInSixteen};
+ghost use Rattle.store_events.specs.Laws.{StaysInAgreement, StaysOpen, StaysSteady, WarmsInSixteen};
 ghost use Rattle.store_events.specs.Rows.{BeginsByRows, RowsAreTold};
 
 /// Whatever happens, what is known of the gates holds in each image that a stop may leave.

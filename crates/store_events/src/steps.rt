@@ -2,10 +2,8 @@
 
 ghost use Rattle.std.specs.Prelude.{◌≡◌, IfOk, OnOk, OnErr, None, [], ◌∷◌};
 ghost use Rattle.store_events.specs.Events.{file_after, store_comes_up, store_down_over};
-ghost use Rattle.store_events.specs.Events.{first_stage, next_store_call};
-ghost use Rattle.store_events.specs.Events.{is_opening, is_putting, store_onward, begins_opening};
-ghost use Rattle.store_events.specs.Events.{put_call};
-ghost use Rattle.store_events.specs.Events.{put_onward};
+ghost use Rattle.store_events.specs.Events.{first_stage, next_store_call, is_opening, is_putting};
+ghost use Rattle.store_events.specs.Events.{store_onward, begins_opening, put_call, put_onward};
 ghost use Rattle.disk_model.specs.Plain.{is_image};
 ghost use Rattle.session_saves.specs.Saves.{due_in};
 ghost use Rattle.store_events.specs.Steady.{IsSteady};

@@ -1,7 +1,6 @@
 -- What each script is, whatever its words (own).
-use Rattle.std.specs.Prelude.{◌≡◌, ℕ, ◌+◌, ◌-◌, ◌^◌, ◌<◌, ◌≤◌}
-use Rattle.std.specs.Prelude.{◌⊎◌, List, []}
-use Rattle.std.specs.Prelude.{◌∷◌, length, map, slice_index, codes, Some}
+use Rattle.std.specs.Prelude.{◌≡◌, ℕ, ◌+◌, ◌-◌, ◌^◌, ◌<◌, ◌≤◌, ◌⊎◌, List, [], ◌∷◌, length, map}
+use Rattle.std.specs.Prelude.{slice_index, codes, Some}
 use Rattle.std.specs.List.{All}
 use Rattle.rand_pcg.specs.Lcg.{advance}
 use Rattle.rand_pcg.specs.Pcg.{multiplier_64, output_xsh_rr}

@@ -22,8 +22,7 @@ use Rattle.vm_exec.specs.declared.machine.Machine.{Machine}
 use Rattle.vm_memory.specs.Chaining.{◌>>=◌}
 use Rattle.vm_memory.specs.declared.fault.Trap.{Trap}
 use Rattle.vm_memory.specs.declared.fault.Trap.TheVariants.{Fault, NoMemory}
-use Rattle.story_run.specs.Saves.{LeavesGlkAndMachine, brought_back, rest_of_stream}
-use Rattle.story_run.specs.Saves.{rest_restored}
+use Rattle.story_run.specs.Saves.{LeavesGlkAndMachine, brought_back, rest_of_stream, rest_restored}
 
 taken-byte : (b : ℕ) → b < 256 → code_taken false b ≡ b
 taken-byte b l = grind (arith, common_steps, l)

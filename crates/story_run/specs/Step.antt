@@ -1,6 +1,5 @@
 -- One step of a story: the machine's, and then what it asks of Glk (own).
-use Rattle.std.specs.Prelude.{◌≡◌, ℕ, List, ◌-◌, nat_lt, if◌then◌else◌, Result}
-use Rattle.std.specs.Prelude.{Ok, Err}
+use Rattle.std.specs.Prelude.{◌≡◌, ℕ, List, ◌-◌, nat_lt, if◌then◌else◌, Result, Ok, Err}
 use Rattle.vm_exec.specs.Row.{row, step_within}
 use Rattle.vm_exec.specs.Start.{finished}
 use Rattle.vm_exec.specs.declared.machine.Machine.{Machine}

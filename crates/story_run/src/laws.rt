@@ -1,8 +1,7 @@
 //! Laws of turns.
 
 ghost use Rattle.story_run.specs.Laws.{BudgetsOnlyEnd, FaultsAreNumbered, GlkStaysValid};
-ghost use Rattle.story_run.specs.Laws.{OverWantsNothing};
-ghost use Rattle.story_run.specs.Laws.{TurnsEnd, UnwantedLeaves};
+ghost use Rattle.story_run.specs.Laws.{OverWantsNothing, TurnsEnd, UnwantedLeaves};
 
 /// A turn ends within its budget: each of its steps takes a tick at least.
 pub fn turns_end()

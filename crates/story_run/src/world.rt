@@ -2,8 +2,7 @@
 
 ghost use Rattle.std.specs.Prelude.{◌≡◌, ◌+◌, true, IfOk};
 ghost use Rattle.story_run.specs.Solo.{is_over, is_wanted, opening, rested, glk_settled};
-ghost use Rattle.story_run.specs.Solo.{last_lines};
-ghost use Rattle.story_run.specs.Solo.{world_after_input};
+ghost use Rattle.story_run.specs.Solo.{last_lines, world_after_input};
 ghost use Rattle.story_run.specs.World.{ComesTo, IsStageOf, IsValidWorld, world_of_held};
 
 use crate::ends::lines_of;

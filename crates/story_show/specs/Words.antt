@@ -1,7 +1,6 @@
 -- Words of a show's lines (own: docs/FORMATS.md, "Shows").
-use Rattle.std.specs.Prelude.{◌≡◌, Result, IfOk, ℕ, ◌||◌, ◌&&◌, nat_lt, nat_le}
-use Rattle.std.specs.Prelude.{Bool, if◌then◌else◌, List, [], ◌∷◌, ◌++◌, decimal}
-use Rattle.std.specs.Prelude.{map}
+use Rattle.std.specs.Prelude.{◌≡◌, Result, IfOk, ℕ, ◌||◌, ◌&&◌, nat_lt, nat_le, Bool, if◌then◌else◌}
+use Rattle.std.specs.Prelude.{List, [], ◌∷◌, ◌++◌, decimal, map}
 use Rattle.std.specs.declared.alloc.AllocError.{AllocError}
 use Rattle.story_text.specs.Escape.{escaped}
 

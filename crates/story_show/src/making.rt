@@ -1,7 +1,6 @@
 //! What of the windows is shown (own: docs/FORMATS.md, "Shows").
 
-ghost use Rattle.std.specs.Prelude.{◌≡◌, ◌≤◌, ◌<◌, ◌+◌, ◌^◌, ◌++◌};
-ghost use Rattle.std.specs.Prelude.{IfOk, drop, length, map, take};
+ghost use Rattle.std.specs.Prelude.{◌≡◌, ◌≤◌, ◌<◌, ◌+◌, ◌^◌, ◌++◌, IfOk, drop, length, map, take};
 ghost use Rattle.std.specs.List.{flat_map};
 ghost use Rattle.story_show.specs.Making as making;
 

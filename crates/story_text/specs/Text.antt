@@ -1,6 +1,5 @@
 -- Texts that a line may hold (own).
-use Rattle.std.specs.Prelude.{◌≡◌, ℕ, Bool, true, not, ◌&&◌, nat_le, List, []}
-use Rattle.std.specs.Prelude.{◌∷◌, length}
+use Rattle.std.specs.Prelude.{◌≡◌, ℕ, Bool, true, not, ◌&&◌, nat_le, List, [], ◌∷◌, length}
 use Rattle.std.specs.Str.{all_scalars}
 
 -- a character that a text in a line may have: no control character

@@ -1,8 +1,7 @@
 -- Lists of entries, of numbers and of views.
-use Rattle.std.proofs.Common.{◌≡◌, ◌⊎◌, ℕ, zero, suc, ◌+◌, ◌<◌, ◌≤◌, List, []}
-use Rattle.std.proofs.Common.{◌∷◌, ◌++◌, length, get_or, set, sym, refl, ap}
-use Rattle.std.proofs.Common.{◌≢◌, ◌^◌, ◌%◌, length-set, get_or-set_other, get_or-set_same}
-use Rattle.std.proofs.Common.{mod-eq_of_lt}
+use Rattle.std.proofs.Common.{◌≡◌, ◌⊎◌, ℕ, zero, suc, ◌+◌, ◌<◌, ◌≤◌, List, [], ◌∷◌, ◌++◌, length}
+use Rattle.std.proofs.Common.{get_or, set, sym, refl, ap, ◌≢◌, ◌^◌, ◌%◌, length-set}
+use Rattle.std.proofs.Common.{get_or-set_other, get_or-set_same, mod-eq_of_lt}
 use Rattle.std.proofs.lemmas.List.{append_cancel_left}
 use Rattle.std.proofs.Common.{◌∙◌, subst, inl, inr, arith, append_assoc, append-nil}
 use mathlib.Core.Option.{some, some-injective, some-ne-none}

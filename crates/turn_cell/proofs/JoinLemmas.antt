@@ -19,9 +19,8 @@ use Rattle.atomic_table.proofs.Lists.{at_set, set_here, set_else}
 use Rattle.turn_cell.specs.History.{Each}
 use Rattle.turn_cell.specs.Views.{HasTicket, ticket_count, spent}
 use Rattle.turn_cell.specs.Rule.{Knows, Legal}
-use Rattle.turn_cell.proofs.HistoryLemmas.{continues_map, longer_first}
-use Rattle.turn_cell.proofs.HistoryLemmas.{longer_second, longer_whole, among_first}
-use Rattle.turn_cell.proofs.HistoryLemmas.{tickets_out_set, at_low, one_item}
+use Rattle.turn_cell.proofs.HistoryLemmas.{continues_map, longer_first, longer_second, longer_whole}
+use Rattle.turn_cell.proofs.HistoryLemmas.{among_first, tickets_out_set, at_low, one_item}
 use Rattle.std.proofs.lemmas.List.{get_or_append_left}
 use Rattle.turn_cell.proofs.StepLemmas.{is_root, place_stays}
 

@@ -9,8 +9,7 @@ use Rattle.atomic_table.proofs.Lists.{at_set, set_here, at_longer}
 use Rattle.turn_cell.specs.declared.view.View.{View}
 use Rattle.turn_cell.specs.declared.view.Stage.TheVariants.{Idle}
 use Rattle.turn_cell.specs.History.{Continues, IsAmong, IsForeign}
-use Rattle.turn_cell.specs.Views.{HasTicket, with_one_more}
-use Rattle.turn_cell.specs.Views.{split_off, starting}
+use Rattle.turn_cell.specs.Views.{HasTicket, with_one_more, split_off, starting}
 use Rattle.turn_cell.specs.Rule.{Knows, Legal}
 use Rattle.turn_cell.proofs.HistoryLemmas.{continues_all, continues_map}
 use Rattle.turn_cell.proofs.HistoryLemmas.{tickets_out_set, tickets_out_append, at_low}

@@ -1,9 +1,8 @@
 -- Rule of a cell's table, which holds between any two atomic steps (own).
 -- Word 0 counts the tickets drawn, word 1 those served, word 2 the entries of the history.
 -- Slot 0 has the value, except in a turn. Seat 0 is the root's.
-use Rattle.std.specs.Prelude.{◌≡◌, ◌⊎◌, ℕ, ◌+◌, ◌^◌, ◌<◌, ◌≤◌, List}
-use Rattle.std.specs.Prelude.{length, slice_index}
-use Rattle.std.specs.Prelude.{Option, Some}
+use Rattle.std.specs.Prelude.{◌≡◌, ◌⊎◌, ℕ, ◌+◌, ◌^◌, ◌<◌, ◌≤◌, List, length, slice_index, Option}
+use Rattle.std.specs.Prelude.{Some}
 use mathlib.Core.Option.{some}
 use mathlib.Core.Option as maybe
 use lib.ListN.{get_elem?}

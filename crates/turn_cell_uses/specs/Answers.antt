@@ -1,6 +1,5 @@
 -- What a link was told: an answer with a mark for each text (own).
-use Rattle.std.specs.Prelude.{◌≡◌, ℕ, List, [], ◌∷◌, ◌++◌, length, Bool, true}
-use Rattle.std.specs.Prelude.{false}
+use Rattle.std.specs.Prelude.{◌≡◌, ℕ, List, [], ◌∷◌, ◌++◌, length, Bool, true, false}
 use Rattle.turn_cell.specs.History.{Continues, IsForeign}
 use Rattle.turn_cell_uses.specs.declared.log.Note.{Note}
 use Rattle.turn_cell_uses.specs.declared.answer.Answer.{Answer}

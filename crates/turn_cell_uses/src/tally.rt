@@ -1,6 +1,5 @@
 //! Events that own memory, in a type with a model.
-ghost use Rattle.std.specs.Prelude.{◌≡◌, ◌≤◌, ◌++◌, ◌∷◌, [], ℕ, List};
-ghost use Rattle.std.specs.Prelude.{length, MatchBool};
+ghost use Rattle.std.specs.Prelude.{◌≡◌, ◌≤◌, ◌++◌, ◌∷◌, [], ℕ, List, length, MatchBool};
 ghost use Rattle.turn_cell_uses.specs.Events.{event_by};
 ghost use Rattle.turn_cell_uses.specs.declared.tally.Event.{Event};
 

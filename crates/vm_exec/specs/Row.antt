@@ -1,7 +1,6 @@
 -- One step of the machine: its row of the table (Glulx 3.1.3, "Dictionary of Opcodes").
-use Rattle.std.specs.Prelude.{ℕ, ◌+◌, ◌≤◌, nat_lt, if◌then◌else◌, length, List, replicate}
-use Rattle.std.specs.Prelude.{take, slice_index, slice_index_or, Option, Some, None, Result, Ok}
-use Rattle.std.specs.Prelude.{Err}
+use Rattle.std.specs.Prelude.{ℕ, ◌+◌, ◌≤◌, nat_lt, if◌then◌else◌, length, List, replicate, take}
+use Rattle.std.specs.Prelude.{slice_index, slice_index_or, Option, Some, None, Result, Ok, Err}
 use Rattle.vm_operand.specs.Fault as operand
 use Rattle.vm_operand.specs.Instruction.{instruction_at}
 use Rattle.vm_operand.specs.Opcode.{op_of}

@@ -1,7 +1,6 @@
 //! The size of memory, and the heap.
 
-ghost use Rattle.std.specs.Prelude.{◌≡◌, ◌≤◌, ◌<◌, ◌/◌, max, length, IsTrue};
-ghost use Rattle.std.specs.Prelude.{IfOk, OnOk, Ok};
+ghost use Rattle.std.specs.Prelude.{◌≡◌, ◌≤◌, ◌<◌, ◌/◌, max, length, IsTrue, IfOk, OnOk, Ok};
 ghost use Rattle.vm_exec.specs.Answer.{Changes, Does};
 ghost use Rattle.vm_exec.specs.Machine.{IsFit, IsMapped, WaitsForNoSave, StaysFit};
 ghost use Rattle.vm_exec.specs.Rows.Heap as rows;

@@ -1,7 +1,6 @@
 //! The machine, and how it starts and goes on.
 
-ghost use Rattle.std.specs.Prelude.{◌≡◌, ◌<◌, ℕ, List, [], length, IfOk, OnOk};
-ghost use Rattle.std.specs.Prelude.{Ok};
+ghost use Rattle.std.specs.Prelude.{◌≡◌, ◌<◌, ℕ, List, [], length, IfOk, OnOk, Ok};
 ghost use Rattle.vm_exec.specs.Answer.{Changes, Does, MakesValue};
 ghost use Rattle.vm_exec.specs.Fault.{flowed};
 ghost use Rattle.vm_exec.specs.Row.{IsPriced, charged, due, fetched, row, step_within};

@@ -1,7 +1,6 @@
 //! Numbers in progress, character by character.
 
-ghost use Rattle.std.specs.Prelude.{◌≡◌, ◌≤◌, ◌<◌, ◌+◌, ◌^◌, length};
-ghost use Rattle.std.specs.Prelude.{slice_index, IfOk};
+ghost use Rattle.std.specs.Prelude.{◌≡◌, ◌≤◌, ◌<◌, ◌+◌, ◌^◌, length, slice_index, IfOk};
 ghost use Rattle.std.specs.Fmt.{decimal};
 ghost use Rattle.vm_exec.specs.Machine.{IsFit, IsSoundMachine, StaysFit};
 ghost use Rattle.vm_exec.specs.Number.{number_text};

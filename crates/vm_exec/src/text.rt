@@ -1,7 +1,6 @@
 //! Strings in progress, piece by piece.
 
-ghost use Rattle.std.specs.Prelude.{◌≡◌, ◌≤◌, ◌<◌, ◌+◌, List, ℕ, []};
-ghost use Rattle.std.specs.Prelude.{◌∷◌, ◌++◌, IfErr, IfOk, OnOk};
+ghost use Rattle.std.specs.Prelude.{◌≡◌, ◌≤◌, ◌<◌, ◌+◌, List, ℕ, [], ◌∷◌, ◌++◌, IfErr, IfOk, OnOk};
 ghost use Rattle.vm_exec.specs.Answer.{Changes, MakesList};
 ghost use Rattle.vm_exec.specs.Machine.{IsFit, StaysFit};
 ghost use Rattle.vm_exec.specs.Rows.Text as rows;

@@ -4,8 +4,7 @@ use Rattle.std.proofs.Common.{◌||◌, cond, List, [], ◌∷◌, ◌++◌, len
 use Rattle.std.proofs.Common.{refl, length-drop, arith, Result, Ok, Err, IsOk, ap, sym, ◌∙◌}
 use Rattle.std.proofs.Common.{append_assoc, subst}
 use Rattle.std.proofs.lemmas.Bool.{and_parts, or_cases, eqb-true}
-use Rattle.std.proofs.lemmas.List.{take_more, take-append-drop, drop-append-le}
-use Rattle.std.proofs.lemmas.List.{length-take-le}
+use Rattle.std.proofs.lemmas.List.{take_more, take-append-drop, drop-append-le, length-take-le}
 use Rattle.vm_stack.proofs.FormatLemmas.{two}
 use Rattle.vm_memory.specs.declared.fault.MemFault.TheVariants.{BadRead}
 use Rattle.vm_stack.specs.Saved.{is_type}

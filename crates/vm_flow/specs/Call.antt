@@ -1,15 +1,13 @@
 -- Calls (Glulx 3.1.3, "Calling and Returning Within Glulx").
-use Rattle.std.specs.Prelude.{ℕ, ◌≡◌, ◌+◌, ◌-◌, ◌*◌, ◌==◌, ◌||◌}
-use Rattle.std.specs.Prelude.{if◌then◌else◌, List, [], ◌∷◌, ◌++◌, reverse}
-use Rattle.std.specs.Prelude.{length, take, drop, replicate, flat_map, Result, Ok, Err}
+use Rattle.std.specs.Prelude.{ℕ, ◌≡◌, ◌+◌, ◌-◌, ◌*◌, ◌==◌, ◌||◌, if◌then◌else◌, List, [], ◌∷◌, ◌++◌}
+use Rattle.std.specs.Prelude.{reverse, length, take, drop, replicate, flat_map, Result, Ok, Err}
 use Rattle.byteorder.specs.Endian.{big_bytes}
 use Rattle.vm_memory.specs.MemoryMap.{MemoryMap}
 use Rattle.vm_memory.specs.Access.{read}
 use Rattle.vm_stack.specs.StackState.{StackState, words}
 use Rattle.vm_stack.specs.Values.{pushed}
 use Rattle.vm_stack.specs.Locals.{local_set}
-use Rattle.vm_stack.specs.Frame.{aligned, entered, frame_head, fresh_frame, padding_len}
-use Rattle.vm_stack.specs.Frame.{locals_len}
+use Rattle.vm_stack.specs.Frame.{aligned, entered, frame_head, fresh_frame, padding_len, locals_len}
 use Rattle.vm_flow.specs.Answer.{from_stack, from_memory, and_then}
 use Rattle.vm_flow.specs.Function.{format_in, IsFunction}
 use Rattle.vm_flow.specs.declared.stop.FlowStop.{FlowStop}

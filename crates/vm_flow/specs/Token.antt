@@ -1,6 +1,5 @@
 -- Good tokens (Glulx 3.1.3, "Continuations").
-use Rattle.std.specs.Prelude.{ℕ, ◌≡◌, ◌⊎◌, ◌≤◌, ◌+◌, ◌-◌, ◌%◌, List}
-use Rattle.std.specs.Prelude.{[], ◌∷◌, ◌++◌, length, take}
+use Rattle.std.specs.Prelude.{ℕ, ◌≡◌, ◌⊎◌, ◌≤◌, ◌+◌, ◌-◌, ◌%◌, List, [], ◌∷◌, ◌++◌, length, take}
 use Rattle.vm_stack.specs.StackState.{StackState, number}
 use Rattle.vm_stack.specs.Frame.{frame_head}
 use Rattle.vm_stack.specs.Chain.{Frame, bytes_of_frames}

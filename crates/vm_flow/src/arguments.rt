@@ -1,6 +1,5 @@
 // Arguments, in the locals of a C1 and on the stack of a C0.
-ghost use Rattle.std.specs.Prelude.{◌≡◌, ◌≢◌, ◌≤◌, ◌<◌, ◌+◌, ◌*◌, length, take};
-ghost use Rattle.std.specs.Prelude.{drop, Err, OnOk};
+ghost use Rattle.std.specs.Prelude.{◌≡◌, ◌≢◌, ◌≤◌, ◌<◌, ◌+◌, ◌*◌, length, take, drop, Err, OnOk};
 ghost use Rattle.vm_flow.specs.Answer.{LeavesOrStops};
 ghost use Rattle.vm_flow.specs.Call as calls;
 ghost use Rattle.vm_flow.specs.declared.stop.FlowStop.TheVariants as stop;

@@ -1,8 +1,7 @@
 // The list of locals of a function: a part of the file, or a copy of memory's bytes.
 ghost use Rattle.vm_stack.specs.Saved.{is_type};
-ghost use Rattle.std.specs.Prelude.{◌≡◌, ◌≤◌, ◌<◌, ◌+◌, ◌==◌, ◌&&◌, ℕ, Ok};
-ghost use Rattle.std.specs.Prelude.{slice_index, length, drop, take};
-ghost use Rattle.std.specs.Prelude.{IfErr, IfNone, IfOk, IfSome, IsOk, OnErr, OnOk};
+ghost use Rattle.std.specs.Prelude.{◌≡◌, ◌≤◌, ◌<◌, ◌+◌, ◌==◌, ◌&&◌, ℕ, Ok, slice_index, length};
+ghost use Rattle.std.specs.Prelude.{drop, take, IfErr, IfNone, IfOk, IfSome, IsOk, OnErr, OnOk};
 ghost use Rattle.vm_memory.specs.declared.fault.MemFault.TheVariants.{BadRead};
 ghost use Rattle.vm_flow.specs.declared.stop.FlowStop.TheVariants as stop;
 ghost use Rattle.vm_flow.specs.Answer.{GivesBytes};

@@ -1,6 +1,5 @@
 -- The heap: its start and its blocks (Glulx 3.1.3, "Memory Allocation Heap").
-use Rattle.std.specs.Prelude.{ℕ, ◌+◌, ◌*◌, ◌/◌, Bool, ◌&&◌, ◌==◌, nat_lt}
-use Rattle.std.specs.Prelude.{nat_le, List, [], ◌∷◌}
+use Rattle.std.specs.Prelude.{ℕ, ◌+◌, ◌*◌, ◌/◌, Bool, ◌&&◌, ◌==◌, nat_lt, nat_le, List, [], ◌∷◌}
 use Rattle.vm_heap.specs.declared.block.Block.{Block}
 use Rattle.vm_heap.specs.declared.block.TheConstants.{MAX_SIZE}
 

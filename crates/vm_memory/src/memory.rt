@@ -1,7 +1,6 @@
 //! Memory: what it is made of, and its size.
 
-ghost use Rattle.std.specs.Prelude.{◌≡◌, ◌≤◌, ◌<◌, ◌+◌, length, nat_le, IfOk};
-ghost use Rattle.std.specs.Prelude.{IsOk, OnErr, OnOk};
+ghost use Rattle.std.specs.Prelude.{◌≡◌, ◌≤◌, ◌<◌, ◌+◌, length, nat_le, IfOk, IsOk, OnErr, OnOk};
 ghost use Rattle.vm_memory.specs.OwnPages.{own_pages};
 ghost use Rattle.vm_memory.specs.MemoryMap.{KeepsRom, memory_of, original, reset, resized};
 

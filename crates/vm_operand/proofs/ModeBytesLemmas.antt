@@ -11,9 +11,7 @@ use Rattle.vm_operand.specs.Opcode.{first_with}
 use Rattle.vm_operand.specs.Mode.{allowed, allows, mode_number, mode_of, modes}
 use Rattle.vm_operand.specs.Reading.{instruction_read}
 use Rattle.vm_operand.specs.Instruction.{modes_at}
-use Rattle.vm_operand.specs.Spelling.{Operand, operand_kind, mode_in, IsOperand}
-use Rattle.vm_operand.specs.Spelling.{mode_bytes}
-use Rattle.vm_operand.specs.Spelling.{Stand}
+use Rattle.vm_operand.specs.Spelling.{Operand, operand_kind, mode_in, IsOperand, mode_bytes, Stand}
 use Rattle.vm_operand.specs.declared.operand.Kind.{Kind}
 use Rattle.vm_operand.specs.declared.fault.OpFault.{OpFault}
 use Rattle.vm_operand.specs.declared.fault.OpFault.TheVariants.{BadMode}
@@ -25,8 +23,7 @@ use Rattle.vm_operand.proofs.InstructionLemmas.{after, last_mode, two_modes}
 use Rattle.vm_operand.proofs.OpcodeLemmas.{first_with-number}
 use Rattle.vm_operand.proofs.OpcodeBytesLemmas.{Bytes, bound, byte_read, byte_stands, ok_is}
 use Rattle.vm_operand.proofs.OpcodeBytesLemmas.{was_read}
-use Rattle.vm_operand.proofs.StandLemmas.{stand_both, stand_first}
-use Rattle.vm_operand.proofs.StandLemmas.{stand_then}
+use Rattle.vm_operand.proofs.StandLemmas.{stand_both, stand_first, stand_then}
 
 mode_found : (a : Mode) → first_with mode_number modes (mode_number a) ≡ Some a
 unfolding modes

@@ -1,8 +1,7 @@
 -- The bytes of operands, and what is read there.
-use Rattle.std.proofs.Common.{arith, ◌≡◌, ◌∙◌, refl, sym, ap, subst, ℕ, suc, ◌+◌, ◌-◌}
-use Rattle.std.proofs.Common.{◌^◌, ◌<◌, ◌≤◌, true, List, [], ◌∷◌, ◌++◌}
-use Rattle.std.proofs.Common.{length, map, replicate, set, Result, Ok}
-use Rattle.std.proofs.Common.{append_assoc, append-nil, length-append}
+use Rattle.std.proofs.Common.{arith, ◌≡◌, ◌∙◌, refl, sym, ap, subst, ℕ, suc, ◌+◌, ◌-◌, ◌^◌, ◌<◌}
+use Rattle.std.proofs.Common.{◌≤◌, true, List, [], ◌∷◌, ◌++◌, length, map, replicate, set, Result}
+use Rattle.std.proofs.Common.{Ok, append_assoc, append-nil, length-append}
 use Rattle.std.proofs.lemmas.List.Elements.{All-head, All-tail, All-cons, All-nil}
 use Rattle.std.proofs.Math.Seq.{set-append_seam}
 use Rattle.std.specs.List.{All}
@@ -14,8 +13,7 @@ use Rattle.vm_memory.specs.Access.{read}
 use Rattle.vm_operand.specs.Opcode.{loads_in, stores_in}
 use Rattle.vm_operand.specs.Mode.{allows, size}
 use Rattle.vm_operand.specs.Reading.{instruction_read}
-use Rattle.vm_operand.specs.Instruction.{dest_at, load_at, operand, operands, with_load}
-use Rattle.vm_operand.specs.Instruction.{with_store}
+use Rattle.vm_operand.specs.Instruction.{dest_at, load_at, operand, operands, with_load, with_store}
 use Rattle.vm_operand.specs.Spelling.{Operand, operand_kind, mode_in, number_in}
 use Rattle.vm_operand.specs.Spelling.{mode_size, IsOperand, operand_bytes, load_of}
 use Rattle.vm_operand.specs.Spelling.{dest_of, loads_of, stores_of, instr, Stand}
@@ -34,8 +32,7 @@ use Rattle.vm_operand.specs.declared.mode.Mode.TheVariants.{Ram}
 use Rattle.vm_operand.specs.declared.mode.Width.{Width}
 use Rattle.vm_operand.specs.declared.mode.Width.TheVariants.{One, Two, Four}
 use Rattle.vm_operand.proofs.InstructionLemmas.{first_operand}
-use Rattle.vm_operand.proofs.OpcodeBytesLemmas.{Bytes, bound, ok_is}
-use Rattle.vm_operand.proofs.OpcodeBytesLemmas.{was_read}
+use Rattle.vm_operand.proofs.OpcodeBytesLemmas.{Bytes, bound, ok_is, was_read}
 use Rattle.vm_operand.proofs.StandLemmas.{Number, read_stands, stand_both, stand_first, stand_read}
 use Rattle.vm_operand.proofs.StandLemmas.{stand_then}
 use Rattle.vm_operand.proofs.ModeBytesLemmas.{Allowed}

@@ -1,7 +1,6 @@
 //! The binary search.
 
-ghost use Rattle.std.specs.Prelude.{◌≡◌, ◌≤◌, ◌<◌, ◌+◌, ◌-◌, ◌*◌};
-ghost use Rattle.std.specs.Prelude.{◌^◌, ◌==◌, true, Ok, IfOk};
+ghost use Rattle.std.specs.Prelude.{◌≡◌, ◌≤◌, ◌<◌, ◌+◌, ◌-◌, ◌*◌, ◌^◌, ◌==◌, true, Ok, IfOk};
 ghost use Rattle.vm_search.specs.Key.{is_search, compared};
 ghost use Rattle.vm_search.specs.Linear.{structure_at};
 ghost use Rattle.vm_search.specs.Ending.{search_of};

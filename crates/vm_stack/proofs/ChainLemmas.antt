@@ -8,8 +8,7 @@ use Rattle.std.proofs.lemmas.Bool.{cases_lt}
 use Rattle.std.proofs.Math.Seq.{take-append-add, drop-append-add, take-append_seam}
 use Rattle.byteorder.specs.Endian.{big_bytes}
 use Rattle.byteorder.specs.Numbers.{length-bytes_high_first}
-use Rattle.vm_stack.specs.StackState.{StackState, number}
-use Rattle.vm_stack.specs.StackState.{frame_len, value_bytes}
+use Rattle.vm_stack.specs.StackState.{StackState, number, frame_len, value_bytes}
 use Rattle.vm_stack.specs.Values.{without_top, rotated}
 use Rattle.vm_stack.specs.Frame.{frame_head, fresh_frame, padding_len, locals_pos_of}
 use Rattle.vm_stack.specs.Frame.{locals_len, frame_len_of, frame_left, in_named_frame}
@@ -17,8 +16,7 @@ use Rattle.vm_stack.specs.Chain.{Frame, IsFormat, IsChain, IsBelow, Chain}
 use Rattle.vm_stack.specs.Chain.{HasFrame, IsReady, bytes_of_frames, start}
 use Rattle.vm_stack.specs.Saved.{LinkedFrames}
 use Rattle.vm_stack.proofs.NumberLemmas.{number_behind, number_taken, number_within, number_first}
-use Rattle.vm_stack.proofs.FrameLemmas.{top, before, length_before}
-use Rattle.vm_stack.proofs.FrameLemmas.{held_in, seam}
+use Rattle.vm_stack.proofs.FrameLemmas.{top, before, length_before, held_in, seam}
 
 -- the chain of a stack with other bytes, by an equation of the bytes
 moved : (s : StackState) (xs ys : List ℕ)

@@ -4,15 +4,12 @@ use Rattle.std.proofs.Common.{◌<◌, Bool, true, false, ◌==◌, ◌||◌, Li
 use Rattle.std.proofs.Common.{length, take, drop, slice_index, refl, arith, sym, ap}
 use Rattle.std.proofs.Common.{◌∙◌, subst, append_assoc, length-append, length-drop}
 use Rattle.std.proofs.lemmas.Bool.{or_cases, eqb-true}
-use Rattle.std.proofs.lemmas.List.{take_all, length-take-le, take-append-drop}
-use Rattle.std.proofs.lemmas.List.{take-take}
+use Rattle.std.proofs.lemmas.List.{take_all, length-take-le, take-append-drop, take-take}
 use Rattle.std.proofs.Math.Seq.{take-append_seam, drop-append_seam, take-add}
 use Rattle.vm_stack.specs.StackState.{StackState}
 use Rattle.vm_stack.specs.Locals.{IsWidth}
-use Rattle.vm_stack.specs.Frame.{frame_head, padding_len, locals_pos_of}
-use Rattle.vm_stack.specs.Frame.{locals_len, frame_len_of}
-use Rattle.vm_stack.specs.Chain.{IsFormat, Chain}
-use Rattle.vm_stack.specs.Chain.{HasFrame, IsReady}
+use Rattle.vm_stack.specs.Frame.{frame_head, padding_len, locals_pos_of, locals_len, frame_len_of}
+use Rattle.vm_stack.specs.Chain.{IsFormat, Chain, HasFrame, IsReady}
 use Rattle.vm_stack.specs.Saved.{SavedStack, OneFrame, format_from, is_type}
 use Rattle.vm_stack.proofs.FrameLemmas.{aligned_up, before, length_before}
 use Rattle.vm_stack.proofs.ChainLemmas.{ready_in}

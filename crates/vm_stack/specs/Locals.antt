@@ -1,6 +1,5 @@
 -- Locals (Glulx 3.1.3, "The Call Frame").
-use Rattle.std.specs.Prelude.{ℕ, ◌≡◌, ◌⊎◌, ◌+◌, ◌-◌, nat_le}
-use Rattle.std.specs.Prelude.{if◌then◌else◌, Result, Ok, Err}
+use Rattle.std.specs.Prelude.{ℕ, ◌≡◌, ◌⊎◌, ◌+◌, ◌-◌, nat_le, if◌then◌else◌, Result, Ok, Err}
 use Rattle.byteorder.specs.Endian.{big_bytes}
 use Rattle.vm_stack.specs.StackState.{StackState, number, replaced_within, frame_len, locals_pos}
 use Rattle.vm_stack.specs.declared.fault.StackFault.{StackFault}

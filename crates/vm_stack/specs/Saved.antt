@@ -1,7 +1,6 @@
 -- Saved stacks (Glulx 3.1.3, "Contents of the Stack").
-use Rattle.std.specs.Prelude.{ℕ, ◌≡◌, ◌≤◌, ◌<◌, ◌+◌, ◌==◌, ◌||◌, Bool}
-use Rattle.std.specs.Prelude.{if◌then◌else◌}
-use Rattle.std.specs.Prelude.{List, [], ◌∷◌, ◌++◌, length}
+use Rattle.std.specs.Prelude.{ℕ, ◌≡◌, ◌≤◌, ◌<◌, ◌+◌, ◌==◌, ◌||◌, Bool, if◌then◌else◌, List, [], ◌∷◌}
+use Rattle.std.specs.Prelude.{◌++◌, length}
 use Rattle.vm_stack.specs.Frame.{frame_head}
 use Rattle.vm_stack.specs.Chain.{Frame, IsFrame, IsBelow, IsChain, bytes_of_frames}
 

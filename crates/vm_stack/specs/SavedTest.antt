@@ -1,6 +1,5 @@
 -- Saved stacks, as a test of their bytes (Glulx 3.1.3, "Contents of the Stack").
-use Rattle.std.specs.Prelude.{ℕ, zero, suc, ◌+◌, ◌-◌, ◌%◌, ◌==◌, ◌&&◌}
-use Rattle.std.specs.Prelude.{◌||◌, nat_le, nat_lt, Bool}
+use Rattle.std.specs.Prelude.{ℕ, zero, suc, ◌+◌, ◌-◌, ◌%◌, ◌==◌, ◌&&◌, ◌||◌, nat_le, nat_lt, Bool}
 use Rattle.std.specs.Prelude.{List, length, take, drop}
 use Rattle.std.specs.Str.{bytes_eq}
 use Rattle.vm_stack.specs.StackState.{number}

@@ -1,6 +1,5 @@
 -- Tokens of catch and throw (Glulx 3.1.3, "Continuations").
-use Rattle.std.specs.Prelude.{ℕ, ◌+◌, ◌-◌, ◌%◌, ◌==◌, ◌&&◌, nat_le, Bool}
-use Rattle.std.specs.Prelude.{length}
+use Rattle.std.specs.Prelude.{ℕ, ◌+◌, ◌-◌, ◌%◌, ◌==◌, ◌&&◌, nat_le, Bool, length}
 use Rattle.vm_stack.specs.StackState.{StackState, number, frame_len}
 
 -- a stub for the current frame ends at this place, among the frame's values

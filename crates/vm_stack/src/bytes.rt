@@ -1,6 +1,5 @@
 // Numbers in bytes, and the changes of a buffer of which the first bytes stand.
-ghost use Rattle.std.specs.Prelude.{◌≡◌, ◌≤◌, ◌+◌, ◌-◌, ◌++◌, length, take};
-ghost use Rattle.std.specs.Prelude.{drop, replicate};
+ghost use Rattle.std.specs.Prelude.{◌≡◌, ◌≤◌, ◌+◌, ◌-◌, ◌++◌, length, take, drop, replicate};
 ghost use Rattle.vm_stack.specs.StackState as state;
 ghost use Rattle.vm_stack.specs.Values as values;
 ghost use Rattle.vm_stack.specs.Locals.{IsWidth};

@@ -1,7 +1,6 @@
 //! Frames of functions whose locals all have four bytes, in one piece.
-ghost use Rattle.std.specs.Prelude.{◌≡◌, ◌≤◌, ◌<◌, ◌+◌, ◌*◌, ◌++◌, length};
-ghost use Rattle.std.specs.Prelude.{get_or, slice_index, true, false};
-ghost use Rattle.std.specs.Prelude.{IfNone, IfSome};
+ghost use Rattle.std.specs.Prelude.{◌≡◌, ◌≤◌, ◌<◌, ◌+◌, ◌*◌, ◌++◌, length, get_or, slice_index};
+ghost use Rattle.std.specs.Prelude.{true, false, IfNone, IfSome};
 ghost use Rattle.vm_stack.specs.StackState.{words};
 ghost use Rattle.vm_stack.specs.Frame as frames;
 ghost use Rattle.vm_stack.specs.Chain.{Chain, HasFrame, IsReady};

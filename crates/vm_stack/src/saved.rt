@@ -1,7 +1,6 @@
 // A stack as bytes of its own: copied, loaded, and told from other bytes.
-ghost use Rattle.std.specs.Prelude.{◌≡◌, ◌≤◌, ◌<◌, ◌+◌, ◌-◌, ◌%◌};
-ghost use Rattle.std.specs.Prelude.{◌++◌, length, take, drop, true, Some, None};
-ghost use Rattle.std.specs.Prelude.{IfOk, OnErr, OnOk};
+ghost use Rattle.std.specs.Prelude.{◌≡◌, ◌≤◌, ◌<◌, ◌+◌, ◌-◌, ◌%◌, ◌++◌, length, take, drop, true};
+ghost use Rattle.std.specs.Prelude.{Some, None, IfOk, OnErr, OnOk};
 ghost use Rattle.byteorder.specs.Endian.{big_bytes};
 ghost use Rattle.vm_stack.specs.Answer.{LeavesStack};
 ghost use Rattle.vm_stack.specs.StackState as state;

@@ -1,7 +1,6 @@
 // The stack's bytes in one reserved buffer, and the few ways in which they change.
-ghost use Rattle.std.specs.Prelude.{◌≡◌, ◌≤◌, ◌+◌, ◌-◌, [], length, take, drop};
-ghost use Rattle.std.specs.Prelude.{IfOk};
-ghost use Rattle.std.specs.Prelude.{replicate, nat_le, true, ◌++◌};
+ghost use Rattle.std.specs.Prelude.{◌≡◌, ◌≤◌, ◌+◌, ◌-◌, [], length, take, drop, IfOk, replicate};
+ghost use Rattle.std.specs.Prelude.{nat_le, true, ◌++◌};
 ghost use Rattle.vm_stack.specs.StackState as state;
 ghost use Rattle.vm_stack.specs.Values as values;
 ghost use Rattle.vm_stack.specs.Head.{IsHead};

@@ -1,6 +1,5 @@
 -- The nodes of the string-decoding table (Glulx 3.1.3, "The String-Decoding Table").
-use Rattle.std.specs.Prelude.{ℕ, ◌≤◌, ◌+◌, ◌==◌, if◌then◌else◌, Result, Ok}
-use Rattle.std.specs.Prelude.{Err}
+use Rattle.std.specs.Prelude.{ℕ, ◌≤◌, ◌+◌, ◌==◌, if◌then◌else◌, Result, Ok, Err}
 use Rattle.vm_memory.specs.Chaining.{◌>>=◌}
 use Rattle.vm_memory.specs.Access.{read}
 use Rattle.vm_memory.specs.MemoryMap.{MemoryMap}

@@ -1,8 +1,7 @@
 -- Memory and its contents, both ways.
-use Rattle.std.proofs.Common.{◌≡◌, ℕ, ◌+◌, ◌-◌, ◌<◌, ◌≤◌, ◌^◌}
-use Rattle.std.proofs.Common.{true, nat_le, List, [], ◌∷◌, ◌++◌}
-use Rattle.std.proofs.Common.{length, take, drop, get_or, replicate, refl, ap, sym}
-use Rattle.std.proofs.Common.{◌∙◌, arith, subst, inl, inr, Some}
+use Rattle.std.proofs.Common.{◌≡◌, ℕ, ◌+◌, ◌-◌, ◌<◌, ◌≤◌, ◌^◌, true, nat_le, List, [], ◌∷◌, ◌++◌}
+use Rattle.std.proofs.Common.{length, take, drop, get_or, replicate, refl, ap, sym, ◌∙◌, arith}
+use Rattle.std.proofs.Common.{subst, inl, inr, Some}
 use Rattle.std.specs.Prelude.{IsTrue}
 use Rattle.std.specs.Int.{w32, to_be_bytes}
 use Rattle.std.proofs.lemmas.Bool.Decides.{nat_tests}
@@ -13,9 +12,8 @@ use Rattle.std.proofs.lemmas.Bool.{cases_lt}
 use Rattle.vm_memory.specs.MemoryMap.{MemoryMap, Origin, KeepsRom, number_at, original, origin_of}
 use Rattle.vm_memory.specs.MemoryMap.{ram_of}
 use Rattle.vm_undo.specs.Contents.{first_ram, contents, memory_with, is_size, has_size}
-use Rattle.vm_undo.specs.Contents.{memory_of_contents, IsOrigin}
-use Rattle.vm_undo.specs.Contents.{IsContents, is_contents, GivesMemoryBack, GivesContentsBack}
-use Rattle.vm_undo.specs.Contents.{AreBytes, TellsContents}
+use Rattle.vm_undo.specs.Contents.{memory_of_contents, IsOrigin, IsContents, is_contents}
+use Rattle.vm_undo.specs.Contents.{GivesMemoryBack, GivesContentsBack, AreBytes, TellsContents}
 use Rattle.vm_undo.specs.Runs.{differences, runs_coded}
 use Rattle.vm_undo.specs.RunsTest.{are_runs}
 use Rattle.vm_undo.specs.SavedState.{IsSize}

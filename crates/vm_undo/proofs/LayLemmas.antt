@@ -3,15 +3,13 @@ use Rattle.std.proofs.Common.{◌≡◌, ◌≢◌, ℕ, ◌+◌, ◌-◌, ◌<�
 use Rattle.std.proofs.Common.{List, [], ◌∷◌, ◌++◌, length, take, drop, get_or, set, slice_index}
 use Rattle.std.proofs.Common.{replicate, refl, ap, sym, ◌∙◌, arith, subst, append_assoc}
 use Rattle.std.specs.Int.RustNames.{bit_xor}
-use Rattle.std.proofs.lemmas.List.{length-drop, get_or-drop, take_all}
-use Rattle.std.proofs.lemmas.List.{replicate-append-replicate}
+use Rattle.std.proofs.lemmas.List.{length-drop, get_or-drop, take_all, replicate-append-replicate}
 use Rattle.vm_memory.specs.Access.{with_bytes}
 use Rattle.vm_memory.specs.MemoryMap.{MemoryMap, KeepsMap, Origin, original, original_byte, origin_of}
 use Rattle.vm_memory.specs.MemoryMap.{KeepsRom, ram_of, replaced, resized, memory_of, number_at}
 use Rattle.vm_memory.proofs.ChangeLemmas.{original_at}
 use Rattle.vm_memory.proofs.PutLemmas.{length_replaced, byte_after}
-use Rattle.vm_undo.specs.Contents.{IsMemoryOf, first_ram, is_size, memory_of_contents}
-use Rattle.vm_undo.specs.Contents.{memory_over}
+use Rattle.vm_undo.specs.Contents.{IsMemoryOf, first_ram, is_size, memory_of_contents, memory_over}
 use Rattle.vm_undo.specs.Contents.{memory_with}
 use Rattle.vm_undo.specs.SavedState.{IsSize}
 use Rattle.std.proofs.lemmas.Bool.Decides.{nat_tests}

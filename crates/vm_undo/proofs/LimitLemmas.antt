@@ -1,7 +1,6 @@
 -- The limits of a list.
-use Rattle.std.proofs.Common.{◌≡◌, ℕ, suc, ◌-◌, ◌<◌, ◌≤◌, true, false}
-use Rattle.std.proofs.Common.{List, [], ◌∷◌, ◌++◌, length, take, refl, ap, ◌∙◌, arith}
-use Rattle.std.proofs.Common.{Some, inl, inr}
+use Rattle.std.proofs.Common.{◌≡◌, ℕ, suc, ◌-◌, ◌<◌, ◌≤◌, true, false, List, [], ◌∷◌, ◌++◌, length}
+use Rattle.std.proofs.Common.{take, refl, ap, ◌∙◌, arith, Some, inl, inr}
 use Rattle.std.specs.Prelude.{slice_get, All}
 use Rattle.std.specs.List.{sum_by, remove}
 use Rattle.std.proofs.lemmas.Bool.{cases_Bool}

@@ -1,7 +1,6 @@
 -- What holds of the list of states after a save, and without the newest; and what is kept of it.
-use Rattle.std.proofs.Common.{◌≡◌, ◌≤◌, ℕ, ◌-◌, true, false, cond}
-use Rattle.std.proofs.Common.{List, [], ◌∷◌, ◌++◌, length, Some, nat_lt, refl, ap, sym, ◌∙◌, arith}
-use Rattle.std.proofs.Common.{subst}
+use Rattle.std.proofs.Common.{◌≡◌, ◌≤◌, ℕ, ◌-◌, true, false, cond, List, [], ◌∷◌, ◌++◌, length}
+use Rattle.std.proofs.Common.{Some, nat_lt, refl, ap, sym, ◌∙◌, arith, subst}
 use Rattle.std.specs.Prelude.{All, IsTrue, map}
 use Rattle.std.specs.List.{list_all, sum_by}
 use Rattle.std.proofs.lemmas.Bool.Decides.{nat_tests}
@@ -13,9 +12,8 @@ use Rattle.vm_heap.specs.HeapMap.{is_heap}
 use Rattle.vm_memory.specs.MemoryMap.{Origin}
 use Rattle.vm_undo.specs.Contents.{contents, is_contents}
 use Rattle.vm_undo.specs.UndoList.{GivesListBack, IsKept, IsOfImage, KeepLimits, UndoList}
-use Rattle.vm_undo.specs.UndoList.{are_within}
-use Rattle.vm_undo.specs.UndoList.{before_newest, is_kept, kept_of, kept_weight, newest, saved}
-use Rattle.vm_undo.specs.UndoList.{state_of, undo_of, weight, within_limits}
+use Rattle.vm_undo.specs.UndoList.{are_within, before_newest, is_kept, kept_of, kept_weight, newest}
+use Rattle.vm_undo.specs.UndoList.{saved, state_of, undo_of, weight, within_limits}
 use Rattle.vm_undo.specs.declared.kept.KeptState.{KeptState}
 use Rattle.vm_undo.specs.declared.saved.Saved.{Saved}
 use Rattle.vm_undo.specs.declared.undo.TheConstants.{MAX_STATES, MAX_WEIGHT}

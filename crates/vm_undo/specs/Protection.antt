@@ -1,6 +1,5 @@
 -- The protected range of memory (Glulx 3.1.3, "Game State").
-use Rattle.std.specs.Prelude.{ℕ, ◌+◌, ◌-◌, nat_lt, max, min, if◌then◌else◌}
-use Rattle.std.specs.Prelude.{length, take, drop}
+use Rattle.std.specs.Prelude.{ℕ, ◌+◌, ◌-◌, nat_lt, max, min, if◌then◌else◌, length, take, drop}
 use Rattle.vm_memory.specs.MemoryMap.{MemoryMap, replaced}
 
 -- the first address of the range of n bytes that lies in RAM of both memories

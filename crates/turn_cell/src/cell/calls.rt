@@ -1,11 +1,9 @@
 //! What the holders of passes do with a cell.
-ghost use Rattle.std.specs.Prelude.{◌≡◌, ◌≢◌, ◌⊎◌, ◌+◌, ◌^◌, ◌<◌, ◌≤◌};
-ghost use Rattle.std.specs.Prelude.{◌++◌, IfOk, IfErr, Some};
+ghost use Rattle.std.specs.Prelude.{◌≡◌, ◌≢◌, ◌⊎◌, ◌+◌, ◌^◌, ◌<◌, ◌≤◌, ◌++◌, IfOk, IfErr, Some};
 ghost use Rattle.turn_cell.specs.History.{AreApart, Continues, IsForeign};
 ghost use Rattle.turn_cell.specs.Views.{MayLeave};
 ghost use Rattle.turn_cell.specs.Passes.{view, pass_number, made, seen, pass_numbers, sample};
-ghost use Rattle.turn_cell.specs.Passes.{tag_of};
-ghost use Rattle.turn_cell.specs.Passes.{HoldsAll, IsOf, IsOutside, IsInTurn, IsAlone};
+ghost use Rattle.turn_cell.specs.Passes.{tag_of, HoldsAll, IsOf, IsOutside, IsInTurn, IsAlone};
 ghost use Rattle.turn_cell.specs.Passes.{KeepsNumbers, IsRoot, IsSplitFrom};
 
 use super::Cell;

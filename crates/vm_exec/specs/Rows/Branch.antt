@@ -2,8 +2,7 @@
 use Rattle.std.specs.Prelude.{ℕ}
 use Rattle.vm_operand.specs.Branch.{holds}
 use Rattle.vm_operand.specs.declared.opcode.Branch.{Branch}
-use Rattle.vm_operand.specs.declared.opcode.Branch.TheVariants.{Jump, Jz, Jnz}
-use Rattle.vm_operand.specs.declared.opcode.Branch.TheVariants.{Jumpabs}
+use Rattle.vm_operand.specs.declared.opcode.Branch.TheVariants.{Jump, Jz, Jnz, Jumpabs}
 use Rattle.vm_operand.specs.declared.operand.Dest as d
 use Rattle.vm_exec.specs.Rows.Work.{Work, Free}
 use Rattle.vm_exec.specs.Rules.{goes, branches, when}

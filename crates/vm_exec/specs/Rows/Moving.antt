@@ -1,6 +1,5 @@
 -- Moving data (Glulx 3.1.3, "Moving Data").
-use Rattle.std.specs.Prelude.{ℕ, ◌+◌, ◌-◌, ◌%◌, ◌^◌, ◌/◌, nat_lt}
-use Rattle.std.specs.Prelude.{if◌then◌else◌}
+use Rattle.std.specs.Prelude.{ℕ, ◌+◌, ◌-◌, ◌%◌, ◌^◌, ◌/◌, nat_lt, if◌then◌else◌}
 use Rattle.vm_memory.specs.Chaining.{◌>>=◌}
 use Rattle.vm_operand.specs.declared.opcode.Move.{Move}
 use Rattle.vm_operand.specs.declared.opcode.Move.TheVariants.{Copy, Copys, Copyb, Sexs, Sexb}

@@ -1,6 +1,5 @@
 -- Searches of structures in memory (Glulx 3.1.3, "Searching").
-use Rattle.std.specs.Prelude.{ℕ, ◌^◌, if◌then◌else◌, Option, Some, None, Result, Ok}
-use Rattle.std.specs.Prelude.{Err}
+use Rattle.std.specs.Prelude.{ℕ, ◌^◌, if◌then◌else◌, Option, Some, None, Result, Ok, Err}
 use Rattle.vm_memory.specs.Chaining.{◌>>=◌}
 use Rattle.vm_memory.specs.Fault.{coded}
 use Rattle.vm_search.specs.Binary.{binary_ends}

@@ -1,6 +1,5 @@
 -- Memory, gestalt, Glk and the rest (Glulx 3.1.3, "Memory Map" and "Miscellaneous").
-use Rattle.std.specs.Prelude.{ℕ, ◌/◌, ◌==◌, ◌||◌, nat_le, if◌then◌else◌, length}
-use Rattle.std.specs.Prelude.{Err}
+use Rattle.std.specs.Prelude.{ℕ, ◌/◌, ◌==◌, ◌||◌, nat_le, if◌then◌else◌, length, Err}
 use Rattle.vm_operand.specs.declared.opcode.System.{System}
 use Rattle.vm_operand.specs.declared.opcode.System.TheVariants.{Nop, Gestalt, Debugtrap, Getmemsize}
 use Rattle.vm_operand.specs.declared.opcode.System.TheVariants.{Setmemsize, Random, Setrandom, Glk}

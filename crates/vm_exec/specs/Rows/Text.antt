@@ -1,7 +1,6 @@
 -- Texts in progress: strings and numbers, piece by piece (Glulx 3.1.3, "Output", "Strings").
-use Rattle.std.specs.Prelude.{ℕ, zero, suc, ◌+◌, ◌==◌, ◌||◌, Bool, true, false}
-use Rattle.std.specs.Prelude.{if◌then◌else◌, List, [], ◌∷◌, slice_index, Result, Ok}
-use Rattle.std.specs.Prelude.{Err}
+use Rattle.std.specs.Prelude.{ℕ, zero, suc, ◌+◌, ◌==◌, ◌||◌, Bool, true, false, if◌then◌else◌, List}
+use Rattle.std.specs.Prelude.{[], ◌∷◌, slice_index, Result, Ok, Err}
 use Rattle.vm_memory.specs.Chaining.{◌>>=◌}
 use Rattle.vm_memory.specs.Access.{read}
 use Rattle.vm_memory.specs.Fault as memory

@@ -1,6 +1,5 @@
 use Rattle.std.proofs.Common.{◌≡◌, ℕ, ◌+◌, ◌-◌, ◌<◌, List, [], ◌∷◌, ◌++◌, length, get_or, take}
-use Rattle.std.proofs.Common.{drop}
-use Rattle.std.proofs.Common.{map, sym, ◌∙◌, ap, arith, append_assoc}
+use Rattle.std.proofs.Common.{drop, map, sym, ◌∙◌, ap, arith, append_assoc}
 use Rattle.std.specs.Prelude.{slice_set}
 use Rattle.std.proofs.lemmas.List.{take_more, drop_more, set_at, get_or-append_right, length-take}
 use Rattle.std.proofs.lemmas.List.{length-map, map-append}

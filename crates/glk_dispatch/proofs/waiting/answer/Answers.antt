@@ -1,6 +1,5 @@
 use Rattle.glk_dispatch.specs.Answer.{glk_call}
-use Rattle.glk_dispatch.proofs.CalledLemmas.{event_does, event_keeps, event_readies}
-use Rattle.glk_dispatch.proofs.CalledLemmas.{prompt_readies}
+use Rattle.glk_dispatch.proofs.CalledLemmas.{event_does, event_keeps, event_readies, prompt_readies}
 use Rattle.glk_dispatch.proofs.waiting.answer.Goals as goal
 
 pub returns-in-Line-clause-does : goal.returns-in-Line-clause-does

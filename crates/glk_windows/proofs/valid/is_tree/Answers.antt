@@ -1,5 +1,4 @@
-use Rattle.std.proofs.Common.{◌≡◌, ◌∙◌, false, length, sym}
-use Rattle.std.proofs.Common.{is_some}
+use Rattle.std.proofs.Common.{◌≡◌, ◌∙◌, false, length, sym, is_some}
 use Rattle.glk_windows.specs.OneTree.{shape_of}
 use Rattle.glk_windows.proofs.FieldLemmas.{spelled-none}
 use Rattle.glk_windows.proofs.valid.is_tree.Goals as goal

@@ -1,6 +1,5 @@
-use Rattle.std.proofs.Common.{arith, refl, sym, subst, ap, ◌∙◌, ◌≡◌, ◌-◌, ◌+◌, ◌++◌, suc}
-use Rattle.std.proofs.Common.{ℕ, List, Option, Some, map, string_bytes, length, take, slice_get}
-use Rattle.std.proofs.Common.{◌<◌}
+use Rattle.std.proofs.Common.{arith, refl, sym, subst, ap, ◌∙◌, ◌≡◌, ◌-◌, ◌+◌, ◌++◌, suc, ℕ, List}
+use Rattle.std.proofs.Common.{Option, Some, map, string_bytes, length, take, slice_get, ◌<◌}
 use Rattle.std.proofs.lemmas.List.{length-take-le}
 use Rattle.std.proofs.Math.Seq.{take-length}
 use Rattle.std.specs.Option.{option_to_list}

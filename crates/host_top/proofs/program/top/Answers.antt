@@ -3,14 +3,12 @@ use Rattle.std.specs.Option.{option_map}
 use Rattle.command_words.specs.Words.{command_asked, asked_by}
 use Rattle.host_top.proofs.CauseLemmas.{failed_six, failed_nine, coded_zero, coded_two, coded_four}
 use Rattle.host_top.proofs.CauseLemmas.{coded_five, coded_seven}
-use Rattle.host_top.proofs.CompleteLemmas.{completes, completes_unlisted}
-use Rattle.host_top.proofs.CompleteLemmas.{complete_no_memory}
+use Rattle.host_top.proofs.CompleteLemmas.{completes, completes_unlisted, complete_no_memory}
 use Rattle.host_top.proofs.LoadsLemmas.{loads_no_memory}
 use Rattle.line_talk.specs.Causes.{Rose}
 use Rattle.host_top.proofs.HasCauseLemmas.{cause_no_memory, has_cause}
 use Rattle.host_top.proofs.WritesLemmas.{writes_all, writes_no_memory}
-use Rattle.host_top.proofs.ToldLemmas.{tells, told_no_memory, done_no_memory}
-use Rattle.host_top.proofs.ToldLemmas.{whatever_is_asked}
+use Rattle.host_top.proofs.ToldLemmas.{tells, told_no_memory, done_no_memory, whatever_is_asked}
 use Rattle.host_top.specs.Speech.{writes_once}
 use Rattle.line_talk.proofs.StreamsLemmas.{wrote_none}
 use Rattle.line_talk.specs.Streams.{Wrote}

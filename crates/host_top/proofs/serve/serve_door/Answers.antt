@@ -1,5 +1,4 @@
-use Rattle.host_top.proofs.DoorLemmas.{workers_held, workers_kept, workers_no_root}
-use Rattle.host_top.proofs.DoorLemmas.{workers_serve}
+use Rattle.host_top.proofs.DoorLemmas.{workers_held, workers_kept, workers_no_root, workers_serve}
 use Rattle.host_top.proofs.serve.serve_door.Goals as goal
 
 pub returns-clause-served : goal.returns-clause-served

@@ -4,8 +4,7 @@ use Rattle.session_desk.specs.Shared.{desk_tag}
 use Rattle.host_serve.proofs.JoinLemmas.{no_root}
 use Rattle.host_serve.proofs.PassLemmas.{holders_many}
 use Rattle.host_top.specs.Rejoining.{AreAllHeld}
-use Rattle.host_top.proofs.CrewLemmas.{again_held, none_seen, split_from, split_held}
-use Rattle.host_top.proofs.CrewLemmas.{split_none}
+use Rattle.host_top.proofs.CrewLemmas.{again_held, none_seen, split_from, split_held, split_none}
 use Rattle.host_top.proofs.RejoinLemmas.{each_with}
 use Rattle.host_top.proofs.serve.split_among.Goals as goal
 

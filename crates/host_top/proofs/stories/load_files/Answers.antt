@@ -1,6 +1,5 @@
 use Rattle.std.proofs.Common.{◌≡◌, ◌+◌, ◌∙◌, ap, sym, subst, refl, arith, rules, inr, is_ok, map}
-use Rattle.std.proofs.Common.{List, ℕ, length}
-use Rattle.std.proofs.Common.{Global, Vec}
+use Rattle.std.proofs.Common.{List, ℕ, length, Global, Vec}
 use Rattle.std.proofs.lemmas.List.{length-map}
 use Rattle.host_top.specs.StoryFile.{story_in_file}
 use Rattle.host_top.proofs.CallsLemmas.{loads_there, no_failure, none_still}

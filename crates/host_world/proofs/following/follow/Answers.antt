@@ -5,9 +5,8 @@ use Rattle.host_world.specs.WholeHeadline.{SessionWarmsInSixteen}
 use Rattle.host_world.specs.declared.whole.HostState.{HostState}
 use Rattle.host_world.proofs.FollowLemmas.{each_lives, isolated, openings_find}
 use Rattle.host_world.proofs.Shows.{shows_alone}
-use Rattle.host_world.proofs.WholeLemmas.{files_agree, lives_as_host, none_lost_in_all}
-use Rattle.host_world.proofs.WholeLemmas.{own_end, own_next}
-use Rattle.host_world.proofs.WholeLemmas.{session_warms, whole_end, whole_next}
+use Rattle.host_world.proofs.WholeLemmas.{files_agree, lives_as_host, none_lost_in_all, own_end}
+use Rattle.host_world.proofs.WholeLemmas.{own_next, session_warms, whole_end, whole_next}
 use Rattle.host_world.proofs.following.follow.Goals as goal
 
 pub loop-event-preserved : goal.loop-event-preserved

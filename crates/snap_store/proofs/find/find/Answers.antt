@@ -1,5 +1,4 @@
-use Rattle.std.proofs.Common.{◌≡◌, ◌+◌, ◌∙◌, ap, arith}
-use Rattle.std.proofs.Common.{length, List, ℕ, true, take, drop}
+use Rattle.std.proofs.Common.{◌≡◌, ◌+◌, ◌∙◌, ap, arith, length, List, ℕ, true, take, drop}
 use Rattle.std.specs.Prelude.{Some, Option}
 use Rattle.snap_store.specs.declared.outline.Head.{Head}
 use Rattle.snap_store.specs.File.{Stored, area_on_side, count_at, length_at}

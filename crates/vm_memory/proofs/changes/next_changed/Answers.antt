@@ -1,5 +1,4 @@
-use Rattle.std.proofs.Common.{◌+◌, ◌*◌, ◌/◌, refl}
-use Rattle.std.proofs.Common.{arith}
+use Rattle.std.proofs.Common.{◌+◌, ◌*◌, ◌/◌, refl, arith}
 use Rattle.vm_memory.proofs.ChangeLemmas.{same_unheld, same_further, other_held}
 use Rattle.vm_memory.proofs.changes.next_changed.Goals as goal
 use Rattle.vm_memory.proofs.changes.next_changed.Goals.{then-start-end+else-place-end}

@@ -1,5 +1,4 @@
-use Rattle.std.proofs.Common.{◌≡◌, ◌+◌, ◌++◌, ◌∷◌, [], ◌∙◌, ℕ}
-use Rattle.std.proofs.Common.{refl, ap, arith, length, rules}
+use Rattle.std.proofs.Common.{◌≡◌, ◌+◌, ◌++◌, ◌∷◌, [], ◌∙◌, ℕ, refl, ap, arith, length, rules}
 use Rattle.gate_journal.specs.Rows.{row_body}
 use Rattle.disk_model.proofs.Moments.{holds_now}
 use Rattle.gate_journal.proofs.AppendLemmas.{faulted_rows, kept_rows, crash_repair}

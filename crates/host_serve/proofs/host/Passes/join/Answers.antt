@@ -1,7 +1,6 @@
 use Rattle.std.proofs.Common.{◌∙◌, arith}
 use Rattle.session_desk.specs.Shared.{desk_tag}
-use Rattle.host_serve.proofs.JoinLemmas.{joined_all, joins_none, joins_on, last_numbered}
-use Rattle.host_serve.proofs.JoinLemmas.{last_two}
+use Rattle.host_serve.proofs.JoinLemmas.{joined_all, joins_none, joins_on, last_numbered, last_two}
 use Rattle.host_serve.proofs.host.Passes.join.Goals as goal
 
 pub loop-pass-init : goal.loop-pass-init

@@ -8,8 +8,7 @@ use Rattle.disk_model.specs.declared.memory.MemDisk.{MemDisk}
 use Rattle.host_top.specs.Files.{AreBelow, Told, There, told_now}
 use Rattle.host_top.specs.MemoryOutside.{loan_in}
 use Rattle.host_top.specs.declared.memory_outside.Shelf.{Shelf}
-use Rattle.host_top.proofs.OutsideLemmas.{below_at, below_same, part_at, part_stays}
-use Rattle.host_top.proofs.OutsideLemmas.{told_part_at}
+use Rattle.host_top.proofs.OutsideLemmas.{below_at, below_same, part_at, part_stays, told_part_at}
 use Rattle.host_top.proofs.memory_outside.MemoryOutside.hold.Goals as goal
 
 pub invariant_of-self-in-Some : goal.invariant_of-self-in-Some

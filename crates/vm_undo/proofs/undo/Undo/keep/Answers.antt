@@ -3,8 +3,7 @@ use Rattle.vm_memory.specs.MemoryMap.{Origin}
 use Rattle.vm_undo.specs.KeptList.{kept_in}
 use Rattle.vm_undo.specs.UndoList.{IsKept, UndoList, saved, state_of}
 use Rattle.vm_undo.specs.declared.undo.TheConstants.{MAX_WEIGHT}
-use Rattle.vm_undo.proofs.UndoLemmas.{kept_keeps, kept_list, not_heavy, too_heavy}
-use Rattle.vm_undo.proofs.UndoLemmas.{weight_of_kept}
+use Rattle.vm_undo.proofs.UndoLemmas.{kept_keeps, kept_list, not_heavy, too_heavy, weight_of_kept}
 use Rattle.vm_undo.proofs.undo.Undo.keep.Goals as goal
 
 pub returns-then-weight-from-clause-value : goal.returns-then-weight-from-clause-value
