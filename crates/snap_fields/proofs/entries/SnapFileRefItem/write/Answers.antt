@@ -1,5 +1,5 @@
 use Rattle.snap_fields.proofs.PutLemmas.{◌followed◌}
-use Rattle.snap_fields.proofs.entries.FileRefItem.write.Goals as goal
+use Rattle.snap_fields.proofs.entries.SnapFileRefItem.write.Goals as goal
 
 pub returns : goal.returns
 returns c =
