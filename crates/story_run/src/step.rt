@@ -7,12 +7,14 @@ ghost use Rattle.glk_dispatch.specs.Call.{selector_called};
 ghost use Rattle.story_run.specs.Step.{Advances, after_glk_call, done, next_step, running};
 ghost use Rattle.story_run.specs.Turn.{Proceeds};
 ghost use Rattle.story_run.specs.World.{IsRunning, IsWaiting, StaysOver};
+ghost use Rattle.quetzal.specs.Save.{image_memory};
+ghost use Rattle.vm_memory.specs.MemoryMap.{origin_of};
 
 use crate::save::{restore, save};
 use glk_dispatch::{Called, Glk, call, put_code};
 use glulx_image::Image;
 use std::alloc::Global;
-use vm_exec::{Machine, Run, Step};
+use vm_exec::{Code, Machine, Run, Step};
 use vm_memory::Trap;
 
 /// The fault of a turn that takes more ticks than its budget has.
@@ -34,15 +36,18 @@ pub(crate) fn proceed<'i>(
     glk: &mut Glk,
     image: &Image<'i>,
     machine: &mut Machine<'i>,
+    code: &mut Code<'i>,
     left: u64,
 ) -> Result<Progress, Trap>
-    requires { IsRunning image.now machine.old }
+    requires runs { IsRunning image.now machine.old }
+    requires file { origin_of code.old ≡ origin_of (image_memory image.now) }
     ensures does { Proceeds image.now left (running glk.old machine.old) glk.new machine.new
         result }
     ensures kept { IfOk result (λ progress. StaysOver image.now machine.new progress) }
     ensures seed { OnOk result (machine.new.random.seed ≡ machine.old.random.seed) }
+    ensures code { code.new ≡ code.old }
 {
-    match machine.run_on(alloc, left)? {
+    match machine.run_on(alloc, code, left)? {
         Run::Did(ticks) => advance(alloc, glk, image, machine, left - ticks),
         Run::Quits => Ok(Progress::Quits),
     }

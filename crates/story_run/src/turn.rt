@@ -16,7 +16,7 @@ use glk_dispatch::{Glk, answer};
 use glulx_image::Image;
 use std::alloc::{AllocError, Global};
 use story_text::Input;
-use vm_exec::Machine;
+use vm_exec::{Code, Machine};
 use vm_memory::Trap;
 
 // Runs the story with this image until it waits or ends, for at most so many ticks.
@@ -34,8 +34,9 @@ fn run<'i>(
         → IfOk result (λ stage. IsStageOf image.now seed stage) }
 {
     let mut left = budget;
+    let mut code = Code::of(alloc, &machine.memory);
     loop {
-        match proceed(alloc, glk, image, &mut machine, left) {
+        match proceed(alloc, glk, image, &mut machine, &mut code, left) {
             Ok(Progress::Runs { left: rest }) => left = rest,
             Ok(Progress::Waits) => return Ok(at_select(machine)),
             Ok(Progress::Prompts) => return Ok(at_prompt(machine)),

@@ -4,6 +4,7 @@
 mod arguments;
 mod array;
 mod branch;
+mod code;
 mod fetch;
 mod fields;
 mod function;
@@ -30,6 +31,7 @@ mod trap;
 mod undo;
 mod values;
 
+pub use code::Code;
 pub use fields::{MachineFields, store_fields, store_of_fields};
 pub use machine::Machine;
 pub use quick::Run;

@@ -22,12 +22,13 @@ ghost use Rattle.vm_exec.specs.declared.fetch.Fetched.{Fetched};
 ghost use Rattle.vm_exec.specs.declared.machine.Machine.{Machine};
 
 use crate::Machine;
+use crate::code::{Code, Decoded};
 use crate::fetch::Fetched;
 use crate::step::{Done, Out};
 use crate::text::Text;
 use std::alloc::Global;
 use vm_memory::Trap;
-use vm_operand::{Array, Branch, Dest, Flow, Math, Move, Op, opcode_in};
+use vm_operand::{Array, Branch, Dest, Flow, Math, Move, Op};
 
 /// What a run came to: so many instructions were done, or the story has quit.
 #[derive(Clone, Copy, Debug, PartialEq, Eq)]
@@ -36,32 +37,36 @@ pub enum Run {
     Quits,
 }
 
-/// What a quick step came to: the story goes on, or has quit; or it is left to another body, since
-/// no quick instruction is at the PC.
+/// What a quick step came to: the story goes on, or has quit.
 #[derive(Clone, Copy, Debug, PartialEq, Eq)]
 pub(crate) enum Went {
     On,
     Quits,
-    Aside,
 }
 
 impl<'i> Machine<'i> {
     /// Does quick instructions, at most so many, up to the first that isn't one and while no text
-    /// is in progress. The fault is that of the instruction behind those that were done.
-    pub fn run_on(&mut self, alloc: Global, most: u64) -> Result<Run, Trap>
+    /// is in progress; `code` has those that were decoded before. The fault is that of the
+    /// instruction behind those that were done.
+    pub fn run_on(&mut self, alloc: Global, code: &mut Code<'i>, most: u64) -> Result<Run, Trap>
+        requires sound { IsSoundMachine self.old }
+        requires file { origin_of code.old ≡ origin_of self.old.memory }
         ensures runs { RunsWithin most self.old self.new result }
         ensures stops { IfDid result (λ k. k < most → StopsAt self.new) }
-        ensures fit { IsSoundMachine self.old → IfDid result (λ k. IsSoundMachine self.new) }
-        ensures kept { IsSoundMachine self.old → OnOk result (KeepsImage self.old self.new) }
-        ensures over { (image : List ℕ) → IsSoundMachine self.old → IsOver image self.old
+        ensures fit { IfDid result (λ k. IsSoundMachine self.new) }
+        ensures kept { OnOk result (KeepsImage self.old self.new) }
+        ensures over { (image : List ℕ) → IsOver image self.old
             → OnOk result (IsOver image self.new) }
+        ensures code { code.new ≡ code.old }
     {
         let mut done = 0;
         while done < most && self.is_quiet() {
-            match self.quick_step(alloc) {
+            let Some(decoded) = code.at(self.pc) else {
+                return Ok(Run::Did(done));
+            };
+            match self.quick_step(alloc, decoded) {
                 Ok(Went::On) => done += 1,
                 Ok(Went::Quits) => return Ok(Run::Quits),
-                Ok(Went::Aside) => return Ok(Run::Did(done)),
                 Err(trap) => return Err(trap),
             }
         }
@@ -77,115 +82,54 @@ impl<'i> Machine<'i> {
         matches!(self.text, Text::Off)
     }
 
-    // The instruction at the PC, if it is a quick one.
+    // The instruction at the PC, which is this one.
     #[inline(always)]
-    fn quick_step(&mut self, alloc: Global) -> Result<Went, Trap>
+    fn quick_step(&mut self, alloc: Global, decoded: Decoded) -> Result<Went, Trap>
+        requires here { Decodes self.old.memory self.old.pc decoded }
+        requires quick { IsQuickOpcode decoded.op }
         ensures does { GoesBy self.old self.new result }
         ensures fit { IsFit self.old → IfOk result (λ went. StaysOn self.new went) }
     {
-        let Some(code) = self.memory.code_at(self.pc) else {
-            return Ok(Went::Aside);
-        };
-        let Some((op, place)) = opcode_in(&self.memory, code, self.pc) else {
-            return Ok(Went::Aside);
-        };
-        match op {
-            Op::Math(math) => {
-                let fetched = self.fetch_math(math, code, place)?;
-                self.math_on(math, fetched)
-            }
-            Op::Array(array) => self.array_step(array, code, place),
-            Op::Branch(branch) => {
-                let fetched = self.fetch_branch(branch, code, place)?;
-                self.branch_on(branch, fetched)
-            }
-            Op::Move(Move::Copy) => {
-                let fetched = self.one_and_store(op, code, place)?;
-                self.copy_on(fetched)
-            }
-            Op::Flow(
-                flow @ (Flow::Call
-                | Flow::Return
-                | Flow::Throw
-                | Flow::Tailcall
-                | Flow::Callf
-                | Flow::Callfi
-                | Flow::Callfii
-                | Flow::Callfiii),
-            ) => self.flow_step(alloc, flow, code, place),
-            Op::Flow(Flow::Catch) => Ok(Went::Aside),
-            Op::Move(Move::Copys) => Ok(Went::Aside),
-            Op::Move(Move::Copyb) => Ok(Went::Aside),
-            Op::Move(Move::Sexs) => Ok(Went::Aside),
-            Op::Move(Move::Sexb) => Ok(Went::Aside),
-            Op::Values(_) => Ok(Went::Aside),
-            Op::Stream(_) => Ok(Went::Aside),
-            Op::State(_) => Ok(Went::Aside),
-            Op::System(_) => Ok(Went::Aside),
-            Op::Search(_) => Ok(Went::Aside),
+        let fetched = self.fetch(decoded)?;
+        match decoded.op {
+            Op::Math(math) => self.math_on(math, fetched),
+            Op::Array(array) => self.array_on(array, fetched),
+            Op::Branch(branch) => self.branch_on(branch, fetched),
+            Op::Move(Move::Copy) => self.copy_on(fetched),
+            Op::Flow(flow) => self.flow_on(alloc, flow, fetched),
+            Op::Move(_) => unreachable!(),
+            Op::Values(_) => unreachable!(),
+            Op::Stream(_) => unreachable!(),
+            Op::State(_) => unreachable!(),
+            Op::System(_) => unreachable!(),
+            Op::Search(_) => unreachable!(),
         }
-    }
-
-    // A read of an array, or a write.
-    #[inline(never)]
-    fn array_step(&mut self, array: Array, code: &[u8], place: u32) -> Result<Went, Trap>
-        requires { IsAtHand self.old (op.Array array) place code.now }
-        ensures does { GoesBy self.old self.new result }
-        ensures fit { IsFit self.old → IfOk result (λ went. StaysOn self.new went) }
-    {
-        let fetched = self.fetch_array(array, code, place)?;
-        self.array_on(array, fetched)
     }
 
     // A call or a return.
     #[inline(never)]
     #[tactic(auto, unfolding(crate::specs::Rows::Function::flow_work))]
-    fn flow_step(
-        &mut self,
-        alloc: Global,
-        flow: Flow,
-        code: &[u8],
-        place: u32,
-    ) -> Result<Went, Trap>
-        requires here { IsAtHand self.old (op.Flow flow) place code.now }
+    fn flow_on(&mut self, alloc: Global, flow: Flow, fetched: Fetched) -> Result<Went, Trap>
         requires quick { IsQuickOpcode (op.Flow flow) }
-        ensures does { GoesBy self.old self.new result }
+        ensures does { WorkGives (work_for (op.Flow flow) self.old fetched) self.new result }
+        ensures want { result ≡ Err NoMemory → FlowMayWant flow self.old fetched.first }
+        ensures done { result ≡ Err NoMemory
+            → HasNoFault (op.Flow flow) (work_for (op.Flow flow) self.old fetched) }
         ensures fit { IsFit self.old → IfOk result (λ went. StaysOn self.new went) }
     {
         // an arm for each, so that each has the code of its own rule alone
-        let op = Op::Flow(flow);
         match flow {
-            Flow::Return => {
-                let fetched = self.one(op, code, place)?;
-                self.give_back_on(fetched.first)
-            }
-            Flow::Throw => {
-                let fetched = self.two(op, code, place)?;
-                self.throw_on(fetched.first, fetched.second)
-            }
-            Flow::Tailcall => {
-                let fetched = self.two(op, code, place)?;
-                self.tailcall_on(alloc, fetched.first, fetched.second)
-            }
-            Flow::Call => {
-                let fetched = self.two_and_store(op, code, place)?;
-                self.call_with_on(alloc, fetched.first, fetched.second, fetched.to)
-            }
-            Flow::Callf => {
-                let fetched = self.one_and_store(op, code, place)?;
-                self.call_on(alloc, fetched.first, &[], fetched.to)
-            }
-            Flow::Callfi => {
-                let fetched = self.two_and_store(op, code, place)?;
-                self.call_on(alloc, fetched.first, &[fetched.second], fetched.to)
-            }
+            Flow::Return => self.give_back_on(fetched.first),
+            Flow::Throw => self.throw_on(fetched.first, fetched.second),
+            Flow::Tailcall => self.tailcall_on(alloc, fetched.first, fetched.second),
+            Flow::Call => self.call_with_on(alloc, fetched.first, fetched.second, fetched.to),
+            Flow::Callf => self.call_on(alloc, fetched.first, &[], fetched.to),
+            Flow::Callfi => self.call_on(alloc, fetched.first, &[fetched.second], fetched.to),
             Flow::Callfii => {
-                let fetched = self.three_and_store(op, code, place)?;
                 let args = [fetched.second, fetched.third];
                 self.call_on(alloc, fetched.first, &args, fetched.to)
             }
             Flow::Callfiii => {
-                let fetched = self.four_and_store(op, code, place)?;
                 let args = [fetched.second, fetched.third, fetched.fourth];
                 self.call_on(alloc, fetched.first, &args, fetched.to)
             }
@@ -342,45 +286,6 @@ impl<'i> Machine<'i> {
     {
         let done = self.tailcall(alloc, at, count)?;
         Ok(done.went())
-    }
-
-    #[inline(always)]
-    fn fetch_math(&mut self, math: Math, code: &[u8], place: u32) -> Result<Fetched, Trap>
-        requires here { IsAtHand self.old (op.Math math) place code.now }
-        ensures fetched { Fetches self.old (op.Math math) self.new result }
-        ensures fit { IsFit self.old → IfOk result (λ _. IsFit self.new) }
-    {
-        if math.is_binary() {
-            self.two_and_store(Op::Math(math), code, place)
-        } else {
-            self.one_and_store(Op::Math(math), code, place)
-        }
-    }
-
-    #[inline(always)]
-    fn fetch_array(&mut self, array: Array, code: &[u8], place: u32) -> Result<Fetched, Trap>
-        requires here { IsAtHand self.old (op.Array array) place code.now }
-        ensures fetched { Fetches self.old (op.Array array) self.new result }
-        ensures fit { IsFit self.old → IfOk result (λ _. IsFit self.new) }
-    {
-        if array.reads() {
-            self.two_and_store(Op::Array(array), code, place)
-        } else {
-            self.three(Op::Array(array), code, place)
-        }
-    }
-
-    #[inline(always)]
-    fn fetch_branch(&mut self, branch: Branch, code: &[u8], place: u32) -> Result<Fetched, Trap>
-        requires here { IsAtHand self.old (op.Branch branch) place code.now }
-        ensures fetched { Fetches self.old (op.Branch branch) self.new result }
-        ensures fit { IsFit self.old → IfOk result (λ _. IsFit self.new) }
-    {
-        match branch.loads() {
-            1 => self.one(Op::Branch(branch), code, place),
-            2 => self.two(Op::Branch(branch), code, place),
-            _ => self.three(Op::Branch(branch), code, place),
-        }
     }
 }
 
