@@ -1,7 +1,8 @@
 -- What a test tells of each value of a list, it tells after a change; and what holds of each value
 -- that is found by its number holds of all.
-use Rattle.std.proofs.Common.{◌≡◌, ◌∙◌, ℕ, zero, suc, Bool, true, ◌&&◌, List, [], ◌∷◌, ◌++◌, filter, map}
-use Rattle.std.proofs.Common.{Option, Some, None, arith, inl, inr, sym, ap, ◌==◌, if◌then◌else◌}
+use Rattle.std.proofs.Common.{◌≡◌, ◌∙◌, ℕ, zero, suc, Bool, true, ◌&&◌, List, [], ◌∷◌, ◌++◌, filter}
+use Rattle.std.proofs.Common.{map, Option, Some, None, arith, inl, inr, sym, ap, ◌==◌}
+use Rattle.std.proofs.Common.{if◌then◌else◌}
 use Rattle.std.specs.List.{AllByRecursion, insert}
 use Rattle.std.proofs.lemmas.Bool.{and_from, cases_Bool, eqb-true}
 use Rattle.std.proofs.lemmas.Grind.{common_steps}

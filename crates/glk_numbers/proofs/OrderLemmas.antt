@@ -1,6 +1,6 @@
 -- What the order of numbers tells, and what keeps it.
-use Rattle.std.proofs.Common.{◌≡◌, ℕ, ◌+◌, ◌<◌, ◌≤◌, Bool, true, List, [], ◌∷◌, ◌++◌, filter, map, refl}
-use Rattle.std.proofs.Common.{arith, nat_lt}
+use Rattle.std.proofs.Common.{◌≡◌, ℕ, ◌+◌, ◌<◌, ◌≤◌, Bool, true, List, [], ◌∷◌, ◌++◌, filter, map}
+use Rattle.std.proofs.Common.{refl, arith, nat_lt}
 use Rattle.std.proofs.lemmas.Bool.{and_parts, ltb-true}
 use Rattle.std.proofs.lemmas.Grind.{common_steps}
 use Rattle.glk_numbers.specs.Numbered.{ascends, changed_at, has, without}
