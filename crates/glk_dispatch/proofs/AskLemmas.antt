@@ -12,7 +12,7 @@ use Rattle.glk_dispatch.specs.Events.{may_ask}
 use Rattle.glk_dispatch.specs.declared.glk.Glk.{Glk}
 use Rattle.glk_dispatch.specs.Valid.{AreAsked}
 use Rattle.glk_dispatch.specs.Links.{Link, Links, links}
-use Rattle.glk_dispatch.proofs.FoundLemmas.{found-changed, has-found}
+use Rattle.glk_numbers.proofs.FoundLemmas.{found-changed, has-found}
 use Rattle.glk_dispatch.proofs.PartLemmas.{is_window-link, kind-link, kind_at}
 
 abbrev pub request_in : Option WindowInput → Option Request

@@ -10,7 +10,7 @@ use Rattle.glk_windows.specs.Closing.{both, close, windows_without, sibling_lift
 use Rattle.glk_windows.specs.declared.window.Content.{Content}
 use Rattle.glk_windows.specs.declared.window.Content.TheVariants.{Pair}
 use Rattle.glk_windows.specs.Reading as reading
-use Rattle.glk_windows.specs.Valid.{Ascends, IsOrdered}
+use Rattle.glk_windows.specs.Valid.{IsOrdered}
 use Rattle.glk_windows.specs.OneTree.{Shape, Leaf, Fork, IsTree, top}
 use Rattle.glk_windows.specs.OneTree.{times_reached, pair_without_key, below}
 use Rattle.glk_windows.specs.OneTree.{pair_above, node_of, SpellsTree, tree_size}
@@ -21,13 +21,13 @@ use Rattle.glk_windows.proofs.CutLemmas.{node_removed, size_length, spells_on}
 use Rattle.glk_windows.proofs.LiftLemmas.{count_below, outside}
 use Rattle.glk_windows.proofs.CloseLemmas.{size_below, spells_below}
 use Rattle.glk_windows.proofs.OneTreeLemmas.{count_top, once_at, once_le, spells_top}
-use Rattle.glk_windows.proofs.OrderLemmas.{ascends-closed, ascends-removed}
-use Rattle.glk_streams.proofs.ValidLemmas.{ascends-without}
+use Rattle.glk_windows.proofs.OrderLemmas.{Ascends, ascends-closed, ascends-removed}
+use Rattle.glk_numbers.proofs.OrderLemmas.{ascends-without}
 use Rattle.glk_streams.specs.Streams as streams
 use Rattle.glk_dispatch.specs.Windows as rows
 use Rattle.glk_dispatch.specs.declared.glk.Glk.{Glk}
 use Rattle.glk_dispatch.specs.Links.{AreLinked, window_link, live_stream}
-use Rattle.glk_dispatch.proofs.FoundLemmas.{part-changed}
+use Rattle.glk_numbers.proofs.FoundLemmas.{part-changed}
 use Rattle.glk_dispatch.proofs.AskLemmas.{AskedBy, asked-less, asked-same}
 use Rattle.glk_dispatch.proofs.LinkLemmas.{linked-same, unechoed}
 use Rattle.glk_dispatch.proofs.CloseLemmas.{ends_in, linked-less, links-less, links_in}
@@ -73,9 +73,9 @@ both_children o depth h q e z =
     ∙ ap (λ b. if b then h else rows.all_dropped depth (rows.all_dropped depth h q.first) q.second)
     z
 
-not-zero : (ws : List Window) (z n : ℕ) (x : ℕ × Option p.Pair) → Ascends 1 ws z → node_of ws n
+not-zero : (ws : List Window) (z n : ℕ) (x : ℕ × Option p.Pair) → Ascends 0 ws z → node_of ws n
     ≡ Some x → (n == 0) ≡ false
-not-zero ws z zero x o e = (let c : None ≡ Some x = sym (node_lower 1 ws z 0 o (omega arith))
+not-zero ws z zero x o e = (let c : None ≡ Some x = sym (node_lower 0 ws z 0 o (omega arith))
     ∙ e in cc)
 not-zero ws z (suc n) x o e = grind (arith, common_steps)
 
@@ -85,7 +85,7 @@ pub record AreLeft (ws : List Window) (g : Glk) : Type 0 where
   pub linked : AreLinked (links_in ws) (ends_in g.streams)
   pub asked : AskedBy (links_in ws) g.requests
 
-one-less : (ws : List Window) (g : Glk) (z n : ℕ) (x : ℕ × Option p.Pair) → Ascends 1 ws z
+one-less : (ws : List Window) (g : Glk) (z n : ℕ) (x : ℕ × Option p.Pair) → Ascends 0 ws z
     → node_of ws n ≡ Some x → AreLeft ws g
     → AreLeft (windows_without ws n) (rows.window_dropped g n)
 one-less ws g z n x o e v = record {
@@ -98,7 +98,7 @@ one-less ws g z n x o e v = record {
 }
 
 pub removed-left : (d : ℕ) (s : Shape) (ws : List Window) (g : Glk) (up z : ℕ) → tree_size s ≤ d
-    → Ascends 1 ws z → SpellsTree ws up s
+    → Ascends 0 ws z → SpellsTree ws up s
     → ((m : ℕ) → times_reached s m ≤ 1)
     → ((m : ℕ) → 0 < times_reached s m → node_of g.windows.slots m
     ≡ node_of ws m)
@@ -116,17 +116,17 @@ removed-left (suc d) (Fork n q x y) ws g up z h o t c same v =
     let w2 : List Window = removed d w1 (top x) in
     let g1 : Glk = rows.window_dropped g n in
     let g2 : Glk = rows.all_dropped d g1 (top x) in
-    let o1 : Ascends 1 w1 z = ascends-closed 1 ws z n o in
-    let o2 : Ascends 1 w2 z = ascends-removed d 1 w1 z (top x) o1 in
+    let o1 : Ascends 0 w1 z = ascends-closed 0 ws z n o in
+    let o2 : Ascends 0 w2 z = ascends-removed d 0 w1 z (top x) o1 in
     let cn : times_reached (Fork n q x y) n ≤ 1 = c n in
-    let n1 : (k : ℕ) → node_of w1 k ≡ (if k == n then None else node_of ws k) = λ k. node_closed 1
+    let n1 : (k : ℕ) → node_of w1 k ≡ (if k == n then None else node_of ws k) = λ k. node_closed 0
     ws z n k o in
     let s1 : (k : ℕ) → 0 < times_reached x k → node_of w1 k ≡ node_of ws k = λ k l. n1 k
     ∙ (let ck : _ = c k in grind (arith, common_steps)) in
     let t1 : SpellsTree w1 n x = spells_on ws w1 x n s1 t.3 in
     let n2 : (k : ℕ)
     → node_of w2 k ≡ (if nat_lt 0 (times_reached x k) then None else node_of w1 k) =
-    λ k. node_removed d x w1 n 1 z (omega (arith, h)) o1 t1 (λ j. omega (arith, c j)) k in
+    λ k. node_removed d x w1 n 0 z (omega (arith, h)) o1 t1 (λ j. omega (arith, c j)) k in
     let s2 : (k : ℕ) → 0 < times_reached y k → node_of w2 k ≡ node_of ws k = λ k l. n2 k
     ∙ (let ck : _ = c k in let nk : _ = n1 k in grind (arith, common_steps)) in
     let t2 : SpellsTree w2 n y = spells_on ws w2 y n s2 t.4 in
@@ -172,7 +172,7 @@ raised-links ws pair sibling above m =
     (kind-swapped w.content pair sibling)) (windows_without ws pair) above m
 
 pub raised-left : (ws : List Window) (g : Glk) (z pair sibling above : ℕ) (x : ℕ × Option p.Pair)
-    → Ascends 1 ws z → node_of ws pair ≡ Some x
+    → Ascends 0 ws z → node_of ws pair ≡ Some x
     → AreLeft ws g → AreLeft (raised ws pair sibling above) (rows.window_dropped g pair)
 raised-left ws g z pair sibling above x o e v =
     let less = one-less ws g z pair x o e v in
@@ -217,11 +217,11 @@ closed-left g s n x o h live hn v =
     let c0 : 0 < times_reached s n = omega (arith, c1) in
     let dd : (m : ℕ) → times_reached s m ≤ 1 = λ m. once_le _ _ (h.2 m) in
     let sb : (top sub ≡ n) × SpellsTree ws pair sub = spells_below ws n s 0 h.1 c0 in
-    let sz : tree_size s ≡ d = size_length 1 ws g.windows.next 0 s o h.1 h.2 in
+    let sz : tree_size s ≡ d = size_length 0 ws g.windows.next 0 s o h.1 h.2 in
     let n2 : (m : ℕ)
     → node_of w2 m ≡ (if nat_lt 0 (times_reached sub m) then None else node_of ws m) =
     λ m. ap (λ j. node_of (removed d ws j) m) (sym sb.0)
-    ∙ node_removed d sub ws pair 1 g.windows.next (omega (arith, size_below n s, sz)) o sb.1
+    ∙ node_removed d sub ws pair 0 g.windows.next (omega (arith, size_below n s, sz)) o sb.1
     (λ k. omega (arith, count_below n s k, dd k)) m in
     let out : (times_reached sub pair ≡ 0) × (node_of ws pair
     ≡ Some (tree.parent_of ws pair, Some (pair_above n s))) × (0 < times_reached s pair) =
@@ -231,7 +231,7 @@ closed-left g s n x o h live hn v =
     let nq : _ = n2 pair in
     let np2 : node_of w2 pair ≡ Some (tree.parent_of ws pair, Some (pair_above n s)) = grind
     (arith, common_steps) in
-    let o2 : Ascends 1 w2 g.windows.next = ascends-removed d 1 ws g.windows.next n o in
+    let o2 : Ascends 0 w2 g.windows.next = ascends-removed d 0 ws g.windows.next n o in
     let all : AreLeft (removed d ws (top sub)) (rows.all_dropped d g (top sub)) =
     removed-left d sub ws g pair g.windows.next (omega (arith, size_below n s, sz)) o sb.1
     (λ k. omega (arith, count_below n s k, dd k)) (λ m l. refl) v in

@@ -26,7 +26,7 @@ use Rattle.glk_dispatch.specs.declared.glk.Glk.{Glk}
 use Rattle.glk_dispatch.proofs.AskLemmas.{with_link}
 use Rattle.glk_dispatch.proofs.BelowLemmas.{kind-swapped}
 use Rattle.glk_dispatch.proofs.CloseLemmas.{links_in}
-use Rattle.glk_dispatch.proofs.FoundLemmas.{found-added, part-changed}
+use Rattle.glk_numbers.proofs.FoundLemmas.{found-added, part-changed}
 use Rattle.glk_dispatch.proofs.OpenLemmas.{Beside, begun-is, begun_as, beside-of, beside-same}
 use Rattle.glk_dispatch.proofs.OpenLemmas.{ends-more, links-more, made-if, more-beside, new_link}
 use Rattle.glk_dispatch.proofs.OpenLemmas.{next-there, no-stream-yet, no-window-yet, placed-valid}

@@ -1,14 +1,14 @@
 -- A window that is closed with its stream.
-use Rattle.std.proofs.Common.{◌≡◌, inl, inr, ℕ, ◌+◌, ◌==◌, Bool, true, false, List, [], ◌∷◌, refl}
+use Rattle.std.proofs.Common.{◌≡◌, inl, inr, ℕ, ◌==◌, Bool, true, false, List, [], ◌∷◌, refl}
 use Rattle.std.proofs.Common.{sym, ap, ◌∙◌, arith, Option, Some, None, option_map, if◌then◌else◌}
-use Rattle.std.proofs.Common.{◌≤◌, ◌<◌}
+use Rattle.std.proofs.Common.{◌≤◌}
 use Rattle.std.proofs.lemmas.Grind.{common_steps}
-use Rattle.std.proofs.lemmas.Bool.{cases_Bool, eq-eqb, eqb-true}
+use Rattle.std.proofs.lemmas.Bool.{both_ways, cases_Bool, eq-eqb, eqb-true}
 use Rattle.glk_numbers.specs.Numbered.{ascends, found, without}
 use Rattle.glk_windows.specs.Tree as tree
 use Rattle.glk_windows.specs.Closing as closing
 use Rattle.glk_windows.specs.Reading as reading
-use Rattle.glk_windows.specs.Valid.{Ascends}
+use Rattle.glk_windows.proofs.OrderLemmas.{Ascends}
 use Rattle.glk_windows.specs.declared.window.Content.{Content}
 use Rattle.glk_windows.specs.declared.window.Content.TheVariants.{Pair}
 use Rattle.glk_windows.specs.declared.window.Window.{Window}
@@ -19,7 +19,7 @@ use Rattle.glk_streams.specs.declared.stream.Target as target
 use Rattle.glk_streams.specs.declared.stream.Target.TheVariants as to
 use Rattle.glk_dispatch.specs.Links.{AreLinked, Ends, Link, Links, stream_end}
 use Rattle.glk_dispatch.specs.Links.{window_link, owner, owner_in, live_stream}
-use Rattle.glk_dispatch.proofs.FoundLemmas.{found-low, found-map, found-without}
+use Rattle.glk_numbers.proofs.FoundLemmas.{found-low, found-map, found-without}
 use Rattle.glk_dispatch.proofs.LinkLemmas.{linked-closed, unechoed}
 
 -- the windows of a list, and the streams of a table, as they name each other
@@ -28,17 +28,6 @@ links_in ws m = option_map window_link (tree.window_at ws m)
 
 abbrev pub ends_in : streams.StreamTable → Ends
 ends_in t m = option_map stream_end (streams.stream_at t m)
-
-pub to-ascends : (ws : List Window) (a z : ℕ)
-    → Ascends (a + 1) ws z → ascends tree.window_number a z ws
-    ≡ true
-unfolding ascends
-to-ascends [] a z o = refl
-to-ascends (w ∷ ws) a z o =
-    let low : a + 1 ≤ w.number = o.0 in
-    let high : w.number < z = o.1 in
-    let rest = to-ascends ws w.number z o.2 in
-    grind (arith, common_steps, low, high, rest)
 
 pub is-of : (t : target.Target) (n : ℕ) → streams.is_of_window n t ≡ true → owner_in t ≡ Some n
 is-of (to.Window w) n e = ap Some (grind (arith, common_steps, e))
@@ -77,7 +66,7 @@ owned (s ∷ ss) low high n k a e = elim (cases_Bool (streams.is_of_window n s.t
             let c = of-owner s.target n (sym (ap (λ b. owner
             (option_map stream_end (if b then Some s else found streams.stream_number ss k))) x)
             ∙ e) in
-            absurd (true-false (streams.is_of_window n s.target) c h)
+            absurd (both_ways (streams.is_of_window n s.target) h c)
         | inr x ↦ x
       ] in
       let rest = owned ss s.number high n k order (sym
@@ -100,9 +89,6 @@ owned (s ∷ ss) low high n k a e = elim (cases_Bool (streams.is_of_window n s.t
       ∙ ap (λ b. owner (option_map stream_end (if b then Some s else found streams.stream_number ss
       (streams.stream_of_window ss n)))) later ∙ rest
 ]
-  where
-    true-false : (b : Bool) → b ≡ true → b ≡ false → ⊥
-    true-false b e f = (let c : true ≡ false = sym e ∙ f in absurd cc)
 
 kind-unkeyed : (c : Content) (n : ℕ) → reading.kind_in (closing.content_unkeyed n c)
     ≡ reading.kind_in c
@@ -143,7 +129,7 @@ both-or-none false true f g = g refl
 both-or-none false false f g = refl
 
 -- the windows that stay
-pub links-less : (ws : List Window) (z n : ℕ) → Ascends 1 ws z → (m : ℕ)
+pub links-less : (ws : List Window) (z n : ℕ) → Ascends 0 ws z → (m : ℕ)
     → links_in (closing.windows_without ws n) m
     ≡ (if m == n then None
     else option_map (unechoed (λ j. j == tree.stream_of ws n)) (links_in ws m))
@@ -152,12 +138,12 @@ links-less ws z n o m =
     (found-map tree.window_number (closing.unlinked n (tree.stream_of ws n)) (λ w. refl)
     (without tree.window_number ws n) m
     ∙ ap (option_map (closing.unlinked n (tree.stream_of ws n)))
-    (found-without tree.window_number ws 0 z n m (to-ascends ws 0 z o)))
+    (found-without tree.window_number ws 0 z n m o.1))
     ∙ link-closed n (tree.stream_of ws n) (m == n) (tree.window_at ws m)
 
 -- a live window is taken out of the list, and its stream out of the table: they end together, and
 -- no window echoes to that stream
-pub linked-less : (ws : List Window) (t : streams.StreamTable) (z n k : ℕ) → Ascends 1 ws z
+pub linked-less : (ws : List Window) (t : streams.StreamTable) (z n k : ℕ) → Ascends 0 ws z
     → ascends streams.stream_number 0 t.next t.streams ≡ true
     → live_stream (links_in ws n) ≡ Some k → AreLinked (links_in ws) (ends_in t)
     → AreLinked (links_in (closing.windows_without ws n)) (ends_in (sopen.closed_window t n).0)

@@ -8,13 +8,13 @@ use Rattle.glk_numbers.specs.Numbered.{ascends, found, without}
 use Rattle.glk_windows.specs.Tree as tree
 use Rattle.glk_windows.specs.Closing.{close, sibling_lifted, removed}
 use Rattle.glk_windows.specs.OneTree.{IsTree, Shape, tree_size, top}
-use Rattle.glk_windows.specs.Valid.{Ascends, IsOrdered}
+use Rattle.glk_windows.specs.Valid.{IsOrdered}
 use Rattle.glk_windows.specs.declared.window.Window.{Window}
 use Rattle.glk_windows.proofs.CutLemmas.{size_length}
 use Rattle.glk_windows.proofs.OneTreeLemmas.{is_eq, isnt_eq, node_parent, once_le, spells_top}
-use Rattle.glk_windows.proofs.OrderLemmas.{ascends-removed}
+use Rattle.glk_windows.proofs.OrderLemmas.{Ascends, ascends-removed}
 use Rattle.glk_windows.proofs.ValidLemmas.{SomeTree, node_live, node_nil, some_tree}
-use Rattle.glk_streams.proofs.ValidLemmas.{ascends-without}
+use Rattle.glk_numbers.proofs.OrderLemmas.{ascends-without}
 use Rattle.glk_streams.specs.Opening as sopen
 use Rattle.glk_streams.specs.Streams as streams
 use Rattle.glk_streams.specs.declared.stream.Stream.{Stream}
@@ -27,10 +27,10 @@ use Rattle.glk_dispatch.proofs.AskLemmas.{asked-by, asked-less}
 use Rattle.glk_dispatch.proofs.BelowLemmas.{AreLeft, all_dropped-same, all_dropped-windows}
 use Rattle.glk_dispatch.proofs.BelowLemmas.{closed-left, removed-left}
 use Rattle.glk_dispatch.proofs.CloseLemmas.{ends_in, is-of, links_in}
-use Rattle.glk_dispatch.proofs.FoundLemmas.{found-low, found-without}
+use Rattle.glk_numbers.proofs.FoundLemmas.{found-low, found-without}
 use Rattle.glk_dispatch.proofs.LinkLemmas.{linked-same}
 use Rattle.glk_dispatch.proofs.OpenLemmas.{placed-valid}
-use Rattle.glk_dispatch.proofs.EchoLemmas.{no-window, streams-ascend}
+use Rattle.glk_dispatch.proofs.EchoLemmas.{streams-ascend}
 
 -- ---- no stream is of a number that no window has
 
@@ -73,7 +73,7 @@ none-owned (s ∷ ss) low high n a h = elim (cases_Bool (streams.is_of_window n 
     ]
 
 -- dropping such a number drops nothing
-none-left : (us : List Window) (g : Glk) (z : ℕ) → Ascends 1 us z → AreLeft us g
+none-left : (us : List Window) (g : Glk) (z : ℕ) → Ascends 0 us z → AreLeft us g
     → AreLeft us (rows.window_dropped g 0)
 none-left us g z o v = record {
   order = ascends-without streams.stream_number g.streams.streams 0 g.streams.next
@@ -86,7 +86,7 @@ none-left us g z o v = record {
 }
   where
     none : links_in us 0 ≡ None
-    none = ap (option_map window_link) (no-window us 1 z 0 o (omega arith))
+    none = ap (option_map window_link) (found-low tree.window_number us 0 z 0 o.1 (omega arith))
 
     no_stream : streams.stream_of_window g.streams.streams 0 ≡ 0
     no_stream = none-owned g.streams.streams 0 g.streams.next 0 v.order (λ k own.
@@ -134,15 +134,15 @@ root-left g s n o h e v =
     let ws : List Window = g.windows.slots in
     let d : ℕ = length ws in
     let few : tree_size s ≤ d =
-    omega (arith, size_length 1 ws g.windows.next 0 s o h.1 h.2) in
+    omega (arith, size_length 0 ws g.windows.next 0 s o h.1 h.2) in
     let all : AreLeft (removed d ws (top s)) (rows.all_dropped d g (top s)) =
     removed-left d s ws g 0 g.windows.next few o h.1 (λ m. once_le _ _ (h.2 m)) (λ m l. refl) v in
     let all_n : AreLeft (removed d ws n) (rows.all_dropped d g n) =
     subst (λ j. AreLeft (removed d ws j) (rows.all_dropped d g j)) e all in
     let above : tree.parent_of ws n ≡ 0 =
     ap (tree.parent_of ws) (sym e) ∙ sym (node_parent ws (top s) _ (spells_top ws s 0 h.1)) in
-    let order : Ascends 1 (removed d ws n) g.windows.next =
-    ascends-removed d 1 ws g.windows.next n o in
+    let order : Ascends 0 (removed d ws n) g.windows.next =
+    ascends-removed d 0 ws g.windows.next n o in
     let last : AreLeft (removed d ws n) (rows.window_dropped (rows.all_dropped d g n) 0) =
     none-left (removed d ws n) (rows.all_dropped d g n) g.windows.next order all_n in
     left-true (tree.parent_of ws n == 0) (record g.windows { slots = removed d ws n; root = 0 })

@@ -1,9 +1,9 @@
 -- What each step of a call leaves of windows and streams as they name each other.
-use Rattle.std.proofs.Common.{◌≡◌, ◌≢◌, inl, inr, ℕ, zero, suc, ◌+◌, ◌<◌, ◌≤◌, ◌==◌, ◌||◌, ◌&&◌}
+use Rattle.std.proofs.Common.{◌≡◌, ◌≢◌, inl, inr, ℕ, zero, suc, ◌==◌, ◌||◌, ◌&&◌}
 use Rattle.std.proofs.Common.{not, Bool, true, false, List, [], ◌∷◌, length, refl, sym, ap, ◌∙◌}
 use Rattle.std.proofs.Common.{arith, Option, Some, None, option_map, is_some, if◌then◌else◌}
 use Rattle.std.proofs.lemmas.Grind.{common_steps}
-use Rattle.std.proofs.lemmas.Bool.{cases_Bool, ne_eqb}
+use Rattle.std.proofs.lemmas.Bool.{cases_Bool, ne_eqb, not_from_false}
 use Rattle.glk_numbers.specs.Numbered.{ascends, found}
 use Rattle.glk_windows.specs.Tree as tree
 use Rattle.glk_windows.specs.Reading as reading
@@ -21,28 +21,18 @@ use Rattle.glk_dispatch.specs.Windows as rows
 use Rattle.glk_dispatch.specs.declared.glk.Glk.{Glk}
 use Rattle.glk_dispatch.specs.Links.{Link, AreLinked, window_link, stream_end, links, stream_ends}
 use Rattle.glk_dispatch.specs.Links.{next_echo, owner, owner_in, echo_by, echo_in, live_stream}
-use Rattle.glk_dispatch.proofs.FoundLemmas.{found-changed, found-low, has-found}
+use Rattle.glk_numbers.proofs.FoundLemmas.{found-changed, found-low, has-found}
 use Rattle.glk_dispatch.proofs.LinkLemmas.{linked-echoed, echoing, owns}
 use Rattle.glk_dispatch.proofs.LoopLemmas.{AreListed, is_in, passes, passes-none, passes-within}
 use Rattle.glk_dispatch.proofs.LoopLemmas.{walk, walk-passes}
 
 -- ---- windows and streams have numbers from 1 on
 
-pub no-window : (ws : List Window) (a z m : ℕ) → wvalid.Ascends a ws z → m < a
-    → found tree.window_number ws m ≡ None
-unfolding found
-no-window [] a z m o l = refl
-no-window (w ∷ ws) a z m o l =
-    let low : a ≤ w.number = o.0 in
-    let not : (w.number == m) ≡ false = grind (arith, common_steps, low, l) in
-    ap (λ b. if b then Some w else found tree.window_number ws m) not
-    ∙ no-window ws (w.number + 1) z m o.2 (omega (arith, low, l))
-
 pub window-none : (g : Glk) → wvalid.IsValidTree g.windows → links g 0 ≡ None
 unfolding wvalid.IsOrdered
 window-none g v =
-    ap (option_map window_link) (no-window g.windows.slots 1 g.windows.next 0 v.ordered
-    (omega arith))
+    ap (option_map window_link)
+    (found-low tree.window_number g.windows.slots 0 g.windows.next 0 v.ordered.1 (omega arith))
 
 -- ---- the walk of the test for a loop
 
@@ -87,9 +77,6 @@ window-some g o n e = (
   λ x h. owner-some (streams.stream_at g.streams n) x (e ∙ h),
 )
 
-not-none : (x : ℕ) → x ≢ 0 → not (x == 0) ≡ true
-not-none x h = grind (arith, common_steps, h)
-
 -- the test looks at what the echoes pass
 module _ (g : Glk) (valid : AreValid g) (v : AreLinked (links g) (stream_ends g)) (win : ℕ) where
   unfoldable pub follows : ℕ → ℕ
@@ -118,7 +105,7 @@ module _ (g : Glk) (valid : AreValid g) (v : AreLinked (links g) (stream_ends g)
       ap (λ y. not (y == 0) && (y == win || rows.reaches k g (reading.echo_of g.windows.slots y)
       win)) ((window-some g (Some x) n e).1 x refl)
       ∙ ap (λ b. b && (x == win || rows.reaches k g (reading.echo_of g.windows.slots x) win))
-      (not-none x not_zero)
+      (not_from_false (x == 0) (ne_eqb x 0 not_zero))
       ∙ ap (λ y. x == win || rows.reaches k g y win) (echo-link (tree.window_at g.windows.slots x))
       ∙ ap (λ b. x == win || b) (rest (echo_in (links g x)))
       ∙ sym (ap (λ y. owns win y || passes k follows comes (echo_by (links g) y)) e)

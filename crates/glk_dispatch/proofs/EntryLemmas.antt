@@ -1,8 +1,8 @@
 -- Two ascending lists with the same numbers have them in the same order.
-use Rattle.std.proofs.Common.{◌≡◌, ◌∙◌, ℕ, ◌<◌, ◌≤◌, ◌==◌, ◌||◌, ◌&&◌, nat_lt, true, false, List}
+use Rattle.std.proofs.Common.{◌≡◌, ◌∙◌, ℕ, ◌<◌, ◌≤◌, ◌==◌, ◌||◌, nat_lt, true, false, List}
 use Rattle.std.proofs.Common.{[]}
 use Rattle.std.proofs.Common.{◌∷◌, refl, sym, ap, inl, inr, arith, map, is_some, option_map, Some}
-use Rattle.std.proofs.lemmas.Bool.{and_parts, cases_Bool}
+use Rattle.std.proofs.lemmas.Bool.{and_parts, cases_Bool, eqb-true, or_cases}
 use Rattle.std.proofs.lemmas.Bool.Decides.{nat_tests}
 use Rattle.std.proofs.lemmas.Grind.{common_steps}
 use Rattle.std.specs.Cmp.{both_ways}
@@ -10,12 +10,11 @@ use Rattle.glk_numbers.specs.Numbered.{ascends, has}
 use Rattle.glk_windows.specs.Tree as tree
 use Rattle.glk_windows.specs.Valid as wvalid
 use Rattle.glk_input.specs.Request as request
-use Rattle.glk_input.specs.Valid as ivalid
 use Rattle.glk_dispatch.specs.Fields.{EntriesFollowWindows, StreamsFollowWindows}
 use Rattle.glk_dispatch.specs.Links.{stream_end, stream_ends, window_link}
 use Rattle.glk_dispatch.specs.Links.{links, owner, owner_in, live_stream}
-use Rattle.glk_dispatch.proofs.CloseLemmas.{to-ascends}
-use Rattle.glk_dispatch.proofs.FoundLemmas.{found-low, has-found}
+use Rattle.glk_numbers.proofs.FoundLemmas.{found-low, has-found}
+use Rattle.glk_numbers.proofs.OrderLemmas.{ascends-above, ascends-first}
 
 has-low : {X : Type 0} (number : X → ℕ) (xs : List X) (low high m : ℕ)
     → ascends number low high xs ≡ true → m ≤ low → has number xs m ≡ false
@@ -38,15 +37,10 @@ has-other number x xs n l =
 has-least : {X : Type 0} (number : X → ℕ) (x : X) (xs : List X) (high n : ℕ)
     → ascends number (number x) high xs ≡ true → has number (x ∷ xs) n ≡ true → number x ≤ n
 unfolding has
-has-least number x xs high n a h = elim (cases_Bool (nat_lt n (number x))) [
-  | inl e ↦
-      let less : n < number x = grind (arith, nat_tests, e) in
-      let other : (number x == n) ≡ false = grind (arith, nat_tests, less) in
-      let none : has number xs n ≡ false =
-      has-low number xs (number x) high n a (omega (arith, less)) in
-      let c : true ≡ false = sym h ∙ ap (λ b. b || has number xs n) other ∙ none in
-      absurd cc
-  | inr e ↦ (let l : number x ≤ n = grind (arith, nat_tests, e) in l)
+has-least number x xs high n a h = elim (or_cases (number x == n) (has number xs n) h) [
+  | inl e ↦ let same = eqb-true (number x) n e in omega (arith, same)
+  | inr there ↦
+      let above = ascends-above number xs (number x) high n a there in omega (arith, above)
 ]
 
 module _ {X Y : Type 0} (one : X → ℕ) (two : Y → ℕ) (high end : ℕ) where
@@ -84,10 +78,8 @@ module _ {X Y : Type 0} (one : X → ℕ) (two : Y → ℕ) (high end : ℕ) whe
   same-numbers (x ∷ xs) [] low a b h =
       let c : true ≡ false = sym (has-first one x xs) ∙ h (one x) in absurd cc
   same-numbers (x ∷ xs) (y ∷ ys) low a b h =
-      let k = (and_parts (nat_lt low (one x) && nat_lt (one x) high)
-      (ascends one (one x) high xs) a).1 in
-      let l = (and_parts (nat_lt low (two y) && nat_lt (two y) end)
-      (ascends two (two y) end ys) b).1 in
+      let k = (ascends-first one x xs low high a).2 in
+      let l = (ascends-first two y ys low end b).2 in
       let e = firsts x xs y ys k l h in
       ap (λ n. n ∷ map one xs) e
       ∙ ap (λ ns. two y ∷ ns)
@@ -96,11 +88,10 @@ module _ {X Y : Type 0} (one : X → ℕ) (two : Y → ℕ) (high end : ℕ) whe
 pub entries_follow : EntriesFollowWindows
 unfolding wvalid.IsOrdered
 entries_follow g v =
-    let entries = and_parts (ascends request.input_window_number 0 4294967295 g.requests)
-    (ivalid.are_windows g.requests) v.parts.requests in
+    let entries = and_parts (ascends request.input_window_number 0 4294967295 g.requests) _
+    v.parts.requests in
     same-numbers request.input_window_number tree.window_number 4294967295 g.windows.next g.requests
-    g.windows.slots 0 entries.0
-    (to-ascends g.windows.slots 0 g.windows.next v.parts.windows.ordered) v.asked.listed
+    g.windows.slots 0 entries.0 v.parts.windows.ordered.1 v.asked.listed
 
 -- ---- the window of a window's stream
 

@@ -1,5 +1,5 @@
 -- The tests of the parts of a Glk state that is made again from what was kept of it.
-use Rattle.std.proofs.Common.{◌≡◌, ◌≢◌, ◌∙◌, inl, inr, ℕ, ◌+◌, ◌==◌, ◌&&◌}
+use Rattle.std.proofs.Common.{◌≡◌, ◌≢◌, ◌∙◌, inl, inr, ℕ, ◌+◌, ◌==◌}
 use Rattle.std.proofs.Common.{◌||◌, not, Bool, true, false, length, refl, sym, ap}
 use Rattle.std.proofs.Common.{arith, add-one, Option, Some, None, option_map, is_some}
 use Rattle.std.proofs.lemmas.Bool.{and_from, and_parts, cases_Bool}
@@ -12,7 +12,6 @@ use Rattle.glk_windows.specs.declared.window.Window.{Window}
 use Rattle.glk_streams.specs.Streams as streams
 use Rattle.glk_streams.specs.declared.stream.Stream.{Stream}
 use Rattle.glk_input.specs.Request as request
-use Rattle.glk_input.specs.Valid as ivalid
 use Rattle.glk_input.specs.declared.request.WindowInput.{WindowInput}
 use Rattle.glk_dispatch.specs.Events.{may_ask}
 use Rattle.glk_dispatch.specs.Fields.{comes_to_an_end, entries_fit, entry_fits, is_named_by}
@@ -26,9 +25,8 @@ use Rattle.glk_dispatch.specs.Output.{echo_from}
 use Rattle.glk_dispatch.specs.Valid.{AreAsked, AreValid, IsValidGlk}
 use Rattle.glk_dispatch.specs.declared.glk.Glk.{Glk}
 use Rattle.glk_dispatch.proofs.AskLemmas.{request_in, request-found}
-use Rattle.glk_dispatch.proofs.CloseLemmas.{to-ascends}
 use Rattle.glk_dispatch.proofs.EchoLemmas.{all-listed, comes, follows, some-stream, streams-ascend}
-use Rattle.glk_dispatch.proofs.FoundLemmas.{has-found, number-found}
+use Rattle.glk_numbers.proofs.FoundLemmas.{has-found, number-found}
 use Rattle.glk_dispatch.proofs.LoopLemmas.{is_in, over-same, over-within}
 use Rattle.glk_dispatch.proofs.NamedLemmas.{all-found, echo-next, found-all, named-stream}
 use Rattle.glk_dispatch.proofs.NamedLemmas.{named-target, no-stream}
@@ -50,9 +48,7 @@ module _ (g : Glk) (v : AreValid g) where
       → owner (stream_ends g l.stream) ≡ Some win
   owned-by e win l h =
       let w = window-of-link (tree.window_at g.windows.slots win) l h in
-      let t = and_parts (is_owned g w.0.number w.0.stream)
-      ((w.0.echo == 0 || is_stream g w.0.echo)
-      && has request.input_window_number g.requests w.0.number) (window-fit e win w.0 w.1) in
+      let t = and_parts (is_owned g w.0.number w.0.stream) _ (window-fit e win w.0 w.1) in
       let is = number-found tree.window_number g.windows.slots win w.0 w.1 in
       ap (λ (m : Link). owner (stream_ends g m.stream)) w.2
       ∙ owned-owner (streams.stream_at g.streams w.0.stream) w.0.number t.0 ∙ ap Some is
@@ -61,11 +57,8 @@ module _ (g : Glk) (v : AreValid g) where
       → is_some (stream_ends g l.echo) ≡ true
   echo-live e win l h z =
       let w = window-of-link (tree.window_at g.windows.slots win) l h in
-      let t = and_parts (is_owned g w.0.number w.0.stream)
-      ((w.0.echo == 0 || is_stream g w.0.echo)
-      && has request.input_window_number g.requests w.0.number) (window-fit e win w.0 w.1) in
-      let u = and_parts (w.0.echo == 0 || is_stream g w.0.echo)
-      (has request.input_window_number g.requests w.0.number) t.1 in
+      let t = and_parts (is_owned g w.0.number w.0.stream) _ (window-fit e win w.0 w.1) in
+      let u = and_parts (w.0.echo == 0 || is_stream g w.0.echo) _ t.1 in
       let same : l.echo ≡ w.0.echo = ap (λ (m : Link). m.echo) w.2 in
       let other : (w.0.echo == 0) ≡ false = grind (arith, common_steps, same, z) in
       some-stream g l.echo ∙ ap (is_stream g) same
@@ -75,18 +68,16 @@ module _ (g : Glk) (v : AreValid g) where
       → live_stream (links g win) ≡ Some n
   named-by e n win h =
       let s = stream-of-owner (streams.stream_at g.streams n) win h in
-      let t = and_parts (is_named_by g s.0.number s.0.target)
-      (is_plain_stream s.0 && comes_to_an_end g s.0.number) (stream-fit e n s.0 s.1) in
+      let t = and_parts (is_named_by g s.0.number s.0.target) _ (stream-fit e n s.0 s.1) in
       let is = number-found streams.stream_number g.streams.streams n s.0 s.1 in
       named-stream g win s.0.number (named-target g s.0.number win s.0.target s.2 t.0) ∙ ap Some is
 
   plain-by : streams_fit g ≡ true → (n : ℕ) (e : End) → stream_ends g n ≡ Some e → e.is_plain ≡ true
   plain-by e n x h =
       let s = stream-of-end (streams.stream_at g.streams n) x h in
-      let t = and_parts (is_named_by g s.0.number s.0.target)
-      (is_plain_stream s.0 && comes_to_an_end g s.0.number) (stream-fit e n s.0 s.1) in
+      let t = and_parts (is_named_by g s.0.number s.0.target) _ (stream-fit e n s.0 s.1) in
       ap (λ (y : End). y.is_plain) s.2
-      ∙ (and_parts (is_plain_stream s.0) (comes_to_an_end g s.0.number) t.1).0
+      ∙ (and_parts (is_plain_stream s.0) _ t.1).0
 
   ends-by : streams_fit g ≡ true → HasNoLoop (next_echo (links g) (stream_ends g))
   ends-by e n = by-stream (streams.stream_at g.streams n) refl
@@ -95,8 +86,7 @@ module _ (g : Glk) (v : AreValid g) where
           → ComesToAnEnd (next_echo (links g) (stream_ends g)) n
       by-stream None h = no-stream g n h
       by-stream (Some s) h =
-          let t = and_parts (is_named_by g s.number s.target)
-          (is_plain_stream s && comes_to_an_end g s.number) (stream-fit e n s h) in
+          let t = and_parts (is_named_by g s.number s.target) _ (stream-fit e n s h) in
           let is = number-found streams.stream_number g.streams.streams n s h in
           record {
             steps = length g.windows.slots + 1;
@@ -104,7 +94,7 @@ module _ (g : Glk) (v : AreValid g) where
                 sym (over-same (echo_from g) (next_echo (links g) (stream_ends g)) (echo-next g v)
                 (length g.windows.slots + 1) n)
                 ∙ sym (ap (comes_to_an_end g) is)
-                ∙ (and_parts (is_plain_stream s) (comes_to_an_end g s.number) t.1).1;
+                ∙ (and_parts (is_plain_stream s) _ t.1).1;
           }
 
   fit-linked : windows_fit g ≡ true → streams_fit g ≡ true → AreLinked (links g) (stream_ends g)
@@ -127,19 +117,15 @@ module _ (g : Glk) (v : AreValid g) where
       → tree.window_at g.windows.slots n ≡ Some w
       → has request.input_window_number g.requests n ≡ true
   has-window e n w h =
-      let t = and_parts (is_owned g w.number w.stream)
-      ((w.echo == 0 || is_stream g w.echo) && has request.input_window_number g.requests w.number)
-      (window-fit g v e n w h) in
-      let u = and_parts (w.echo == 0 || is_stream g w.echo)
-      (has request.input_window_number g.requests w.number) t.1 in
+      let t = and_parts (is_owned g w.number w.stream) _ (window-fit g v e n w h) in
+      let u = and_parts (w.echo == 0 || is_stream g w.echo) _ t.1 in
       let is = number-found tree.window_number g.windows.slots n w h in
       sym (ap (has request.input_window_number g.requests) is) ∙ u.1
 
   has-entry : entries_fit g ≡ true → (n : ℕ) (w : WindowInput)
       → found request.input_window_number g.requests n ≡ Some w → has_window g n ≡ true
   has-entry e n w h =
-      let t = and_parts (has_window g w.win) (not (is_some w.request) || may_ask g w.win)
-      (entry-fit e n w h) in
+      let t = and_parts (has_window g w.win) _ (entry-fit e n w h) in
       let is = number-found request.input_window_number g.requests n w h in
       sym (ap (has_window g) is) ∙ t.0
 
@@ -178,8 +164,7 @@ module _ (g : Glk) (v : AreValid g) where
           let c : true ≡ false = sym i ∙ ap is_some (request-found g.requests n
           ∙ ap request_in h) in absurd cc
       by-entry (Some w) h =
-          let t = and_parts (has_window g w.win) (not (is_some w.request) || may_ask g w.win)
-          (entry-fit e n w h) in
+          let t = and_parts (has_window g w.win) _ (entry-fit e n w h) in
           let is = number-found request.input_window_number g.requests n w h in
           let asks : is_some w.request ≡ true = sym (ap is_some (request-found g.requests n
           ∙ ap request_in h)) ∙ i in
@@ -210,13 +195,9 @@ module _ (g : Glk) (v : AreValid g) (k : AreLinked (links g) (stream_ends g)) (a
   window-fits w h =
       let live : has_window g w.number ≡ true =
       has-found tree.window_number g.windows.slots w.number ∙ ap is_some h in
-      and_from (is_owned g w.number w.stream)
-      ((w.echo == 0 || is_stream g w.echo) && has request.input_window_number g.requests w.number)
-      (owner-owned (streams.stream_at g.streams w.stream) w.number
+      and_from _ _ (owner-owned (streams.stream_at g.streams w.stream) w.number
       (k.streams w.number (window_link w) (link-of w h)))
-      (and_from (w.echo == 0 || is_stream g w.echo)
-      (has request.input_window_number g.requests w.number)
-      (echo-fits w h) (a.listed w.number ∙ live))
+      (and_from _ _ (echo-fits w h) (a.listed w.number ∙ live))
 
   -- where an echo goes on, a window has it
   goes-on : (n : ℕ) → next_echo (links g) (stream_ends g) n ≢ 0
@@ -242,19 +223,16 @@ module _ (g : Glk) (v : AreValid g) (k : AreLinked (links g) (stream_ends g)) (a
       → stream_fits g s ≡ true
   stream-fits s h =
       let here : stream_ends g s.number ≡ Some (stream_end s) = ap (option_map stream_end) h in
-      and_from (is_named_by g s.number s.target) (is_plain_stream s && comes_to_an_end g s.number)
-      (target-named g s.number s.target (λ win e. stream-named g win s.number
+      and_from _ _ (target-named g s.number s.target (λ win e. stream-named g win s.number
       (k.windows s.number win (ap owner here ∙ e))))
-      (and_from (is_plain_stream s) (comes_to_an_end g s.number)
-      (k.plain s.number (stream_end s) here) (ends-fit s.number))
+      (and_from _ _ (k.plain s.number (stream_end s) here) (ends-fit s.number))
 
   entry-fits : (w : WindowInput) → found request.input_window_number g.requests w.win ≡ Some w
       → entry_fits g w ≡ true
   entry-fits w h =
       let there : has request.input_window_number g.requests w.win ≡ true =
       has-found request.input_window_number g.requests w.win ∙ ap is_some h in
-      and_from (has_window g w.win) (not (is_some w.request) || may_ask g w.win)
-      (sym (a.listed w.win) ∙ there) (by-request (is_some w.request) refl)
+      and_from _ _ (sym (a.listed w.win) ∙ there) (by-request (is_some w.request) refl)
     where
       by-request : (b : Bool) → is_some w.request ≡ b
           → (not (is_some w.request) || may_ask g w.win) ≡ true
@@ -266,14 +244,12 @@ module _ (g : Glk) (v : AreValid g) (k : AreLinked (links g) (stream_ends g)) (a
   parts-fit : parts_fit g ≡ true
   unfolding wvalid.IsOrdered
   parts-fit =
-      let entries = and_parts (ascends request.input_window_number 0 4294967295 g.requests)
-      (ivalid.are_windows g.requests) v.requests in
-      and_from (windows_fit g) (streams_fit g && entries_fit g)
-      (found-all tree.window_number (window_fits g) g.windows.slots 0 g.windows.next
-      (to-ascends g.windows.slots 0 g.windows.next v.windows.ordered) window-fits)
-      (and_from (streams_fit g) (entries_fit g)
-      (found-all streams.stream_number (stream_fits g) g.streams.streams 0 g.streams.next
-      (streams-ascend g v) stream-fits)
+      let entries = and_parts (ascends request.input_window_number 0 4294967295 g.requests) _
+      v.requests in
+      and_from _ _ (found-all tree.window_number (window_fits g) g.windows.slots 0 g.windows.next
+      v.windows.ordered.1 window-fits)
+      (and_from _ _ (found-all streams.stream_number (stream_fits g) g.streams.streams 0
+      g.streams.next (streams-ascend g v) stream-fits)
       (found-all request.input_window_number
       (entry_fits g) g.requests 0 4294967295 entries.0 entry-fits))
 
@@ -282,8 +258,8 @@ module _ (g : Glk) (v : AreValid g) (k : AreLinked (links g) (stream_ends g)) (a
 pub valid-of-fit : (g : Glk) → AreValid g → parts_fit g ≡ true
     → HaveAreas g.windows g.cols g.rows → IsValidGlk g
 valid-of-fit g v e h =
-    let a = and_parts (windows_fit g) (streams_fit g && entries_fit g) e in
-    let b = and_parts (streams_fit g) (entries_fit g) a.1 in
+    let a = and_parts (windows_fit g) _ e in
+    let b = and_parts (streams_fit g) _ a.1 in
     record {
       parts = v;
       linked = fit-linked g v a.0 b.0;

@@ -46,7 +46,7 @@ use Rattle.glk_dispatch.specs.declared.selector.Call.TheVariants.{Output, Style,
 use Rattle.glk_dispatch.specs.declared.selector.Call.TheVariants.{Event, Nothing}
 use Rattle.glk_dispatch.specs.declared.style.StyleCall.{StyleCall}
 use Rattle.glk_dispatch.specs.declared.style.StyleCall.TheVariants as sty
-use Rattle.glk_dispatch.proofs.FoundLemmas.{part-map}
+use Rattle.glk_numbers.proofs.FoundLemmas.{part-map}
 use Rattle.glk_dispatch.proofs.LoopLemmas.{end-go, end-stop}
 use Rattle.glk_dispatch.proofs.StreamLemmas.{styled-more}
 use Rattle.glk_dispatch.proofs.PartLemmas.{kind-kept, valid-alike}

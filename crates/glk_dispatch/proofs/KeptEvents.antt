@@ -1,9 +1,9 @@
 -- The calls of events and input keep what the work of a call keeps.
-use Rattle.std.proofs.Common.{◌≡◌, ℕ, zero, suc, ◌+◌, ◌%◌, ◌^◌, ◌==◌, ◌||◌, ◌&&◌}
-use Rattle.std.proofs.Common.{not, nat_le, Bool, true, false, List, [], ◌∷◌, ◌++◌, length}
+use Rattle.std.proofs.Common.{◌≡◌, ℕ, zero, suc, ◌+◌, ◌%◌, ◌^◌, ◌==◌, ◌&&◌}
+use Rattle.std.proofs.Common.{not, nat_le, Bool, true, List, [], ◌∷◌, ◌++◌, length}
 use Rattle.std.proofs.Common.{length-append, refl, arith, ◌<◌, ◌≤◌, Option, Some, None, Result, Ok}
 use Rattle.std.proofs.Common.{Err, cond, ◌⊎◌, ◌∙◌, inl, inr, is_some}
-use Rattle.std.proofs.lemmas.Bool.{and_parts, eqb-true, leb-true}
+use Rattle.std.proofs.lemmas.Bool.{and_parts, leb-true}
 use Rattle.std.specs.Prelude.{IfOk}
 use Rattle.std.proofs.lemmas.Grind.{common_steps}
 use Rattle.vm_memory.specs.Chaining.{◌>>=◌}
@@ -11,10 +11,9 @@ use Rattle.vm_memory.specs.Access.{read, written}
 use Rattle.vm_memory.specs.Fault.{coded}
 use Rattle.vm_memory.specs.MemoryMap.{MemoryMap, KeepsMap}
 use Rattle.vm_memory.specs.declared.fault.MemFault.{MemFault}
-use Rattle.glk_numbers.specs.Numbered.{has}
 use Rattle.glk_windows.specs.Tree.{window_number}
-use Rattle.glk_windows.specs.Valid.{Ascends, IsOrdered}
-use Rattle.glk_windows.specs.declared.window.Window.{Window as Win}
+use Rattle.glk_windows.specs.Valid.{IsOrdered}
+use Rattle.glk_numbers.proofs.OrderLemmas.{ascends-above, ascends-below}
 use Rattle.glk_input.specs.Delivery as delivery
 use Rattle.glk_input.specs.Request as request
 use Rattle.glk_input.specs.Valid.{are_valid_inputs}
@@ -46,39 +45,15 @@ use Rattle.glk_dispatch.proofs.KeptStreams.{prompted-valid}
 use Rattle.glk_dispatch.proofs.ScreenLemmas.{screen-ready}
 
 -- a live window has a number from 1 on that is below the next one
-range-case : (t : Bool) (w : Win) (ws : List Win) (a z n : ℕ) → (w.number == n) ≡ t
-    → (a ≤ w.number) × (w.number < z)
-    → (t || has window_number ws n) ≡ true
-    → (has window_number ws n ≡ true → (w.number + 1 ≤ n) × (n < z))
-    → (a ≤ n) × (n < z)
-range-case true w ws a z n e o h k =
-    let x : w.number ≡ n = eqb-true w.number n e in
-    let l : a ≤ w.number = o.0 in
-    let u : w.number < z = o.1 in
-    (omega arith, omega arith)
-range-case false w ws a z n e o h k =
-    let r = k h in
-    let l : a ≤ w.number = o.0 in
-    let m : w.number + 1 ≤ n = r.0 in
-    (omega arith, r.1)
-
-ascends-range : (ws : List Win) (a z n : ℕ) → Ascends a ws z → has window_number ws n ≡ true
-    → (a ≤ n) × (n < z)
-unfolding has
-ascends-range [] a z n o e = absurd cc
-ascends-range (w ∷ ws) a z n o e =
-    range-case (w.number == n) w ws a z n refl (o.0, o.1) e
-    (λ h. ascends-range ws (w.number + 1) z n o.2 h)
-
 live-range : (g : Glk) (win : ℕ) → AreValid g → has_window g win ≡ true
     → (0 < win) × (win < 4294967295)
 unfolding IsOrdered
 live-range g win v live =
-    let r = ascends-range g.windows.slots 1 g.windows.next win v.windows.ordered live in
-    let l : 1 ≤ win = r.0 in
-    let u : win < g.windows.next = r.1 in
-    let n : g.windows.next ≤ 4294967295 = v.next in
-    (omega arith, omega arith)
+    let order = v.windows.ordered.1 in
+    let above = ascends-above window_number g.windows.slots 0 g.windows.next win order live in
+    let below = ascends-below window_number g.windows.slots 0 g.windows.next win order live in
+    let most = v.next in
+    (above, omega (arith, below, most))
 
 -- the entry of a live window is there, or begins
 begun-requests : (g : Glk) (win : ℕ) → AreValid g → has_window g win ≡ true

@@ -1,7 +1,7 @@
 -- The call that opens a window keeps what the work of a call keeps.
 use Rattle.std.proofs.Common.{◌≡◌, ℕ, ◌+◌, ◌==◌, ◌||◌, not, nat_lt, nat_le, Bool, true, false}
 use Rattle.std.proofs.Common.{length, refl, cond, sym, subst, inl, inr, arith, ◌<◌, ◌≤◌}
-use Rattle.std.proofs.lemmas.Bool.{both_ways, cond_both, or_parts}
+use Rattle.std.proofs.lemmas.Bool.{both_ways, cond_both, leb-false, ltb-false, or_parts}
 use Rattle.std.proofs.lemmas.Bool.Decides.{nat_tests}
 use Rattle.glk_numbers.specs.declared.numbered.TheConstants.{MAX_NUMBER}
 use Rattle.glk_windows.specs.Arranging as arranging
@@ -65,12 +65,6 @@ fine-case : (more : ℕ) (b : Bool) (x y : tree.WindowTree × ℕ) → IsFine mo
     → (b ≡ false → IsFine more y) → IsFine more (cond b x y)
 fine-case more b x y h k = cond_both b x y (IsFine more) (λ e. h) k
 
-not-above : (n : ℕ) → nat_lt 4294967294 n ≡ false → n ≤ 4294967294
-not-above n e = grind (arith, nat_tests)
-
-not-from : (n : ℕ) → nat_le 4294967294 n ≡ false → n < 4294967294
-not-from n e = grind (arith, nat_tests)
-
 first-fine : (t : tree.WindowTree) (kind rock : ℕ) → t.next ≤ 4294967295
     → IsFine 0 (opening.first_opened t kind rock)
 first-fine t kind rock h =
@@ -79,7 +73,7 @@ first-fine t kind rock h =
     || nat_lt 64 (length t.slots + 1))
     (t, 0) _ (record { next = h; number = omega arith })
     (λ e. let k : t.next ≤ 4294967294 =
-    not-above t.next (or_parts _ (nat_lt 4294967294 t.next) (or_parts _ _ e).0).1 in
+    ltb-false 4294967294 t.next (or_parts _ (nat_lt 4294967294 t.next) (or_parts _ _ e).0).1 in
     record { next = omega arith; number = omega arith })
 
 beside-fine : (t : tree.WindowTree) (split method size kind rock : ℕ) → t.next ≤ 4294967295
@@ -89,7 +83,7 @@ beside-fine t split method size kind rock h =
     (not (opening.is_kind kind) || nat_le 4294967294 t.next || nat_lt 64 (length t.slots + 2))
     (t, 0) _ (record { next = h; number = omega arith })
     (λ e. let k : t.next < 4294967294 =
-    not-from t.next (or_parts _ (nat_le 4294967294 t.next) (or_parts _ _ e).0).1 in
+    leb-false 4294967294 t.next (or_parts _ (nat_le 4294967294 t.next) (or_parts _ _ e).0).1 in
     record { next = omega arith; number = omega arith })
 
 opened-first : (g : Glk) (kind rock : ℕ)

@@ -34,7 +34,7 @@ use Rattle.glk_dispatch.specs.declared.windows.WindowCall.TheVariants as to
 use Rattle.glk_dispatch.proofs.BelowLemmas.{all_dropped-windows}
 use Rattle.glk_dispatch.proofs.CloseLemmas.{links_in}
 use Rattle.glk_dispatch.proofs.ClosingLemmas.{closed-ready}
-use Rattle.glk_dispatch.proofs.FoundLemmas.{part-changed}
+use Rattle.glk_numbers.proofs.FoundLemmas.{part-changed}
 use Rattle.glk_dispatch.proofs.KeptLemmas.{Kept, answers, kept-alone, kept-bind}
 use Rattle.glk_dispatch.proofs.KeptLemmas.{kept-read, kept-row, laws, on, parts-windows, placed-on}
 use Rattle.glk_dispatch.proofs.KeptLemmas.{row, row-needs, self, stands, told, with-streams}

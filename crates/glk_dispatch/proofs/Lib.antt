@@ -1,5 +1,4 @@
 pub mod StepLemmas
-pub mod FoundLemmas
 pub mod LoopLemmas
 pub mod LinkLemmas
 pub mod EchoLemmas

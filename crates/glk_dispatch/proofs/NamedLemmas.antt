@@ -1,9 +1,8 @@
 -- Windows and streams of lists as they name each other.
-use Rattle.std.proofs.Common.{◌≡◌, ◌∙◌, inl, inr, ℕ, ◌==◌, ◌&&◌, Bool, true, false, List, [], ◌∷◌}
+use Rattle.std.proofs.Common.{◌≡◌, ◌∙◌, ℕ, ◌==◌, Bool, true, false, List}
 use Rattle.std.proofs.Common.{refl, sym, ap, arith, Option, Some, None, option_map, is_some}
-use Rattle.std.proofs.Common.{if◌then◌else◌, nat_lt}
 use Rattle.std.specs.List.{list_all}
-use Rattle.std.proofs.lemmas.Bool.{and_from, and_parts, cases_Bool}
+use Rattle.std.proofs.lemmas.Bool.{and_from, and_parts}
 use Rattle.std.proofs.lemmas.Grind.{common_steps}
 use Rattle.glk_numbers.specs.Numbered.{ascends, found}
 use Rattle.glk_windows.specs.Tree as tree
@@ -22,7 +21,8 @@ use Rattle.glk_dispatch.specs.Output.{echo_from}
 use Rattle.glk_dispatch.specs.Valid.{AreValid}
 use Rattle.glk_dispatch.specs.declared.glk.Glk.{Glk}
 use Rattle.glk_dispatch.proofs.EchoLemmas.{echo-link, window-none, window-some}
-use Rattle.glk_dispatch.proofs.FoundLemmas.{found-low, has-found}
+use Rattle.glk_numbers.proofs.EachLemmas.{all-by-number, each-found}
+use Rattle.glk_numbers.proofs.FoundLemmas.{has-found}
 use Rattle.glk_dispatch.proofs.LoopLemmas.{end-go, end-stop}
 
 -- ---- what holds of each of a list by its number
@@ -30,44 +30,11 @@ use Rattle.glk_dispatch.proofs.LoopLemmas.{end-go, end-stop}
 module _ {X : Type 0} (number : X → ℕ) (p : X → Bool) where
   pub all-found : (xs : List X) (n : ℕ) (x : X) → list_all p xs ≡ true → found number xs n ≡ Some x
       → p x ≡ true
-  unfolding found
-  all-found [] n x e h = absurd cc
-  all-found (y ∷ ys) n x e h =
-      let t = and_parts (p y) (list_all p ys) e in
-      elim (cases_Bool (number y == n)) [
-        | inl k ↦
-            let same : ◌≡◌ {A = Option X} (Some y) (Some x) =
-            sym (ap (λ b. if b then Some y else found number ys n) k) ∙ h in
-            let is : y ≡ x = cc in
-            ap p (sym is) ∙ t.0
-        | inr k ↦ all-found ys n x t.1
-            (sym (ap (λ b. if b then Some y else found number ys n) k) ∙ h)
-      ]
-
-  found-first : (y : X) (ys : List X) → found number (y ∷ ys) (number y) ≡ Some y
-  unfolding found
-  found-first y ys = grind (arith, common_steps)
-
-  found-later : (y x : X) (ys : List X) (high : ℕ) → ascends number (number y) high ys ≡ true
-      → found number ys (number x) ≡ Some x → found number (y ∷ ys) (number x) ≡ Some x
-  unfolding found
-  found-later y x ys high a h = elim (cases_Bool (number y == number x)) [
-    | inl k ↦
-        let same : number y ≡ number x = grind (arith, common_steps, k) in
-        let none = found-low number ys (number y) high (number x) a (omega (arith, same)) in
-        let c : ◌≡◌ {A = Option X} None (Some x) = sym none ∙ h in absurd cc
-    | inr k ↦ ap (λ b. if b then Some y else found number ys (number x)) k ∙ h
-  ]
+  all-found xs n x e h = each-found number (list_all p) p refl (λ y ys. refl) xs n x h e
 
   pub found-all : (xs : List X) (low high : ℕ) → ascends number low high xs ≡ true
       → ((x : X) → found number xs (number x) ≡ Some x → p x ≡ true) → list_all p xs ≡ true
-  unfolding ascends
-  found-all [] low high a h = refl
-  found-all (y ∷ ys) low high a h =
-      let t = and_parts (nat_lt low (number y) && nat_lt (number y) high)
-      (ascends number (number y) high ys) a in
-      and_from (p y) (list_all p ys) (h y (found-first y ys))
-      (found-all ys (number y) high t.1 (λ x e. h x (found-later y x ys high t.1 e)))
+  found-all = all-by-number number (list_all p) p refl (λ y ys. refl)
 
 -- ---- one window or stream, as it is named
 

@@ -1,7 +1,7 @@
 -- A window that is opened, with its stream and its entry for input.
 use Rattle.std.proofs.Common.{◌≡◌, ℕ, ◌+◌, ◌==◌, nat_lt, Bool, true, false, List, [], ◌∷◌, ◌++◌}
 use Rattle.std.proofs.Common.{length, refl, sym, ap, ◌∙◌, arith, subst, cond, Option, Some, None}
-use Rattle.std.proofs.Common.{option_map, ◌≤◌, ◌<◌, if◌then◌else◌}
+use Rattle.std.proofs.Common.{option_map, ◌≤◌, if◌then◌else◌}
 use Rattle.std.proofs.lemmas.Bool.{cond_both, eq-eqb, ne_eqb}
 use Rattle.std.proofs.lemmas.Grind.{common_steps}
 use Rattle.glk_numbers.specs.Numbered.{found}
@@ -34,7 +34,7 @@ use Rattle.glk_dispatch.specs.declared.glk.Glk.{Glk}
 use Rattle.glk_dispatch.proofs.AskLemmas.{AskedBy, asked-by, asked-more, asked-of, asked-same}
 use Rattle.glk_dispatch.proofs.AskLemmas.{with_link}
 use Rattle.glk_dispatch.proofs.CloseLemmas.{ends_in, links_in}
-use Rattle.glk_dispatch.proofs.FoundLemmas.{found-added, found-changed, found-high}
+use Rattle.glk_numbers.proofs.FoundLemmas.{found-added, found-changed, found-high}
 use Rattle.glk_dispatch.proofs.LinkLemmas.{linked-opened, linked-same}
 use Rattle.glk_dispatch.proofs.PartLemmas.{Alike}
 use Rattle.glk_dispatch.proofs.EchoLemmas.{streams-ascend}
@@ -94,16 +94,6 @@ placed-valid g parts windows b =
       asked = asked-of (with_rectangles g) c.asked;
       areas = places_windows.gives g.windows g.cols g.rows windows;
     }
-
-no-later : (ws : List Window) (a z m : ℕ) → wvalid.Ascends a ws z → z ≤ m
-    → found tree.window_number ws m ≡ None
-unfolding found
-no-later [] a z m o l = refl
-no-later (w ∷ ws) a z m o l =
-    let high : w.number < z = o.1 in
-    let not : (w.number == m) ≡ false = grind (arith, common_steps, high, l) in
-    ap (λ b. cond b (Some w) (found tree.window_number ws m)) not
-    ∙ no-later ws (w.number + 1) z m o.2 l
 
 -- a window of this kind with its stream, that echoes nowhere
 abbrev pub new_link : ℕ → ℕ → Link
@@ -196,7 +186,8 @@ begun-is g win e = rw e refl
 pub no-window-yet : (g : Glk) (n : ℕ) → AreValid g → g.windows.next ≤ n
     → found tree.window_number g.windows.slots n ≡ None
 unfolding wvalid.IsOrdered
-no-window-yet g n v h = no-later g.windows.slots 1 g.windows.next n v.windows.ordered h
+no-window-yet g n v h =
+    found-high tree.window_number g.windows.slots 0 g.windows.next n v.windows.ordered.1 h
 
 pub no-stream-yet : (g : Glk) (n : ℕ) → AreValid g → g.streams.next ≤ n
     → found streams.stream_number g.streams.streams n ≡ None
@@ -224,18 +215,9 @@ first-beside g w next root v n echo =
     (more-beside (links g) (stream_ends g) g.requests w.number b (reading.kind_in w.content)
     (ap (option_map window_link) new) (ap (option_map stream_end) free) (beside-of g v))
 
-ascends-le : (ws : List Window) (a z : ℕ) → wvalid.Ascends a ws z → a ≤ z
-ascends-le [] a z o = o
-ascends-le (w ∷ ws) a z o =
-    let x : a ≤ w.number = o.0 in
-    let y : w.number < z = o.1 in
-    omega (arith, x, y)
-
 pub next-there : (g : Glk) → AreValid g → (g.windows.next == 0) ≡ false
 unfolding wvalid.IsOrdered
-next-there g v =
-    let x : 1 ≤ g.windows.next = ascends-le g.windows.slots 1 g.windows.next v.windows.ordered in
-    grind (arith, common_steps, x)
+next-there g v = let some = v.windows.ordered.0 in grind (arith, common_steps, some)
 
 -- a state with its number, where that isn't 0
 pub made-if : (b : Bool) (x y : Glk × ℕ) → b ≡ false → AreValid (cond b x y).0

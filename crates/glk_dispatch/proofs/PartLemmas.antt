@@ -34,8 +34,8 @@ use Rattle.glk_dispatch.specs.declared.glk.Glk.{Glk}
 use Rattle.glk_dispatch.specs.Links.{Link, AreLinked, window_link}
 use Rattle.glk_dispatch.specs.Links.{stream_end, links, stream_ends, owner}
 use Rattle.glk_dispatch.specs.Valid.{IsValidGlk, AreAsked}
-use Rattle.glk_dispatch.proofs.FoundLemmas.{found-map, found-without, has-found, part-changed}
-use Rattle.glk_dispatch.proofs.FoundLemmas.{part-replaced}
+use Rattle.glk_numbers.proofs.FoundLemmas.{found-map, found-without, has-found, part-changed}
+use Rattle.glk_numbers.proofs.FoundLemmas.{part-replaced}
 use Rattle.glk_dispatch.proofs.LinkLemmas.{Same, linked-same, linked-closed, unechoed}
 use Rattle.glk_dispatch.proofs.EchoLemmas.{streams-ascend}
 

@@ -26,7 +26,7 @@ use Rattle.glk_dispatch.specs.Links.{AreLinked, End, Ends, Links, echo_by}
 use Rattle.glk_dispatch.specs.Links.{stream_end, stream_ends, links, next_echo, owner}
 use Rattle.glk_dispatch.specs.declared.glk.Glk.{Glk}
 use Rattle.glk_dispatch.proofs.CloseLemmas.{ends_in}
-use Rattle.glk_dispatch.proofs.FoundLemmas.{found-added, found-high, part-replaced}
+use Rattle.glk_numbers.proofs.FoundLemmas.{found-added, found-high, part-replaced}
 use Rattle.glk_dispatch.proofs.LoopLemmas.{no_loop-fewer}
 
 -- a stream that is no window's

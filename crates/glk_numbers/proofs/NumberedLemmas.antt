@@ -4,6 +4,7 @@ use Rattle.std.proofs.Common.{slice_index_or, true, false}
 use Rattle.std.proofs.lemmas.Grind.{common_steps}
 use Rattle.glk_numbers.specs.Numbered.{place_of, changed_at, number_above}
 use Rattle.glk_numbers.specs.Numbered.{ascends, has, IsLeastAbove}
+use Rattle.glk_numbers.proofs.OrderLemmas.{ascends-above}
 
 pub changed_at-none : {X : Type 0} (number : X → ℕ) (f : X → X) (xs : List X) (n : ℕ)
     → None ≡ place_of number xs n → xs ≡ changed_at number f xs n
@@ -18,14 +19,6 @@ unfolding changed_at place_of
 changed_at-some number f [] n i d v e h = absurd (grind (arith, e))
 changed_at-some number f (x ∷ xs) n i d v e h =
     grind (arith, common_steps, changed_at-some number f xs n)
-
--- each number lies above the lower bound
-ascends-above : {X : Type 0} (number : X → ℕ) (low high : ℕ) (xs : List X) (m : ℕ)
-    → ascends number low high xs ≡ true → has number xs m ≡ true → low < m
-unfolding ascends has
-ascends-above number low high [] m a h = absurd cc
-ascends-above number low high (x ∷ xs) m a h =
-    grind (arith, common_steps, ascends-above number (number x) high xs m)
 
 after-none : {X : Type 0} (number : X → ℕ) (low high : ℕ) (xs : List X) (n m : ℕ)
     → ascends number low high xs ≡ true
@@ -57,7 +50,7 @@ after-first number low high (x ∷ xs) n m a l h =
     grind (
       arith,
       common_steps,
-      ascends-above number (number x) high xs m,
+      ascends-above number xs (number x) high m,
       after-first number
           (number x) high xs n m,
     )

@@ -9,7 +9,6 @@ use Rattle.std.specs.declared.cmp.Ordering.TheVariants.{Less, Equal, Greater}
 use Rattle.std.specs.Cmp.Lexicographic.{slice_cmp, nat_list_cmp_total}
 use Rattle.glk_numbers.specs.Numbered.{found, changed_at, without}
 pub use Rattle.glk_numbers.proofs.FoundLemmas.{number-found}
-pub use Rattle.glk_numbers.proofs.OrderLemmas.{ascends-without}
 use Rattle.glk_streams.specs.declared.file.File.{File}
 use Rattle.glk_streams.specs.declared.stream.Stream.{Stream}
 use Rattle.glk_streams.specs.Files.{key_of_file, file_key, is_named, stands_before}

@@ -196,7 +196,7 @@ key-tree t n key x (Some s, h, k) o l up pn =
     let cn : 0 < times_reached s n = omega (arith, once_at _ _ x l (h.2 n)) in
     let dd : (m : ℕ) → times_reached s m ≤ 1 = λ m. once_le _ _ (h.2 m) in
     let z : times_reached s 0 ≡ 0 =
-    h.2 0 ∙ ap (λ o. if is_some o then 1 else 0) (node_lower 1 t.slots t.next 0 o (omega arith)) in
+    h.2 0 ∙ ap (λ o. if is_some o then 1 else 0) (node_lower 0 t.slots t.next 0 o (omega arith)) in
     let tb : _ = spells_below t.slots n s 0 h.1 cn in
     let ck : 0 < times_reached (below n s) key =
     way-up (length t.slots) t.slots n s key h.1 dd h.2 z cn up in
@@ -291,7 +291,7 @@ key-below t n key x (Some s, h, k) o l p e =
     let ws : List Window = t.slots in
     let cn : 0 < times_reached s n = omega (arith, once_at _ _ x l (h.2 n)) in
     let tb : _ = spells_below ws n s 0 h.1 cn in
-    let sz : tree_size s ≡ length ws = size_length 1 ws t.next 0 s o h.1 h.2 in
+    let sz : tree_size s ≡ length ws = size_length 0 ws t.next 0 s o h.1 h.2 in
     let f : has_leaf (below n s) key ≡ true =
     ap (λ y. has_leaf (below n y) key) (sym (tree_found t s o h)) ∙ e in
     let up : is_below (length ws) ws key n ≡ true =

@@ -10,7 +10,7 @@ use Rattle.glk_windows.specs.Tree.{WindowTree, pair_of, parent_of}
 use Rattle.glk_windows.specs.Closing.{windows_without, removed, raised}
 use Rattle.glk_windows.specs.Closing.{lifted, close, sibling_lifted}
 use Rattle.glk_windows.specs.Reading.{other_window as sibling}
-use Rattle.glk_windows.specs.Valid.{Ascends, IsOrdered}
+use Rattle.glk_windows.specs.Valid.{IsOrdered}
 use Rattle.glk_windows.specs.OneTree.{Shape, Leaf, Fork, top, times_reached}
 use Rattle.glk_windows.specs.OneTree.{pair_without_key, node_of, SpellsTree, IsTree}
 use Rattle.glk_windows.specs.OneTree.{tree_size, below, tree_without, pair_above}
@@ -19,7 +19,7 @@ use Rattle.glk_windows.proofs.CutLemmas.{node_lower, node_removed}
 use Rattle.glk_windows.proofs.CutLemmas.{node_closed, node_pair, size_length}
 use Rattle.glk_windows.proofs.LiftLemmas.{Cuts, count_below, count_cut, outside, relift, spells_cut}
 use Rattle.glk_windows.proofs.LiftLemmas.{top_cut}
-use Rattle.glk_windows.proofs.OrderLemmas.{ascends-removed}
+use Rattle.glk_windows.proofs.OrderLemmas.{Ascends, ascends-removed}
 
 pub spells_below : (ws : List Window) (n : ℕ) (s : Shape) (up : ℕ)
     → SpellsTree ws up s → 0 < times_reached s n
@@ -55,9 +55,9 @@ node_rest t s n x o h live m =
     let c0 : 0 < times_reached s n = omega (arith, once_at _ _ x live (h.2 n)) in
     let sb : (top (below n s) ≡ n) × SpellsTree ws (parent_of ws n) (below n s) =
     spells_below ws n s 0 h.1 c0 in
-    let sz : tree_size s ≡ length ws = size_length 1 ws t.next 0 s o h.1 h.2 in
+    let sz : tree_size s ≡ length ws = size_length 0 ws t.next 0 s o h.1 h.2 in
     ap (λ j. node_of (removed (length ws) ws j) m) (sym sb.0)
-    ∙ node_removed (length ws) (below n s) ws (parent_of ws n) 1 t.next
+    ∙ node_removed (length ws) (below n s) ws (parent_of ws n) 0 t.next
     (omega (arith, size_below n s, sz)) o sb.1
     (λ k. omega (arith, count_below n s k, once_le _ _ (h.2 k))) m
 
@@ -75,12 +75,12 @@ pair_rest t s n x o h live hn =
     grind (arith, common_steps)
 
 -- what a list says after the lifting
-node-raised : (ws : List Window) (z pair other above m : ℕ) → Ascends 1 ws z
+node-raised : (ws : List Window) (z pair other above m : ℕ) → Ascends 0 ws z
     → node_of (raised ws pair other above) m
     ≡ option_map (relift pair other above m) (if m == pair then None else node_of ws m)
 node-raised ws z pair other above m o =
     node_relinked (windows_without ws pair) other above above pair other m
-    ∙ ap (option_map (relift pair other above m)) (node_closed 1 ws z pair m o)
+    ∙ ap (option_map (relift pair other above m)) (node_closed 0 ws z pair m o)
 
 lift-of : (o : Option p.Pair) (r : p.Pair)
     → option_map pair_without_key o ≡ Some r
@@ -130,7 +130,7 @@ tree_close t s n x o h live hn =
     let np2 : node_of w2 pair ≡ Some (parent_of ws pair, Some (pair_above n s)) =
     pair_rest t s n x o h live hn in
     let ab : parent_of ws pair ≡ above = node_parent w2 pair _ np2 in
-    let o2 : Ascends 1 w2 t.next = ascends-removed d 1 ws t.next n o in
+    let o2 : Ascends 0 w2 t.next = ascends-removed d 0 ws t.next n o in
     let nv : (m : ℕ)
     → node_of vs m
     ≡ option_map (relift pair other above m) (if m == pair then None else node_of w2 m) =
@@ -147,7 +147,7 @@ tree_close t s n x o h live hn =
           sibling y n) (sym (pair-is (u, Some q) (parent_of ws pair, Some (pair_above n s)) q
           (pair_above n s) (sym l ∙ ap (node_of ws) e ∙ o1) refl refl));
     } in
-    let lo : pair < 1 → node_of ws pair ≡ None = node_lower 1 ws t.next pair o in
+    let lo : pair ≤ 0 → node_of ws pair ≡ None = node_lower 0 ws t.next pair o in
     let pz : (pair == 0) ≡ false = grind (arith, common_steps) in
     let e0 : t.root ≡ top s = h.0 in
     let tc : top (tree_without n s) ≡ (if top s == pair then other else top s) =

@@ -12,11 +12,13 @@ use Rattle.glk_windows.specs.Tree.{pair_of, pair_content, parent_of}
 use Rattle.glk_windows.specs.Closing.{windows_without, forgotten}
 use Rattle.glk_windows.specs.Closing.{content_unkeyed, removed, both, close}
 use Rattle.glk_numbers.specs.Numbered.{found, without}
-use Rattle.glk_windows.specs.Valid.{Ascends, IsOrdered}
+use Rattle.glk_numbers.proofs.FoundLemmas.{found-low}
+use Rattle.glk_windows.specs.Valid.{IsOrdered}
 use Rattle.glk_windows.specs.OneTree.{Shape, Leaf, Fork, top, times_reached, pair_without_key}
 use Rattle.glk_windows.specs.OneTree.{node_of, SpellsTree, Once, IsTree, tree_size}
-use Rattle.glk_windows.proofs.OneTreeLemmas.{count_top, once_le, spells_top, node_parent}
-use Rattle.glk_windows.proofs.OrderLemmas.{ascends-closed, ascends-removed}
+use Rattle.glk_windows.proofs.OneTreeLemmas.{count_top, once_le, spells_top, node_none, node_parent}
+use Rattle.glk_windows.proofs.OrderLemmas.{Ascends, ascends-behind, ascends-closed}
+use Rattle.glk_windows.proofs.OrderLemmas.{ascends-removed}
 
 content-unkeyed : (c : Content) (n : ℕ)
     → option_map pair_without_key (pair_content (content_unkeyed n c))
@@ -31,20 +33,17 @@ node_forgotten (w ∷ ws) n s m =
     let k : _ = node_forgotten ws n s m in
     grind (arith, common_steps)
 
-pub node_lower : (a : ℕ) (ws : List Window) (z m : ℕ) → Ascends a ws z → m < a → node_of ws m ≡ None
-node_lower a [] z m o h = refl
-node_lower a (w ∷ ws) z m o h =
-    let i : a ≤ w.number = o.0 in
-    let k : _ = node_lower (w.number + 1) ws z m o.2 (omega arith) in
-    grind (arith, common_steps)
+pub node_lower : (a : ℕ) (ws : List Window) (z m : ℕ) → Ascends a ws z → m ≤ a → node_of ws m ≡ None
+node_lower a ws z m o h = node_none ws m (found-low window_number ws a z m o.1 h)
 
 pub node_without : (a : ℕ) (ws : List Window) (z n m : ℕ) → Ascends a ws z
     → node_of (without window_number ws n) m ≡ (if m == n then None else node_of ws m)
 unfolding without
 node_without a [] z n m o = grind (arith, common_steps)
 node_without a (w ∷ ws) z n m o =
-    let i : m < w.number + 1 → node_of ws m ≡ None = node_lower (w.number + 1) ws z m o.2 in
-    let k : _ = node_without (w.number + 1) ws z n m o.2 in
+    let b = ascends-behind a w ws z o in
+    let i : m ≤ w.number → node_of ws m ≡ None = node_lower w.number ws z m b in
+    let k : _ = node_without w.number ws z n m b in
     grind (arith, common_steps)
 
 pub node_closed : (a : ℕ) (ws : List Window) (z n m : ℕ) → Ascends a ws z
@@ -148,8 +147,9 @@ pub tally_leaf : (a : ℕ) (ws : List Window) (z n : ℕ) → Ascends a ws z
     → tally ws (Leaf n) ≡ (if is_some (node_of ws n) then 1 else 0)
 tally_leaf a [] z n o = refl
 tally_leaf a (w ∷ ws) z n o =
-    let i : n < w.number + 1 → node_of ws n ≡ None = node_lower (w.number + 1) ws z n o.2 in
-    let k : _ = tally_leaf (w.number + 1) ws z n o.2 in
+    let b = ascends-behind a w ws z o in
+    let i : n ≤ w.number → node_of ws n ≡ None = node_lower w.number ws z n b in
+    let k : _ = tally_leaf w.number ws z n b in
     grind (arith, common_steps)
 
 pub tally_fork : (ws : List Window) (n : ℕ) (p : p.Pair) (a b : Shape)
@@ -211,8 +211,8 @@ pub tree_close-root : (t : WindowTree) (s : Shape)
 unfolding IsOrdered
 tree_close-root t s o h =
     let i : removed (length t.slots) t.slots (top s) ≡ [] = nil_of _ (λ m. gone _ _ _ (h.2 m)
-    (node_removed (length t.slots) s t.slots 0 1 t.next
-    (omega (arith, size_length 1 t.slots t.next 0 s o h.1 h.2)) o h.1
+    (node_removed (length t.slots) s t.slots 0 0 t.next
+    (omega (arith, size_length 0 t.slots t.next 0 s o h.1 h.2)) o h.1
     (λ k. once_le _ _ (h.2 k)) m)) in
     let k : 0 ≡ parent_of t.slots (top s) =
     node_parent t.slots (top s) _ (spells_top t.slots s 0 h.1) in

@@ -1,32 +1,27 @@
 -- The tests of windows that are made again from what was kept of them.
 use native.Mathlib.Numerals.{unary_clauses}
 use Rattle.std.proofs.Common.{◌≡◌, ◌∙◌, ℕ, zero, suc, ◌+◌, ◌-◌, ◌<◌, ◌≤◌, ◌==◌, ◌&&◌, not, nat_le}
-use Rattle.std.proofs.Common.{nat_lt, Bool, true, false, List, [], ◌∷◌, length, Option, Some, None}
+use Rattle.std.proofs.Common.{true, false, List, [], ◌∷◌, length, Option, Some, None}
 use Rattle.std.proofs.Common.{arith, refl, sym, ap, inl, inr, is_some, option_map}
-use Rattle.std.proofs.lemmas.Bool.{and_from, and_parts, cases_Bool}
+use Rattle.std.proofs.lemmas.Bool.{and_from, and_parts, cases_Bool, eqb-true, le-leb}
+use Rattle.std.proofs.lemmas.Bool.{leb-true}
 use Rattle.std.proofs.lemmas.Bool.Decides.{nat_tests}
 use Rattle.std.proofs.lemmas.Grind.{common_steps}
-use Rattle.glk_numbers.specs.Numbered.{ascends, found}
 use Rattle.glk_windows.specs.Fields.{IsRest, is_ordered, is_valid_tree}
-use Rattle.glk_windows.specs.OneTree.{Shape, Leaf, Fork, are_keyed, pair_without_key}
+use Rattle.glk_windows.specs.OneTree.{Shape, Leaf, Fork, pair_without_key}
 use Rattle.glk_windows.specs.OneTree.{bare_in, times_reached, is_tree_spelled, is_under}
 use Rattle.glk_windows.specs.OneTree.{pair_key, no_pair, node_of, once, shape_of}
-use Rattle.glk_windows.specs.OneTree.{tree_size, shape_with, tested, top, tree_of, key_in}
-use Rattle.glk_windows.specs.Tree.{WindowTree, window_number, pair_in}
+use Rattle.glk_windows.specs.OneTree.{tree_size, shape_with, tested, top, key_in}
+use Rattle.glk_windows.specs.Tree.{WindowTree, pair_in}
 use Rattle.glk_windows.specs.Tree.{pair_of, read_window, window_at}
-use Rattle.glk_windows.specs.Valid.{Ascends, IsOrdered, IsValidTree, are_sound_windows, is_one_tree}
+use Rattle.glk_windows.specs.Valid.{IsOrdered, IsValidTree, are_sound_windows, is_one_tree}
 use Rattle.glk_windows.specs.declared.window.Pair as p
 use Rattle.glk_windows.specs.declared.window.Window.{Window}
 use Rattle.glk_windows.proofs.CutLemmas.{tally, tally_fork}
+use Rattle.glk_windows.proofs.OneTreeLemmas.{node_window}
 use Rattle.glk_windows.proofs.TestLemmas.{top_shape}
 
 -- ---- what a list has at a number
-
-pub node_window : (ws : List Window) (n : ℕ)
-    → node_of ws n ≡ option_map (λ w. (w.parent, bare_in w)) (window_at ws n)
-unfolding found
-node_window [] n = refl
-node_window (w ∷ ws) n = grind (arith, common_steps, node_window ws n)
 
 pub shape_leaf : (d : ℕ) (ws : List Window) (n : ℕ) → pair_of ws n ≡ None
     → shape_of d ws n ≡ Leaf n
@@ -61,9 +56,14 @@ size_some (Fork n q a b) = omega arith
 -- a tree that is there has its top there
 tested_top : (ws : List Window) (up : ℕ) (s : Shape) → tested ws up s ≡ true
     → is_under up (node_of ws (top s)) ≡ true
-tested_top ws up (Leaf n) e = (and_parts (is_under up (node_of ws n)) (no_pair (node_of ws n)) e).0
-tested_top ws up (Fork n q a b) e =
-    (and_parts (is_under up (node_of ws n)) (tested ws n a && tested ws n b) e).0
+tested_top ws up (Leaf n) e = (and_parts (is_under up (node_of ws n)) _ e).0
+tested_top ws up (Fork n q a b) e = (and_parts (is_under up (node_of ws n)) _ e).0
+
+-- and its two parts are there
+tested_parts : (ws : List Window) (up n : ℕ) (q : p.Pair) (a b : Shape)
+    → tested ws up (Fork n q a b) ≡ true → (tested ws n a ≡ true) × (tested ws n b ≡ true)
+tested_parts ws up n q a b e =
+    and_parts (tested ws n a) _ (and_parts (is_under up (node_of ws n)) _ e).1
 
 pub rest-full : (ws : List Window) (up : ℕ) (s : Shape) (most : ℕ) → most ≡ 0
     → IsRest ws up s most None
@@ -84,9 +84,8 @@ leaf-there : (o : Option Window) (x : Option (ℕ × Option p.Pair)) (up : ℕ)
 leaf-there None x up e u h =
     let c : is_under up None ≡ true = ap (is_under up) (sym e) ∙ u in absurd cc
 leaf-there (Some w) x up e u h =
-    let none : x ≡ Some (w.parent, None) =
-    e ∙ ap (λ q. Some (w.parent, option_map pair_without_key q)) h in
-    and_from (is_under up x) (no_pair x) u (ap no_pair none)
+    and_from _ _ u
+    (ap no_pair (e ∙ ap (λ q. Some (w.parent, option_map pair_without_key q)) h))
 
 pair-there : (o : Option Window) (x : Option (ℕ × Option p.Pair)) (q : p.Pair)
     → x ≡ option_map (λ w. (w.parent, bare_in w)) o → read_window None pair_in o ≡ Some q
@@ -106,29 +105,25 @@ pub rest-cut : (ws : List Window) (up d n most : ℕ) (q : p.Pair) → d ≡ 0 �
     → IsRest ws up (shape_of d ws n) most None
 rest-cut ws up d n most q z h =
     rw (shape_end d ws n z) (λ t.
-    let c : true ≡ false = sym (and_parts (is_under up (node_of ws n)) (no_pair (node_of ws n)) t).1
+    let c : true ≡ false = sym (and_parts (is_under up (node_of ws n)) _ t).1
     ∙ pair-there (window_at ws n) (node_of ws n) q (node_window ws n) h in absurd cc)
 
 rest-first : (ws : List Window) (up n most : ℕ) (q : p.Pair) (a b : Shape) → 0 < most
     → IsRest ws n a (most - 1) None → IsRest ws up (Fork n q a b) most None
 rest-first ws up n most q a b m r t =
-    let l = r (and_parts (tested ws n a) (tested ws n b)
-    (and_parts (is_under up (node_of ws n)) (tested ws n a && tested ws n b) t).1).0 in
-    omega (arith, l)
+    let l = r (tested_parts ws up n q a b t).0 in omega (arith, l)
 
 rest-both : (ws : List Window) (up n most left : ℕ) (q : p.Pair) (a b : Shape) (o : Option ℕ)
     → 0 < most → is_under up (node_of ws n) ≡ true → IsRest ws n a (most - 1) (Some left)
     → IsRest ws n b left o → IsRest ws up (Fork n q a b) most o
 rest-both ws up n most left q a b None m u f r = λ t.
-    let l = r (and_parts (tested ws n a) (tested ws n b)
-    (and_parts (is_under up (node_of ws n)) (tested ws n a && tested ws n b) t).1).1 in
+    let l = r (tested_parts ws up n q a b t).1 in
     let k = f.1 in
     omega (arith, l, k)
 rest-both ws up n most left q a b (Some x) m u f r =
     let k = f.1 in
     let l = r.1 in (
-      and_from (is_under up (node_of ws n)) (tested ws n a && tested ws n b) u
-          (and_from (tested ws n a) (tested ws n b) f.0 r.0),
+      and_from _ _ u (and_from _ _ f.0 r.0),
       omega (arith, k, l),
     )
 
@@ -160,8 +155,7 @@ met-size : (ws : List Window) (up : ℕ) (s : Shape) → tested ws up s ≡ true
     → tree_size s ≤ tally ws s
 met-size ws up (Leaf n) e = met-leaf ws n up (tested_top ws up (Leaf n) e)
 met-size ws up (Fork n q a b) e =
-    let t = and_parts (tested ws n a) (tested ws n b)
-    (and_parts (is_under up (node_of ws n)) (tested ws n a && tested ws n b) e).1 in
+    let t = tested_parts ws up n q a b e in
     let here = met-leaf ws n up (tested_top ws up (Fork n q a b) e) in
     let i = met-size ws n a t.0 in
     let j = met-size ws n b t.1 in
@@ -173,15 +167,12 @@ met-once [] s e = refl
 met-once (w ∷ ws) s e =
     let t = and_parts (times_reached s w.number == 1) (once ws s) e in
     let i = met-once ws s t.1 in
-    let one : times_reached s w.number ≡ 1 = grind (arith, nat_tests, t.0) in
-    omega (arith, i, one)
+    omega (arith, i, eqb-true (times_reached s w.number) 1 t.0)
 
 once-size : (ws : List Window) (up : ℕ) (s : Shape) → tested ws up s ≡ true → once ws s ≡ true
     → tree_size s ≤ length ws
 once-size ws up s t e =
-    let a = met-size ws up s t in
-    let b = met-once ws s e in
-    omega (arith, a, b)
+    omega (arith, met-size ws up s t, met-once ws s e)
 
 -- where the list doesn't have the tree, or less of it, it doesn't spell it
 pub spelled-none : (ws : List Window) (s : Shape) (o : Option ℕ) → IsRest ws 0 s (length ws) o
@@ -209,78 +200,34 @@ key_found ws n q e = key-in (window_at ws n) e
 
 -- ---- the numbers ascend
 
-ascends-of : (ws : List Window) (a z : ℕ) → a < z → ascends window_number a z ws ≡ true
-    → Ascends (a + 1) ws z
-unfolding ascends
-ascends-of [] a z l e = omega arith
-ascends-of (w ∷ ws) a z l e =
-    let t = and_parts (nat_lt a w.number && nat_lt w.number z) (ascends window_number w.number z ws)
-    e in
-    let u = and_parts (nat_lt a w.number) (nat_lt w.number z) t.0 in
-    let low : a < w.number = grind (arith, nat_tests, u.0) in
-    let high : w.number < z = grind (arith, nat_tests, u.1) in
-    (omega (arith, low), high, ascends-of ws w.number z high t.1)
-
-to-ascends : (ws : List Window) (a z : ℕ)
-    → Ascends (a + 1) ws z → ascends window_number a z ws ≡ true
-unfolding ascends
-to-ascends [] a z o = refl
-to-ascends (w ∷ ws) a z o =
-    let l = o.0 in
-    let h = o.1 in
-    let low : nat_lt a w.number ≡ true = grind (arith, nat_tests, l) in
-    let high : nat_lt w.number z ≡ true = grind (arith, nat_tests, h) in
-    and_from (nat_lt a w.number && nat_lt w.number z) (ascends window_number w.number z ws)
-    (and_from (nat_lt a w.number) (nat_lt w.number z) low high) (to-ascends ws w.number z o.2)
-
--- the last bound is above the first
-ascends-bounds : (a : ℕ) (ws : List Window) (z : ℕ) → Ascends a ws z → a ≤ z
-ascends-bounds a [] z o = o
-ascends-bounds a (w ∷ ws) z o =
-    let i = ascends-bounds (w.number + 1) ws z o.2 in
-    let l = o.0 in
-    omega (arith, i, l)
-
 ordered-of : (t : WindowTree) → is_ordered t ≡ true → IsOrdered t
 unfolding IsOrdered
 ordered-of t e =
-    let k = and_parts (not (t.next == 0)) (ascends window_number 0 t.next t.slots) e in
-    let l : 0 < t.next = grind (arith, nat_tests, k.0) in
-    ascends-of t.slots 0 t.next l k.1
+    let k = and_parts (not (t.next == 0)) _ e in (grind (arith, nat_tests, k.0), k.1)
 
 to-ordered : (t : WindowTree) → IsOrdered t → is_ordered t ≡ true
 unfolding IsOrdered
 to-ordered t o =
-    let l = ascends-bounds 1 t.slots t.next o in
-    let k : not (t.next == 0) ≡ true = grind (arith, nat_tests, l) in
-    and_from (not (t.next == 0)) (ascends window_number 0 t.next t.slots) k
-    (to-ascends t.slots 0 t.next o)
+    let some = o.0 in
+    and_from (not (t.next == 0)) _ (grind (arith, nat_tests, some)) o.1
 
 -- ---- the test tells what is valid
 
 pub valid-of : (t : WindowTree) → is_valid_tree t ≡ true → IsValidTree t
 valid-of t e =
-    let f : Bool = nat_le (length t.slots) 64 in
-    let k : Bool = are_keyed t.slots (tree_of t) in
-    let a = and_parts (is_ordered t) (f && (are_sound_windows t.slots && (is_one_tree t && k))) e in
-    let b = and_parts f (are_sound_windows t.slots && (is_one_tree t && k)) a.1 in
-    let d = and_parts (are_sound_windows t.slots) (is_one_tree t && k) b.1 in
-    let g = and_parts (is_one_tree t) k d.1 in
+    let a = and_parts (is_ordered t) _ e in
+    let b = and_parts (nat_le (length t.slots) 64) _ a.1 in
+    let d = and_parts (are_sound_windows t.slots) _ b.1 in
+    let g = and_parts (is_one_tree t) _ d.1 in
     record {
       ordered = ordered-of t a.0;
       one_tree = g.0;
       keyed = g.1;
-      few = grind (arith, nat_tests, b.0);
+      few = leb-true (length t.slots) 64 b.0;
       sound = d.0;
     }
 
 pub of-valid : (t : WindowTree) → IsValidTree t → is_valid_tree t ≡ true
 of-valid t v =
-    let f : Bool = nat_le (length t.slots) 64 in
-    let k : Bool = are_keyed t.slots (tree_of t) in
-    let few = v.few in
-    and_from (is_ordered t) (f && (are_sound_windows t.slots && (is_one_tree t && k)))
-    (to-ordered t v.ordered)
-    (and_from f (are_sound_windows t.slots && (is_one_tree t && k)) (grind (arith, nat_tests, few))
-    (and_from (are_sound_windows t.slots) (is_one_tree t && k) v.sound
-    (and_from (is_one_tree t) k v.one_tree v.keyed)))
+    and_from _ _ (to-ordered t v.ordered) (and_from _ _ (le-leb (length t.slots) 64 v.few)
+    (and_from _ _ v.sound (and_from _ _ v.one_tree v.keyed)))

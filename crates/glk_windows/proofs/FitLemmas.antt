@@ -4,6 +4,7 @@ use Rattle.std.proofs.Common.{true}
 use Rattle.std.proofs.lemmas.Bool.{cond_both}
 use Rattle.std.proofs.lemmas.List.{length-map}
 use Rattle.glk_numbers.specs.Numbered.{without}
+use Rattle.glk_numbers.proofs.FoundLemmas.{length-changed, length-left}
 use Rattle.glk_windows.specs.declared.window.Window.{Window}
 use Rattle.glk_windows.specs.declared.window.Area.{Area}
 use Rattle.glk_windows.specs.declared.window.Pair as pairs
@@ -12,15 +13,15 @@ use Rattle.glk_windows.specs.Reading.{other_window as sibling}
 use Rattle.glk_windows.specs.Resizing.{sized}
 use Rattle.glk_windows.specs.Placing.{windows_placed}
 use Rattle.glk_windows.specs.Closing.{windows_without, unlinked, close, sibling_lifted}
-use Rattle.glk_windows.specs.Valid.{Ascends, IsOrdered, IsValidTree, are_sound_windows}
+use Rattle.glk_windows.specs.Valid.{IsOrdered, IsValidTree, are_sound_windows}
 use Rattle.glk_windows.proofs.KeepLemmas.{placed_keeps, removed_keeps}
-use Rattle.glk_windows.proofs.OrderLemmas.{ascends-set_at, ascends-map, ascends-without}
+use Rattle.glk_windows.proofs.OrderLemmas.{Ascends, ascends-set_at, ascends-map}
+use Rattle.glk_windows.proofs.OrderLemmas.{ascends-without}
 use Rattle.glk_windows.proofs.SoundLemmas.{KeepsSound, sound_set_at, sound_map, sound_without}
 use Rattle.glk_windows.proofs.SoundLemmas.{sound_swapped, sound_unkeyed, sound_sized}
-use Rattle.glk_windows.proofs.SoundLemmas.{length_set_at, length_without}
 
 pub record Fit (ws : List Window) (z : ℕ) : Type 0 where
-  pub ordered : Ascends 1 ws z
+  pub ordered : Ascends 0 ws z
   pub few : length ws ≤ 64
   pub sound : are_sound_windows ws ≡ true
 
@@ -31,15 +32,15 @@ fit_of t v = record { ordered = v.ordered; few = v.few; sound = v.sound }
 pub fit_set_at : (f : Window → Window) → ((w : Window) → (f w).number ≡ w.number) → KeepsSound f
     → (ws : List Window) (z n : ℕ) → Fit ws z → Fit (set_at f ws n) z
 fit_set_at f num k ws z n h = record {
-  ordered = ascends-set_at f num 1 ws z n h.ordered;
-  few = omega (arith, length_set_at f ws n, h.few);
+  ordered = ascends-set_at f num 0 ws z n h.ordered;
+  few = omega (arith, length-changed window_number f ws n, h.few);
   sound = sound_set_at f k ws n h.sound;
 }
 
 pub fit_map : (f : Window → Window) → ((w : Window) → (f w).number ≡ w.number) → KeepsSound f
     → (ws : List Window) (z : ℕ) → Fit ws z → Fit (map f ws) z
 fit_map f num k ws z h = record {
-  ordered = ascends-map f num 1 ws z h.ordered;
+  ordered = ascends-map f num 0 ws z h.ordered;
   few = omega (arith, length-map ws f, h.few);
   sound = sound_map f k ws h.sound;
 }
@@ -64,8 +65,8 @@ fit-closed : (ws : List Window) (z n : ℕ) → Fit ws z → Fit (windows_withou
 fit-closed ws z n h =
     fit_map (unlinked n (stream_of ws n)) (λ w. refl)
     (λ w e. sound_unkeyed w.content w.area n e) (without window_number ws n) z (record {
-      ordered = ascends-without 1 ws z n h.ordered;
-      few = omega (arith, length_without ws n, h.few);
+      ordered = ascends-without 0 ws z n h.ordered;
+      few = omega (arith, length-left window_number ws n, h.few);
       sound = sound_without ws n h.sound;
     })
 

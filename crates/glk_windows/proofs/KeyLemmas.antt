@@ -18,8 +18,8 @@ use Rattle.glk_windows.specs.Reading.{other_window as sibling}
 use Rattle.glk_windows.specs.OneTree.{Shape, Leaf, Fork, top, times_reached}
 use Rattle.glk_windows.specs.OneTree.{node_of, SpellsTree, IsTree, tree_size, below, tree_without}
 use Rattle.glk_windows.specs.OneTree.{tree_forked, key_in, pair_key, has_leaf, are_keyed}
-use Rattle.glk_windows.specs.Valid.{Ascends, IsOrdered}
-use Rattle.glk_windows.proofs.OrderLemmas.{ascends-removed}
+use Rattle.glk_windows.specs.Valid.{IsOrdered}
+use Rattle.glk_windows.proofs.OrderLemmas.{Ascends, ascends-removed}
 use Rattle.glk_windows.proofs.OneTreeLemmas.{count_top, once_at, once_le}
 use Rattle.glk_windows.proofs.CutLemmas.{node_closed, removed_from, size_length}
 use Rattle.glk_windows.proofs.LiftLemmas.{First, InFirst, InSecond, Second, cut_at, count_below}
@@ -224,14 +224,14 @@ key-relinked ws old new at up n m =
 
 -- without a pair that ends
 left-ended : (u : WindowTree) (pair : ℕ) (o : Option pairs.Pair) (n m : ℕ)
-    → Ascends 1 u.slots u.next
+    → Ascends 0 u.slots u.next
     → pair_key (sibling_lifted u pair o n).slots m ≢ 0
     → pair_key (sibling_lifted u pair o n).slots m ≡ pair_key u.slots m
 left-ended u pair None n m a h = refl
 left-ended u pair (Some q) n m a h =
     let e = key-relinked (windows_without u.slots pair) pair (sibling q n)
     (parent_of u.slots pair) (parent_of u.slots pair) (sibling q n) m in
-    e ∙ (left-closed u.slots 1 u.next pair m a (λ j. h (e ∙ j))).same
+    e ∙ (left-closed u.slots 0 u.next pair m a (λ j. h (e ∙ j))).same
 
 no-leaf : (s : Shape) (k : ℕ) → times_reached s k ≡ 0 → has_leaf s k ≡ true → ⊥
 no-leaf s k c e = omega (arith, c, leaf_count s k e)
@@ -330,12 +330,12 @@ left_close t s n x o h live m i =
     let c0 : 0 < times_reached s n = omega (arith, once_at _ _ x live (h.2 n)) in
     let dd : (j : ℕ) → times_reached s j ≤ 1 = λ j. once_le _ _ (h.2 j) in
     let sb : (top sub ≡ n) × SpellsTree ws pair sub = spells_below ws n s 0 h.1 c0 in
-    let sz : tree_size s ≡ d = size_length 1 ws t.next 0 s o h.1 h.2 in
+    let sz : tree_size s ≡ d = size_length 0 ws t.next 0 s o h.1 h.2 in
     let kr : pair_key w2 m ≢ 0 → IsLeft (pair_key w2 m) (pair_key ws m) sub =
     at-list w2 (removed d ws (top sub)) m (pair_key ws m) sub (ap (removed d ws) (sym sb.0))
-    (left-removed d sub ws pair 1 t.next (omega (arith, size_below n s, sz)) o sb.1
+    (left-removed d sub ws pair 0 t.next (omega (arith, size_below n s, sz)) o sb.1
     (λ j. omega (arith, count_below n s j, dd j)) m) in
-    let o2 : Ascends 1 w2 t.next = ascends-removed d 1 ws t.next n o in
+    let o2 : Ascends 0 w2 t.next = ascends-removed d 0 ws t.next n o in
     let e : pair_key (close t n).slots m ≡ pair_key w2 m =
     cond_both (pair == 0) (record u { root = 0 }) (sibling_lifted u pair (pair_of w2 pair) n)
     (λ (x : WindowTree). pair_key x.slots m ≢ 0 → pair_key x.slots m ≡ pair_key w2 m)

@@ -7,13 +7,15 @@ use Rattle.std.proofs.lemmas.Grind.{common_steps}
 use Rattle.glk_windows.specs.declared.window.Window.{Window}
 use Rattle.glk_windows.specs.declared.window.Pair as p
 use Rattle.glk_numbers.specs.Numbered.{changed_at, found}
+use Rattle.glk_numbers.proofs.FoundLemmas.{found-high}
 use Rattle.glk_windows.specs.Tree.{set_at, pair_swapped, swapped, parent_of, pair_content}
+use Rattle.glk_windows.specs.Tree.{window_at, window_number}
 use Rattle.glk_windows.specs.Opening.{pair_joined}
 use Rattle.glk_windows.specs.OneTree.{Shape, Leaf, Fork, top, kids, times_reached, pair_without_key}
 use Rattle.glk_windows.specs.OneTree.{bare_in, node_of, SpellsTree, tree_forked}
 use Rattle.glk_windows.specs.declared.window.Content.{Content}
 use Rattle.glk_windows.specs.declared.window.Content.TheVariants.{Pair}
-use Rattle.glk_windows.specs.Valid.{Ascends}
+use Rattle.glk_windows.proofs.OrderLemmas.{Ascends}
 
 pub top_forked : (from pair new : ℕ) (p : p.Pair) (s : Shape)
     → top (tree_forked from pair p new s) ≡ (if top s == from then pair else top s)
@@ -208,13 +210,19 @@ pub node_new : (ws vs : List Window) (m : ℕ)
 node_new [] vs m e = refl
 node_new (w ∷ ws) vs m e = grind (arith, common_steps, node_new ws vs m)
 
+-- a window that isn't there has no place in the tree
+pub node_window : (ws : List Window) (n : ℕ)
+    → node_of ws n ≡ option_map (λ w. (w.parent, bare_in w)) (window_at ws n)
+unfolding found
+node_window [] n = refl
+node_window (w ∷ ws) n = grind (arith, common_steps, node_window ws n)
+
+pub node_none : (ws : List Window) (n : ℕ) → window_at ws n ≡ None → node_of ws n ≡ None
+node_none ws n e = node_window ws n ∙ ap (option_map (λ w. (w.parent, bare_in w))) e
+
 -- no window has a number that comes later
 pub node_later : (a : ℕ) (ws : List Window) (z m : ℕ) → Ascends a ws z → z ≤ m → node_of ws m ≡ None
-node_later a [] z m o h = refl
-node_later a (w ∷ ws) z m o h =
-    let i : w.number < z = o.1 in
-    let k : _ = node_later (w.number + 1) ws z m o.2 h in
-    grind (arith, common_steps)
+node_later a ws z m o h = node_none ws m (found-high window_number ws a z m o.1 h)
 
 pub node_parent : (ws : List Window) (m : ℕ) (x : ℕ × Option p.Pair)
     → node_of ws m ≡ Some x → x.0 ≡ parent_of ws m

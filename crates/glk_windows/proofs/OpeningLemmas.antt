@@ -5,22 +5,23 @@ use Rattle.std.proofs.Common.{true, false, nat_lt, ◌==◌, if◌then◌else◌
 use Rattle.std.proofs.lemmas.Bool.{and_from, cond_both}
 use Rattle.std.proofs.lemmas.Grind.{common_steps}
 use Rattle.glk_numbers.specs.Numbered.{found}
+use Rattle.glk_numbers.proofs.FoundLemmas.{length-changed}
 use Rattle.glk_windows.specs.declared.window.Window.{Window}
 use Rattle.glk_windows.specs.declared.window.Pair as p
 use Rattle.glk_windows.specs.declared.window.Content.TheVariants.{Pair}
-use Rattle.glk_windows.specs.Tree.{WindowTree, parent_of, pair_in, pair_content}
+use Rattle.glk_windows.specs.Tree.{WindowTree, parent_of, pair_in, pair_content, window_number}
 use Rattle.glk_windows.specs.Arranging.{is_method}
 use Rattle.glk_windows.specs.Opening.{pair_joined, unplaced_window, new_content}
 use Rattle.glk_windows.specs.OneTree.{Shape, Leaf, top, times_reached, pair_without_key, bare_in}
 use Rattle.glk_windows.specs.OneTree.{node_of, tree_forked, Once, IsTree, key_in, pair_key}
-use Rattle.glk_windows.specs.Valid.{Ascends, IsOrdered, is_sound_content}
+use Rattle.glk_windows.specs.Valid.{IsOrdered, is_sound_content}
 use Rattle.glk_windows.proofs.FitLemmas.{Fit, fit_relinked}
 use Rattle.glk_windows.proofs.KeyLemmas.{Keyed, keyed_forked, key_append, key_after, key_joined}
 use Rattle.glk_windows.proofs.OneTreeLemmas.{renode, node_joined, node_later, node_append, node_new}
 use Rattle.glk_windows.proofs.OneTreeLemmas.{node_parent, top_forked, count_forked, spells_forked}
 use Rattle.glk_windows.proofs.OneTreeLemmas.{once_le, once_at, once_mapped}
-use Rattle.glk_windows.proofs.OrderLemmas.{ascends-more, ascends-two}
-use Rattle.glk_windows.proofs.SoundLemmas.{sound_append, length_set_at}
+use Rattle.glk_windows.proofs.OrderLemmas.{Ascends, ascends-more, ascends-two}
+use Rattle.glk_windows.proofs.SoundLemmas.{sound_append}
 
 pair-fresh : (kind : ℕ) → pair_content (new_content kind) ≡ None
 pair-fresh kind =
@@ -49,7 +50,7 @@ tree_first t kind rock e =
 pub fit_first : (t : WindowTree) (kind rock : ℕ) → t.slots ≡ [] → Fit t.slots t.next
     → Fit (first_made t kind rock).slots (first_made t kind rock).next
 fit_first t kind rock e h = record {
-  ordered = ascends-more 1 t.slots t.next _ refl h.ordered;
+  ordered = ascends-more 0 t.slots t.next _ refl h.ordered;
   few = rw e (omega arith);
   sound = sound_append t.slots _ h.sound (and_from _ _ (sound-fresh kind) refl);
 }
@@ -81,11 +82,12 @@ fit_beside t from method size kind rock m e h =
     let joined : Fit (pair_joined t.slots from (t.next + 1)) t.next =
     fit_relinked t.slots t.next from (t.next + 1) (parent_of t.slots from) (t.next + 1) from h in
     let long : length (pair_joined t.slots from (t.next + 1)) ≡ length t.slots =
-    length_set_at _ _ from ∙ length_set_at _ t.slots (parent_of t.slots from) in
+    length-changed window_number _ _ from
+    ∙ length-changed window_number _ t.slots (parent_of t.slots from) in
     let few : length t.slots + 2 ≤ 64 = grind (arith, common_steps, e) in
     record {
       ordered =
-          ascends-two 1 (pair_joined t.slots from (t.next + 1)) t.next _ _ refl refl joined.ordered;
+          ascends-two 0 (pair_joined t.slots from (t.next + 1)) t.next _ _ refl refl joined.ordered;
       few = simp length-append (omega (arith, long, few));
       sound = sound_append (pair_joined t.slots from (t.next + 1)) _ joined.sound
           (and_from _ _ (sound-fresh kind) (and_from _ _ m refl));
@@ -100,7 +102,7 @@ Beside ws z from vs q r = (m : ℕ) → node_of vs m ≡
 beside-case : (o : Option (ℕ × Option p.Pair)) (js ws : List Window) (z m : ℕ)
     (v u : Window) (q : ℕ) (r : p.Pair)
     (f : ℕ × Option p.Pair → ℕ × Option p.Pair)
-    → Ascends 1 ws z → v.number ≡ z → u.number ≡ z + 1 → v.parent ≡ z + 1 → u.parent ≡ q
+    → Ascends 0 ws z → v.number ≡ z → u.number ≡ z + 1 → v.parent ≡ z + 1 → u.parent ≡ q
     → bare_in v ≡ None → bare_in u ≡ Some r
     → node_of js m ≡ option_map f o → node_of ws m ≡ o
     → node_of (js ++ v ∷ u ∷ []) m
@@ -109,7 +111,7 @@ beside-case : (o : Option (ℕ × Option p.Pair)) (js ws : List Window) (z m : �
 beside-case None js ws z m v u q r f o a b c d e g h k =
     node_new js (v ∷ u ∷ []) m h ∙ grind (arith, common_steps)
 beside-case (Some x) js ws z m v u q r f o a b c d e g h k =
-    let l : z ≤ m → node_of ws m ≡ None = node_later 1 ws z m o in
+    let l : z ≤ m → node_of ws m ≡ None = node_later 0 ws z m o in
     let i : m < z = grind (arith, common_steps) in
     node_append js (v ∷ u ∷ []) m (f x) h ∙ grind (arith, common_steps)
 
@@ -135,7 +137,7 @@ once-cases b c z m None v n x w y e f k l j h = grind (arith, common_steps)
 once-cases b c z m (Some s) v n x w y e f k l j h = grind (arith, common_steps)
 
 -- one more pair and window are in the tree once
-once-forked : (ws vs : List Window) (z from q : ℕ) (r : p.Pair) (s : Shape) → Ascends 1 ws z
+once-forked : (ws vs : List Window) (z from q : ℕ) (r : p.Pair) (s : Shape) → Ascends 0 ws z
     → Beside ws z from vs q r → times_reached s from ≡ 1
     → Once ws s → Once vs (tree_forked from (z + 1) r z s)
 once-forked ws vs z from q r s o h c w m =
@@ -143,7 +145,7 @@ once-forked ws vs z from q r s o h c w m =
     let j : times_reached s m ≡ (if is_some (node_of ws m) then 1 else 0) = w m in
     let k : is_some (option_map (renode from (z + 1) q m) (node_of ws m)) ≡ is_some (node_of ws m) =
     once_mapped _ _ in
-    let lz : z ≤ m → node_of ws m ≡ None = node_later 1 ws z m o in
+    let lz : z ≤ m → node_of ws m ≡ None = node_later 0 ws z m o in
     let hm : _ = h m in
     i
     ∙ once-cases (m == z) (m == z + 1) z m (node_of ws m) (node_of vs m)
@@ -151,11 +153,11 @@ once-forked ws vs z from q r s o h c w m =
 
 -- the nodes of a split list, one by one
 beside-old : (ws vs : List Window) (z from q : ℕ) (r : p.Pair)
-    → Ascends 1 ws z → Beside ws z from vs q r
+    → Ascends 0 ws z → Beside ws z from vs q r
     → (m : ℕ) (x : ℕ × Option p.Pair) → node_of ws m ≡ Some x
     → node_of vs m ≡ Some (renode from (z + 1) q m x)
 beside-old ws vs z from q r o h m x e =
-    let l : z ≤ m → node_of ws m ≡ None = node_later 1 ws z m o in
+    let l : z ≤ m → node_of ws m ≡ None = node_later 0 ws z m o in
     let i : _ = h m in
     let k : option_map (renode from (z + 1) q m) (node_of ws m) ≡ Some (renode from (z + 1) q m x) =
     ap (option_map (renode from (z + 1) q m)) e in
@@ -212,7 +214,7 @@ keyed_beside t from method size kind rock s o h k =
     let v : Window = unplaced_window z rock (z + 1) (new_content kind) in
     let w : Window = unplaced_window (z + 1) 0 (parent_of t.slots from)
     (Pair (new_pair method size z from z)) in
-    let later : node_of t.slots (z + 1) ≡ None = node_later 1 t.slots z (z + 1) o (omega arith) in
+    let later : node_of t.slots (z + 1) ≡ None = node_later 0 t.slots z (z + 1) o (omega arith) in
     let none : node_of js (z + 1) ≡ None =
     node_joined t.slots from (z + 1) (z + 1)
     ∙ ap (option_map (renode from (z + 1) (parent_of t.slots from) (z + 1))) later in

@@ -1,5 +1,5 @@
 -- Closing takes the windows that go with one, and leaves the others what is their own.
-use Rattle.std.proofs.Common.{◌≡◌, ◌≢◌, ◌⊎◌, inl, inr, ℕ, ◌+◌, ◌<◌, ◌==◌, ◌||◌, List}
+use Rattle.std.proofs.Common.{◌≡◌, ◌≢◌, ◌⊎◌, inl, inr, ℕ, ◌≤◌, ◌==◌, ◌||◌, List}
 use Rattle.std.proofs.Common.{[], ◌∷◌, length, refl, sym, ap, ◌∙◌, Option, Some, None, is_some}
 use Rattle.std.proofs.Common.{option_map, arith, Bool, true, false, if◌then◌else◌, nat_lt}
 use Rattle.std.proofs.lemmas.Bool.{cond_both}
@@ -16,13 +16,14 @@ use Rattle.glk_windows.specs.Closing.{sibling_lifted, forgotten, removed, unlink
 use Rattle.glk_windows.specs.Reading.{other_window as sibling}
 use Rattle.glk_windows.specs.OneTree.{Shape, pair_without_key, below, times_reached}
 use Rattle.glk_windows.specs.OneTree.{pair_above, node_of, IsTree, top}
-use Rattle.glk_windows.specs.Valid.{Ascends, IsOrdered}
+use Rattle.glk_windows.specs.Valid.{IsOrdered}
 use Rattle.glk_windows.specs.Laws.{ClosesBelow, goes_with, own_fields, own_content, own_of}
 use Rattle.glk_windows.proofs.CutLemmas.{node_lower, node_pair}
 use Rattle.glk_windows.proofs.CloseLemmas.{node_rest, pair_rest}
 use Rattle.glk_windows.proofs.KeepLemmas.{removed_keeps}
 use Rattle.glk_windows.proofs.OneTreeLemmas.{is_eq, isnt_eq, node_parent, spells_top}
-use Rattle.glk_windows.proofs.OrderLemmas.{ascends-closed, ascends-removed}
+use Rattle.glk_windows.proofs.OrderLemmas.{Ascends, ascends-behind, ascends-closed}
+use Rattle.glk_windows.proofs.OrderLemmas.{ascends-removed}
 use Rattle.glk_windows.proofs.SameLemmas.{read_map, read_set_at}
 use Rattle.glk_windows.proofs.TestLemmas.{tree_found}
 use Rattle.glk_windows.proofs.ValidLemmas.{node_live, node_nil, some_tree, SomeTree}
@@ -59,9 +60,10 @@ own-without : (a : ℕ) (ws : List Window) (z n m : ℕ) → Ascends a ws z
 unfolding found without
 own-without a [] z n m o = grind (arith, common_steps)
 own-without a (w ∷ ws) z n m o =
-    let i : m < w.number + 1 → own_of ws m ≡ None =
-    λ l. own-none ws m (node_lower (w.number + 1) ws z m o.2 l) in
-    let k : _ = own-without (w.number + 1) ws z n m o.2 in
+    let b = ascends-behind a w ws z o in
+    let i : m ≤ w.number → own_of ws m ≡ None =
+    λ l. own-none ws m (node_lower w.number ws z m b l) in
+    let k : _ = own-without w.number ws z n m b in
     grind (arith, common_steps)
 
 own-closed : (a : ℕ) (ws : List Window) (z n m : ℕ) → Ascends a ws z
@@ -108,7 +110,7 @@ own-rest ws vs m false e (inr f) =
 
 -- the pair ends, and its other window takes its place
 own-ended : (u : WindowTree) (pair : ℕ) (o : Option pairs.Pair) (r : pairs.Pair) (n m : ℕ)
-    → option_map pair_without_key o ≡ Some r → Ascends 1 u.slots u.next
+    → option_map pair_without_key o ≡ Some r → Ascends 0 u.slots u.next
     → own_of (sibling_lifted u pair o n).slots m ≡ (if m == pair then None else own_of u.slots m)
 own-ended u pair None r n m e a = cc
 own-ended u pair (Some q) r n m e a =
@@ -119,7 +121,7 @@ own-ended u pair (Some q) r n m e a =
     (λ w. ap (λ c. Some (record w { echo = 0; parent = 0; content = c }))
     (content-swapped w.content pair (sibling q n))) (windows_without u.slots pair)
     (parent_of u.slots pair) m
-    ∙ own-closed 1 u.slots u.next pair m a
+    ∙ own-closed 0 u.slots u.next pair m a
 
 -- both of two causes
 or-none : (a c : Bool) (o : Option Window) → (a ≡ true → o ≡ None)
@@ -155,15 +157,15 @@ own-close t s n x m o h live =
     let gone : Bool = nat_lt 0 (times_reached (below n s) m) in
     let r : own_of w2 m ≡ (if gone then None else own_of ws m) =
     own-rest ws w2 m gone (node_rest t s n x o h live m)
-    (rests-removed (length ws) 1 ws t.next n m o) in
+    (rests-removed (length ws) 0 ws t.next n m o) in
     cond_both (pair == 0) (record u { root = 0 }) (sibling_lifted u pair (pair_of w2 pair) n)
     (λ (v : WindowTree). own_of v.slots m ≡ (if m == pair || gone then None else own_of ws m))
     (λ e. r ∙ or-none (m == pair) gone (own_of ws m)
-    (λ i. own-none ws m (node_lower 1 ws t.next m o
+    (λ i. own-none ws m (node_lower 0 ws t.next m o
     (omega (arith, is_eq m pair i, is_eq pair 0 e)))))
     (λ e. own-ended u pair (pair_of w2 pair) (pair_above n s) n m
     (node_pair w2 pair _ (pair_rest t s n x o h live (not-root t s n h e)))
-    (ascends-removed (length ws) 1 ws t.next n o)
+    (ascends-removed (length ws) 0 ws t.next n o)
     ∙ ap (λ v. if m == pair then None else v) r ∙ or-twice (m == pair) gone (own_of ws m))
 
 closes-tree : (t : WindowTree) (n m : ℕ) (x : ℕ × Option pairs.Pair) → IsOrdered t

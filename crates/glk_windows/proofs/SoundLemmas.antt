@@ -1,11 +1,12 @@
 -- Methods of pairs and cells of grids stay sound, and the windows few.
-use Rattle.std.proofs.Common.{◌≡◌, ℕ, zero, suc, ◌+◌, ◌-◌, ◌*◌, ◌≤◌, ◌==◌, ◌&&◌, ◌++◌, min, List}
+use Rattle.std.proofs.Common.{◌≡◌, ℕ, zero, suc, ◌+◌, ◌-◌, ◌*◌, ◌==◌, ◌&&◌, ◌++◌, min, List}
 use Rattle.std.proofs.Common.{[], ◌∷◌, map, take, drop, replicate, length, refl, ap, ◌∙◌, arith}
-use Rattle.std.proofs.Common.{Bool, true, if◌then◌else◌, nat_eq, nat_le, slice_set, length-append}
+use Rattle.std.proofs.Common.{Bool, true, if◌then◌else◌, nat_le, slice_set, length-append}
 use Rattle.std.proofs.lemmas.Bool.{and_from, and_parts, cond_both}
 use Rattle.std.proofs.lemmas.List.{length-take, length-replicate}
 use Rattle.std.proofs.lemmas.Grind.{common_steps}
-use Rattle.glk_numbers.specs.Numbered.{changed_at, without}
+use Rattle.glk_numbers.specs.Numbered.{without}
+use Rattle.glk_numbers.proofs.EachLemmas as each
 use Rattle.glk_windows.specs.declared.window.Window.{Window}
 use Rattle.glk_windows.specs.declared.window.Area.{Area}
 use Rattle.glk_windows.specs.declared.window.Grid as g
@@ -26,38 +27,19 @@ KeepsSound f = (w : Window) → is_sound_window w ≡ true → is_sound_window (
 
 pub sound_set_at : (f : Window → Window) → KeepsSound f → (ws : List Window) (n : ℕ)
     → are_sound_windows ws ≡ true → are_sound_windows (set_at f ws n) ≡ true
-unfolding changed_at
-sound_set_at f k [] n e = refl
-sound_set_at f k (w ∷ ws) n e =
-    let h = and_parts (is_sound_window w) (are_sound_windows ws) e in
-    cond_both (nat_eq w.number n) (f w ∷ ws) (w ∷ set_at f ws n) (λ vs. are_sound_windows vs ≡ true)
-    (λ i. and_from _ _ (k w h.0) h.1) (λ i. and_from _ _ h.0 (sound_set_at f k ws n h.1))
+sound_set_at = each.all-changed window_number are_sound_windows is_sound_window refl (λ w ws. refl)
 
 pub sound_map : (f : Window → Window) → KeepsSound f → (ws : List Window)
     → are_sound_windows ws ≡ true → are_sound_windows (map f ws) ≡ true
-sound_map f k [] e = refl
-sound_map f k (w ∷ ws) e =
-    let h = and_parts (is_sound_window w) (are_sound_windows ws) e in
-    and_from _ _ (k w h.0) (sound_map f k ws h.1)
+sound_map = each.all-mapped window_number are_sound_windows is_sound_window refl (λ w ws. refl)
 
-pub sound_without : (ws : List Window) (n : ℕ)
-    → are_sound_windows ws ≡ true
+pub sound_without : (ws : List Window) (n : ℕ) → are_sound_windows ws ≡ true
     → are_sound_windows (without window_number ws n) ≡ true
-unfolding without
-sound_without [] n e = refl
-sound_without (w ∷ ws) n e =
-    let h = and_parts (is_sound_window w) (are_sound_windows ws) e in
-    cond_both (nat_eq w.number n) ws (w ∷ without window_number ws n)
-    (λ vs. are_sound_windows vs ≡ true) (λ i. h.1)
-    (λ i. and_from _ _ h.0 (sound_without ws n h.1))
+sound_without = each.all-without window_number are_sound_windows is_sound_window refl (λ w ws. refl)
 
-pub sound_append : (ws vs : List Window)
-    → are_sound_windows ws ≡ true → are_sound_windows vs ≡ true
-    → are_sound_windows (ws ++ vs) ≡ true
-sound_append [] vs e f = f
-sound_append (w ∷ ws) vs e f =
-    let h = and_parts (is_sound_window w) (are_sound_windows ws) e in
-    and_from _ _ h.0 (sound_append ws vs h.1 f)
+pub sound_append : (ws vs : List Window) → are_sound_windows ws ≡ true
+    → are_sound_windows vs ≡ true → are_sound_windows (ws ++ vs) ≡ true
+sound_append = each.all-joined window_number are_sound_windows is_sound_window refl (λ w ws. refl)
 
 -- a pair with another child
 pub sound_swapped : (c : Content) (a : Area) (old new : ℕ) → is_sound_content c a ≡ true
@@ -164,18 +146,3 @@ sized-content c o a e = e
 
 pub sound_sized : (a : Area) → KeepsSound (sized a)
 sound_sized a w e = sized-content w.content w.area a e
-
--- how many windows there are
-pub length_set_at : (f : Window → Window) (ws : List Window) (n : ℕ)
-    → length (set_at f ws n) ≡ length ws
-unfolding changed_at
-length_set_at f [] n = refl
-length_set_at f (w ∷ ws) n = let k : _ = length_set_at f ws n in grind (arith, common_steps)
-
-pub length_without : (ws : List Window) (n : ℕ) → length (without window_number ws n) ≤ length ws
-unfolding without
-length_without [] n = omega arith
-length_without (w ∷ ws) n =
-    let k : _ = length_without ws n in
-    cond_both (nat_eq w.number n) ws (w ∷ without window_number ws n)
-    (λ vs. length vs ≤ length (w ∷ ws)) (λ e. omega arith) (λ e. omega (arith, k))

@@ -220,7 +220,7 @@ spread_tree t s cols rows o h =
     let r : Area = record { x = 0; y = 0; w = cols; h = rows } in
     let d : ℕ = length t.slots in
     subst (λ k. Spread t.slots (window_area (windows_placed d t.slots k r)) s r) (sym h.0)
-    (spread d s t.slots 0 r (omega (arith, size_length 1 t.slots t.next 0 s o h.1 h.2)) h.1
+    (spread d s t.slots 0 r (omega (arith, size_length 0 t.slots t.next 0 s o h.1 h.2)) h.1
     (λ k. once_le _ _ (h.2 k)))
 
 pub spread_top : (ws : List Window) (at : ℕ → Area) (s : Shape) (r : Area)

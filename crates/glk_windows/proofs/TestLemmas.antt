@@ -36,7 +36,7 @@ unfolding IsOrdered
 tree_found t s o h =
     ap (shape_of (length t.slots) t.slots) h.0
     ∙ shape_found (length t.slots) s t.slots 0
-    (omega (arith, size_length 1 t.slots t.next 0 s o h.1 h.2)) h.1
+    (omega (arith, size_length 0 t.slots t.next 0 s o h.1 h.2)) h.1
 
 -- what a list spells passes the test
 pub spells_tested : (ws : List Window) (s : Shape) (up : ℕ)

@@ -1,10 +1,10 @@
 -- Each call keeps the windows valid.
-use Rattle.std.proofs.Common.{◌≡◌, ◌≢◌, inl, inr, ℕ, ◌+◌, ◌<◌, ◌==◌, ◌||◌, List, []}
+use Rattle.std.proofs.Common.{◌≡◌, ◌≢◌, inl, inr, ℕ, ◌+◌, ◌≤◌, ◌==◌, ◌||◌, List, []}
 use Rattle.std.proofs.Common.{◌∷◌, map, length, refl, sym, ap, ◌∙◌, subst, Option, Some, None}
 use Rattle.std.proofs.Common.{option_map, arith, Bool, true, false, if◌then◌else◌}
 use Rattle.std.proofs.lemmas.Bool.{cond_both, or_parts}
 use Rattle.std.proofs.lemmas.Grind.{common_steps}
-use Rattle.glk_numbers.specs.Numbered.{has}
+use Rattle.glk_numbers.specs.Numbered.{ascends, has}
 use Rattle.glk_windows.specs.declared.window.Window.{Window}
 use Rattle.glk_windows.specs.declared.window.Pair as pairs
 use Rattle.glk_windows.specs.declared.window.Content.{Content}
@@ -20,7 +20,7 @@ use Rattle.glk_windows.specs.Placing.{place}
 use Rattle.glk_windows.specs.OneTree.{Shape, Leaf, top, pair_without_key, bare_in, node_of, IsTree}
 use Rattle.glk_windows.specs.OneTree.{shape_of, is_tree, tree_without, tree_forked, tree_of, key_in}
 use Rattle.glk_windows.specs.OneTree.{pair_key, are_keyed}
-use Rattle.glk_windows.specs.Valid.{Ascends, IsOrdered, IsValidTree, is_sound_content}
+use Rattle.glk_windows.specs.Valid.{IsOrdered, IsValidTree, is_sound_content}
 use Rattle.glk_windows.specs.Laws.{IsKeyOf, KeepsWindowsValid}
 use Rattle.glk_windows.proofs.ArrangeLemmas.{reshaped, keyed_reshaped, keyed_arranged}
 use Rattle.glk_windows.proofs.ArrangeLemmas.{none_arranged, tree_arranged}
@@ -32,6 +32,7 @@ use Rattle.glk_windows.proofs.KeyLemmas.{left_close}
 use Rattle.glk_windows.proofs.OneTreeLemmas.{spells_top, once_le, once_at, is_eq, isnt_eq}
 use Rattle.glk_windows.proofs.OpeningLemmas.{fit_first, tree_first, new_pair, fit_beside}
 use Rattle.glk_windows.proofs.OpeningLemmas.{beside_made, tree_beside, keyed_beside}
+use Rattle.glk_windows.proofs.OrderLemmas.{Ascends}
 use Rattle.glk_windows.proofs.SameLemmas.{read_set_at, read_map, read_placed, pair_sized, node_in}
 use Rattle.glk_windows.proofs.SameLemmas.{same_tree, node_alike, node_placed}
 use Rattle.glk_windows.proofs.SoundLemmas.{KeepsSound, sound_arranged, sound_moved, sound_put}
@@ -76,9 +77,9 @@ pub some_tree : (t : WindowTree) → IsValidTree t → SomeTree t
 some_tree t v = by-root t (t.root == 0) refl v.one_tree v.keyed
 
 root-some : (ws : List Window) (z n : ℕ) (x : ℕ × Option pairs.Pair)
-    → Ascends 1 ws z → node_of ws n ≡ Some x → (n == 0) ≡ false
+    → Ascends 0 ws z → node_of ws n ≡ Some x → (n == 0) ≡ false
 root-some ws z n x o e =
-    let k : n < 1 → node_of ws n ≡ None = node_lower 1 ws z n o in
+    let k : n ≤ 0 → node_of ws n ≡ None = node_lower 0 ws z n o in
     grind (arith, common_steps)
 
 -- valid is: in order, few, sound and one tree
@@ -216,9 +217,14 @@ valid-place t cols rows v =
     (fit_placed (length t.slots) t.slots t.next t.root _ (fit_of t v))
 
 valid-new : IsValidTree (record { slots = []; next = 1; root = 0 })
-unfolding IsOrdered shape_of
-valid-new =
-    record { ordered = omega arith; one_tree = refl; keyed = refl; few = omega arith; sound = refl }
+unfolding IsOrdered shape_of ascends
+valid-new = record {
+  ordered = (omega arith, refl);
+  one_tree = refl;
+  keyed = refl;
+  few = omega arith;
+  sound = refl;
+}
 
 -- a pair divided anew
 tree-arranged : (t : WindowTree) (n method size key : ℕ)

@@ -1,23 +1,18 @@
 -- Which windows are valid (Glk 0.7.5, "The Window Tree").
-use Rattle.std.specs.Prelude.{◌≡◌, ℕ, ◌+◌, ◌*◌, ◌==◌, ◌&&◌, if◌then◌else◌, ◌≤◌, ◌<◌, Bool, true}
-use Rattle.std.specs.Prelude.{List, [], ◌∷◌, length}
+use Rattle.std.specs.Prelude.{◌≡◌, ◌*◌, ◌==◌, ◌&&◌, if◌then◌else◌, ◌≤◌, ◌<◌, Bool, true, List}
+use Rattle.std.specs.Prelude.{[], ◌∷◌, length}
+use Rattle.glk_numbers.specs.Numbered.{ascends}
 use Rattle.glk_windows.specs.declared.window.Window.{Window}
 use Rattle.glk_windows.specs.declared.window.Area.{Area}
 use Rattle.glk_windows.specs.declared.window.Content.{Content}
 use Rattle.glk_windows.specs.declared.window.Content.TheVariants.{Pair, Blank, Buffer, Grid}
-use Rattle.glk_windows.specs.Tree.{WindowTree}
+use Rattle.glk_windows.specs.Tree.{WindowTree, window_number}
 use Rattle.glk_windows.specs.Arranging.{is_method}
 use Rattle.glk_windows.specs.OneTree.{is_tree, tree_of, are_keyed}
 
--- the numbers ascend from the first on, below the last
-abbrev pub Ascends : ℕ → List Window → ℕ → Type 0
-Ascends first [] last = first ≤ last
-Ascends first (w ∷ ws) last =
-    (first ≤ w.number) × (w.number < last) × Ascends (w.number + 1) ws last
-
 -- numbers are from 1 on, ascend, and lie below the next one
 unfoldable pub IsOrdered : WindowTree → Type 0
-IsOrdered t = Ascends 1 t.slots t.next
+IsOrdered t = (0 < t.next) × (ascends window_number 0 t.next t.slots ≡ true)
 
 -- a pair's method is one, and a grid has the size of its rectangle and all its cells
 abbrev pub is_sound_content : Content → Area → Bool

@@ -47,7 +47,7 @@ fn are_sound(slots: &[Window]) -> bool
 }
 
 /// Whether the window is there, below this one.
-#[tactic(auto, using(crate::proofs::FieldLemmas::node_window))]
+#[tactic(auto, using(crate::proofs::OneTreeLemmas::node_window))]
 fn is_under(slots: &[Window], up: u32, win: u32) -> bool
     ensures { result ≡ one_tree.is_under up (node_of slots.now win) }
 {

@@ -1,8 +1,9 @@
 -- Reading finds exactly the rows that bytes spell.
 use Rattle.std.proofs.Common.{Bool, List, None, Some, [], ap, append_assoc, arith, drop, false}
 use Rattle.std.proofs.Common.{get_or, length, length-append, refl, subst, suc, sym, take, true}
-use Rattle.std.proofs.Common.{zero, ℕ, ◌*◌, ◌++◌, ◌+◌, ◌<◌, ◌==◌, ◌∙◌, ◌∷◌, ◌≡◌, ◌≢◌, ◌≤◌}
-use Rattle.std.proofs.lemmas.Bool.{and_from, and_parts, eq-eqb, eqb-true}
+use Rattle.std.proofs.Common.{zero, ℕ, ◌*◌, ◌++◌, ◌+◌, ◌==◌, ◌∙◌, ◌∷◌, ◌≡◌, ◌≢◌, ◌≤◌}
+use Rattle.std.proofs.lemmas.Bool.{and_from, and_parts, eq-eqb, eqb-true, le-leb, leb-true}
+use Rattle.std.proofs.lemmas.Bool.{lt-ltb, ltb-true}
 use Rattle.std.proofs.lemmas.Bool.Decides.{nat_tests}
 use Rattle.std.proofs.lemmas.List.{append-nil, drop_at, get_or-drop, length-drop, take-append-drop}
 use Rattle.std.proofs.lemmas.List.{take_at}
@@ -60,12 +61,6 @@ text_told t is = let both =
 text_test : (t : List ℕ) → IsText t → is_text t ≡ true
 text_test t is = and_from (all_scalars t) (is_short t) is.scalars is.short
 
-le_of : (m n : ℕ) → nat_le m n ≡ true → m ≤ n
-le_of m n is = grind (arith, nat_tests)
-
-le_test : (m n : ℕ) → m ≤ n → nat_le m n ≡ true
-le_test m n le = grind (arith, nat_tests)
-
 pub command_told : (c : Command) → is_command c ≡ true → IsCommand c
 command_told (Open key story digest seed cols rows budget) is =
     let i = and_parts _ (nat_le budget 1000000000000) is in
@@ -78,14 +73,14 @@ command_told (Open key story digest seed cols rows budget) is =
     let b = and_parts _ (length digest == 32) c.0 in
     let a = and_parts (is_key key) (nat_le story 65535) b.0 in (
       a.0,
-      le_of story 65535 a.1,
+      leb-true story 65535 a.1,
       thirty_two b.1,
-      le_of seed 18446744073709551615 c.1,
-      le_of 1 cols d.1,
-      le_of cols 255 e.1,
-      le_of 1 rows f.1,
-      le_of rows 255 g.1,
-      (le_of 1 budget h.1, le_of budget 1000000000000 i.1),
+      leb-true seed 18446744073709551615 c.1,
+      leb-true 1 cols d.1,
+      leb-true cols 255 e.1,
+      leb-true 1 rows f.1,
+      leb-true rows 255 g.1,
+      (leb-true 1 budget h.1, leb-true budget 1000000000000 i.1),
     )
   where
     thirty_two : (length digest == 32) ≡ true → length digest ≡ 32
@@ -94,46 +89,46 @@ command_told (Line win term text) is =
     let b = and_parts (nat_le win 4294967295 && (term == 0 || is_terminator term))
     (is_text text) is in
     let a = and_parts (nat_le win 4294967295) (term == 0 || is_terminator term) b.0 in
-    (le_of win 4294967295 a.0, a.1, text_told text b.1)
+    (leb-true win 4294967295 a.0, a.1, text_told text b.1)
 command_told (Char win code) is =
     let a = and_parts (nat_le win 4294967295) (is_code code) is in
-    (le_of win 4294967295 a.0, a.1)
+    (leb-true win 4294967295 a.0, a.1)
 command_told (File name) is = text_told name is
 command_told Close is = tt
 command_told (Size cols rows) is =
     let c = and_parts (nat_le 1 cols && nat_le cols 255 && nat_le 1 rows) (nat_le rows 255) is in
     let b = and_parts (nat_le 1 cols && nat_le cols 255) (nat_le 1 rows) c.0 in
     let a = and_parts (nat_le 1 cols) (nat_le cols 255) b.0 in
-    (le_of 1 cols a.0, le_of cols 255 a.1, le_of 1 rows b.1, le_of rows 255 c.1)
+    (leb-true 1 cols a.0, leb-true cols 255 a.1, leb-true 1 rows b.1, leb-true rows 255 c.1)
 
 pub command_test : (c : Command) → IsCommand c → is_command c ≡ true
 command_test (Open key story digest seed cols rows budget) is =
-    let a = and_from (is_key key) (nat_le story 65535) is.0 (le_test story 65535 is.1) in
+    let a = and_from (is_key key) (nat_le story 65535) is.0 (le-leb story 65535 is.1) in
     let b = and_from _ (length digest == 32) a (thirty_two is.2) in
-    let c = and_from _ (nat_le seed 18446744073709551615) b (le_test seed 18446744073709551615 is.3)
+    let c = and_from _ (nat_le seed 18446744073709551615) b (le-leb seed 18446744073709551615 is.3)
     in
-    let d = and_from _ (nat_le 1 cols) c (le_test 1 cols is.4) in
-    let e = and_from _ (nat_le cols 255) d (le_test cols 255 is.5) in
-    let f = and_from _ (nat_le 1 rows) e (le_test 1 rows is.6) in
-    let g = and_from _ (nat_le rows 255) f (le_test rows 255 is.7) in
-    let h = and_from _ (nat_le 1 budget) g (le_test 1 budget is.8.0) in
-    and_from _ (nat_le budget 1000000000000) h (le_test budget 1000000000000 is.8.1)
+    let d = and_from _ (nat_le 1 cols) c (le-leb 1 cols is.4) in
+    let e = and_from _ (nat_le cols 255) d (le-leb cols 255 is.5) in
+    let f = and_from _ (nat_le 1 rows) e (le-leb 1 rows is.6) in
+    let g = and_from _ (nat_le rows 255) f (le-leb rows 255 is.7) in
+    let h = and_from _ (nat_le 1 budget) g (le-leb 1 budget is.8.0) in
+    and_from _ (nat_le budget 1000000000000) h (le-leb budget 1000000000000 is.8.1)
   where
     thirty_two : length digest ≡ 32 → (length digest == 32) ≡ true
     thirty_two same = grind (arith, nat_tests)
 command_test (Line win term text) is =
     and_from (nat_le win 4294967295 && (term == 0 || is_terminator term)) (is_text text)
     (and_from (nat_le win 4294967295) (term == 0 || is_terminator term)
-    (le_test win 4294967295 is.0) is.1) (text_test text is.2)
+    (le-leb win 4294967295 is.0) is.1) (text_test text is.2)
 command_test (Char win code) is =
-    and_from (nat_le win 4294967295) (is_code code) (le_test win 4294967295 is.0) is.1
+    and_from (nat_le win 4294967295) (is_code code) (le-leb win 4294967295 is.0) is.1
 command_test (File name) is = text_test name is
 command_test Close is = refl
 command_test (Size cols rows) is =
     and_from (nat_le 1 cols && nat_le cols 255 && nat_le 1 rows) (nat_le rows 255)
     (and_from (nat_le 1 cols && nat_le cols 255) (nat_le 1 rows)
-    (and_from (nat_le 1 cols) (nat_le cols 255) (le_test 1 cols is.0) (le_test cols 255 is.1))
-    (le_test 1 rows is.2)) (le_test rows 255 is.3)
+    (and_from (nat_le 1 cols) (nat_le cols 255) (le-leb 1 cols is.0) (le-leb cols 255 is.1))
+    (le-leb 1 rows is.2)) (le-leb rows 255 is.3)
 
 -- and so does that of a version
 version_told : (v : ℕ) (c : Command) → is_in_version v c ≡ true → IsInVersion v c
@@ -149,12 +144,9 @@ stand_test rows s c is =
     and_from (nat_lt s 64 && is_command c && may_follow (commands_of rows s) c)
     (nat_lt (length (commands_of rows s)) 8192)
     (and_from (nat_lt s 64 && is_command c) (may_follow (commands_of rows s) c)
-    (and_from (nat_lt s 64) (is_command c) (lt_test s 64 is.below)
+    (and_from (nat_lt s 64) (is_command c) (lt-ltb s 64 is.below)
     (command_test c is.ranges)) is.follows)
-    (lt_test (length (commands_of rows s)) 8192 is.fewer)
-  where
-    lt_test : (m n : ℕ) → m < n → nat_lt m n ≡ true
-    lt_test m n lt = grind (arith, nat_tests)
+    (lt-ltb (length (commands_of rows s)) 8192 is.fewer)
 
 stand_told : (rows : List Row) (s : ℕ) (c : Command) → may_stand rows s c ≡ true → MayStand rows s c
 stand_told rows s c is =
@@ -163,15 +155,11 @@ stand_told rows s c is =
     let b = and_parts (nat_lt s 64 && is_command c) (may_follow (commands_of rows s) c) d.0 in
     let a = and_parts (nat_lt s 64) (is_command c) b.0 in
     record {
-      below = lt_of s 64 a.0;
+      below = ltb-true s 64 a.0;
       ranges = command_told c a.1;
       follows = b.1;
-      fewer =
-          lt_of (length (commands_of rows s)) 8192 d.1;
+      fewer = ltb-true (length (commands_of rows s)) 8192 d.1;
     }
-  where
-    lt_of : (m n : ℕ) → nat_lt m n ≡ true → m < n
-    lt_of m n test = grind (arith, nat_tests)
 
 -- the row that stands behind a gate is found
 pub row_is : (rows : List Row) (r : Row) (rest past : List ℕ)

@@ -3,8 +3,7 @@ use Rattle.std.proofs.Common.{◌≡◌, ◌≢◌, inl, inr, ℕ, ◌+◌, ◌<
 use Rattle.std.proofs.Common.{◌∷◌, ◌++◌, length, refl, sym, ◌∙◌, ap, subst, arith, length-append}
 use Rattle.std.proofs.Common.{map}
 use Rattle.std.specs.Prelude.{if◌then◌else◌, ◌&&◌, not, ◌==◌}
-use Rattle.std.proofs.lemmas.Bool.{cases_eq}
-use Rattle.std.proofs.lemmas.Bool.Decides.{nat_tests}
+use Rattle.std.proofs.lemmas.Bool.{cases_eq, eq-eqb, eqb-true, ne_eqb}
 use Rattle.gate_journal.specs.declared.command.Command.{Command}
 use Rattle.gate_journal.specs.declared.row.Row.{Row}
 use Rattle.gate_journal.specs.Command.{IsCommand}
@@ -58,14 +57,11 @@ live_step r rows s false test is so = by (is_live r rows)
         ∙ so
     by false = so
 
-same_number : (a b : ℕ) → (a == b) ≡ true → a ≡ b
-same_number a b is = grind (arith, nat_tests)
-
 -- of each session those of its commands are live that its own commands say
 pub live_commands : (rows : List Row) (s : ℕ) → commands_of (live_rows rows) s ≡ kept (commands_of rows s)
 live_commands [] s = refl
 live_commands (r ∷ rows) s =
-    live_step r rows s (r.session == s) refl (same_number r.session s) (live_commands rows s)
+    live_step r rows s (r.session == s) refl (eqb-true r.session s) (live_commands rows s)
 
 -- a place changes no command
 pub placed_commands : (front rows : List Row) (s : ℕ)
@@ -115,23 +111,17 @@ abbrev pub AreGood : List Command → List Command → Type 0
 AreGood before commands =
     IsLegal (is_free before) commands × (length before + length commands ≤ 8192)
 
-yes_equal : (a b : ℕ) → a ≡ b → (a == b) ≡ true
-yes_equal a b is = grind (arith, nat_tests)
-
-not_equal : (a b : ℕ) → a ≢ b → (a == b) ≡ false
-not_equal a b isnt = grind (arith, nat_tests)
-
 of_this : (r : Row) (rows : List Row) (s : ℕ) → r.session ≡ s
     → commands_of (r ∷ rows) s ≡ r.command ∷ commands_of rows s
 of_this r rows s is =
     ap (λ (b : Bool). if b then r.command ∷ commands_of rows s else commands_of rows s)
-    (yes_equal r.session s is)
+    (eq-eqb r.session s is)
 
 of_other : (r : Row) (rows : List Row) (s : ℕ) → r.session ≢ s
     → commands_of (r ∷ rows) s ≡ commands_of rows s
 of_other r rows s isnt =
     ap (λ (b : Bool). if b then r.command ∷ commands_of rows s else commands_of rows s)
-    (not_equal r.session s isnt)
+    (ne_eqb r.session s isnt)
 
 -- what a journal's rows say of one session
 pub good : (rows front : List Row) (s : ℕ)

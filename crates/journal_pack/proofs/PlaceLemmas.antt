@@ -1,9 +1,9 @@
 -- The live rows by their places.
-use Rattle.std.proofs.Common.{◌≡◌, ℕ, ◌+◌, ◌<◌, ◌≤◌, Bool, true, false, List, [], ◌∷◌, ◌++◌, length}
+use Rattle.std.proofs.Common.{◌≡◌, ℕ, ◌+◌, ◌≤◌, Bool, true, false, List, [], ◌∷◌, ◌++◌, length}
 use Rattle.std.proofs.Common.{refl, sym, ◌∙◌, ap, arith, length-append, append_assoc}
 use Rattle.std.specs.Prelude.{if◌then◌else◌, ◌&&◌, ◌||◌, not, ◌==◌, nat_le}
 use Rattle.std.specs.List.{filter}
-use Rattle.std.proofs.lemmas.Bool.Decides.{nat_tests}
+use Rattle.std.proofs.lemmas.Bool.{eq-eqb, le-leb, lt-leb}
 use Rattle.gate_journal.specs.declared.command.Command.{Command}
 use Rattle.gate_journal.specs.declared.row.Row.{Row}
 use Rattle.gate_journal.specs.Rows.{commands_of, is_free, is_open, journal_bytes, row_body}
@@ -145,15 +145,6 @@ free_append [] c m = refl
 free_append (x ∷ []) c m = refl
 free_append (x ∷ y ∷ l) c m = free_append (y ∷ l) c m
 
-yes_le : (a b : ℕ) → a ≤ b → nat_le a b ≡ true
-yes_le a b le = grind (arith, nat_tests)
-
-not_le : (a b : ℕ) → b < a → nat_le a b ≡ false
-not_le a b lt = grind (arith, nat_tests)
-
-same_session : (s : ℕ) → (s == s) ≡ true
-same_session s = grind (arith, nat_tests)
-
 -- the test by places, at one row
 at_row :
     (front rows : List Row) (r : Row) → EachNext front (r ∷ rows)
@@ -178,16 +169,16 @@ at_row front rows r each most =
     by_bool (has_open (commands_of rows s))
     (nat_le (last_open 0 (front ++ r ∷ rows) s) r.place ≡ not (has_open (commands_of rows s)))
     (λ some.
-    not_le (last_open 0 (front ++ r ∷ rows) s) r.place
+    lt-leb (last_open 0 (front ++ r ∷ rows) s) r.place
     (omega (arith, last, last_some (r.place + 1) next rows s some behind))
     ∙ ap (λ (b : Bool). not b) (sym some))
     (λ none.
-    yes_le (last_open 0 (front ++ r ∷ rows) s) r.place
+    le-leb (last_open 0 (front ++ r ∷ rows) s) r.place
     (omega (arith, last, last_none next rows s none, below))
     ∙ ap (λ (b : Bool). not b) (sym none)) in
     let own : commands_of (r ∷ rows) s ≡ r.command ∷ commands_of rows s =
     ap (λ (b : Bool). if b then r.command ∷ commands_of rows s else commands_of rows s)
-    (same_session s) in
+    (eq-eqb s s refl) in
     let free : is_free (commands_of (front ++ r ∷ rows) s)
     ≡ is_free (r.command ∷ commands_of rows s) =
     ap is_free (commands_append front (r ∷ rows) s

@@ -1,13 +1,14 @@
 -- A line is a spelling, with a CR behind it or without.
-use Rattle.std.proofs.Common.{◌≡◌, ℕ, zero, suc, ◌-◌, ◌+◌, ◌<◌, ◌≤◌, ◌⊎◌, inl, inr, Bool, true}
+use Rattle.std.proofs.Common.{◌≡◌, ℕ, zero, suc, ◌-◌, ◌+◌, ◌<◌, ◌⊎◌, inl, inr, Bool, true}
 use Rattle.std.proofs.Common.{false, ◌==◌, cond, nat_lt, List, [], ◌∷◌, ◌++◌, length, get_or}
-use Rattle.std.proofs.Common.{take, Option, Some, None, refl, ap, sym, ◌∙◌, arith}
+use Rattle.std.proofs.Common.{take, Option, Some, refl, ap, sym, ◌∙◌, arith}
+use Rattle.std.proofs.lemmas.Bool.{and_parts}
 use Rattle.std.proofs.lemmas.Bool.Decides.{nat_tests}
 use Rattle.std.proofs.lemmas.List.{length-append, take_at, take_all, take_more}
 use Rattle.std.proofs.Math.Seq.{get_or-append_seam}
 use Rattle.line_words.specs.Play.{ends_in_cr, without_cr, is_long, unless_long}
 use Rattle.line_words.specs.Spelling.{IsLineOf}
-use Rattle.line_words.proofs.WordLaws.{both, else_some}
+use Rattle.line_words.proofs.WordLaws.{else_some}
 use Rattle.line_words.proofs.ReaderLaws.{NoCr}
 
 no_cr_at : (bs : List ℕ) (i : ℕ) → NoCr bs → i < length bs → (get_or bs i 0 == 13) ≡ false
@@ -56,7 +57,7 @@ cr_parts line = by (ends_in_cr line) refl where
       ⊎ (line ≡ cond ends (take (length line - 1) line) line ++ 13 ∷ [])
   by false e = inl refl
   by true e =
-      let h = both (nat_lt 0 (length line)) (get_or line (length line - 1) 0 == 13) e in
+      let h = and_parts (nat_lt 0 (length line)) (get_or line (length line - 1) 0 == 13) e in
       let more : 0 < length line = grind (arith, nat_tests, h.0) in
       let last : get_or line (length line - 1) 0 ≡ 13 = grind (arith, nat_tests, h.1) in
       inr (last_apart line more ∙ ap (λ (x : ℕ). take (length line - 1) line ++ (x ∷ [])) last)

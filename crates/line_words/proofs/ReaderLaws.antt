@@ -3,6 +3,7 @@ use Rattle.std.proofs.Common.{◌≡◌, ℕ, cond, ◌^◌, ◌<◌, ◌≤◌,
 use Rattle.std.proofs.Common.{inr, nat_lt, nat_le, List, [], ◌∷◌, ◌++◌, length, Option, Some}
 use Rattle.std.proofs.Common.{None, refl, ap, sym, subst, ◌∙◌, arith, append_assoc, append-nil}
 use Rattle.std.specs.Fmt.{decimal}
+use Rattle.std.proofs.lemmas.Bool.{and_parts}
 use Rattle.std.proofs.lemmas.Bool.Decides.{nat_tests}
 use Rattle.std.proofs.lemmas.List.{nil_from_length}
 use Rattle.story_text.specs.Reading.{text_of}
@@ -17,7 +18,7 @@ use Rattle.line_words.specs.Field.{number_between, key_at, text_at, code_at, ter
 use Rattle.line_words.specs.Spelling.{field, number_field, terminator, IsTerminator}
 use Rattle.line_words.specs.Field.{number_spelled, is_watch_digit, are_watch_digits, is_watch_word}
 use Rattle.line_words.specs.Field.{watch_word_at}
-use Rattle.line_words.proofs.WordLaws.{bind_some, both, some_is, if_some, Lacks, visible_lacks}
+use Rattle.line_words.proofs.WordLaws.{bind_some, some_is, if_some, Lacks, visible_lacks}
 use Rattle.line_words.proofs.WordLaws.{IsEnd, word_at_again, word_at_only, decimal_again}
 use Rattle.line_words.proofs.WordLaws.{decimal_only, digits_visible, digits-decimal}
 
@@ -33,7 +34,7 @@ NoCr-append (x ∷ xs) ys a b = (a.0, NoCr-append xs ys a.1 b)
 pub letters_visible : (bs : List ℕ) → are_letters bs ≡ true → AreVisible bs
 letters_visible [] h = tt
 letters_visible (b ∷ bs) h =
-    let p = both (is_letter b) (are_letters bs) h in
+    let p = and_parts (is_letter b) (are_letters bs) h in
     (grind (arith, nat_tests, p.0), letters_visible bs p.1)
 
 -- ---- what a reader reads
@@ -215,8 +216,8 @@ number_reads low high small =
 
 letters : (key : List ℕ) → is_key key ≡ true → are_letters key ≡ true
 letters key h =
-    let p = both (nat_lt 0 (length key)) (nat_le (length key) 32 && are_letters key) h in
-    (both (nat_le (length key) 32) (are_letters key) p.1).1
+    let p = and_parts (nat_lt 0 (length key)) (nat_le (length key) 32 && are_letters key) h in
+    (and_parts (nat_le (length key) 32) (are_letters key) p.1).1
 
 -- a word that passes a test, where what passes it is visible
 passed_reads : (test : List ℕ → Bool)
@@ -238,14 +239,14 @@ key_reads = passed_reads is_key (λ key h. letters_visible key (letters key h))
 watch_digits_visible : (bs : List ℕ) → are_watch_digits bs ≡ true → AreVisible bs
 watch_digits_visible [] h = tt
 watch_digits_visible (b ∷ bs) h =
-    let p = both (is_watch_digit b) (are_watch_digits bs) h in
+    let p = and_parts (is_watch_digit b) (are_watch_digits bs) h in
     (grind (arith, nat_tests, p.0), watch_digits_visible bs p.1)
 
 pub watch_word_reads : IsReader (List ℕ) IsEnd WatchWordIs watch_word_at
 unfolding watch_word_at
 watch_word_reads =
     passed_reads is_watch_word (λ digits h.
-    watch_digits_visible digits (both (length digits == 16) (are_watch_digits digits) h).1)
+    watch_digits_visible digits (and_parts (length digits == 16) (are_watch_digits digits) h).1)
 
 pub text_reads : IsReader (List ℕ) IsEnd TextIs text_at
 unfolding text_at

@@ -4,6 +4,7 @@ use Rattle.std.proofs.Common.{false, ◌&&◌, ◌==◌, cond, nat_le, List, [],
 use Rattle.std.proofs.Common.{get_or, Option, Some, None, refl, ap, sym, subst, ◌∙◌, arith}
 use Rattle.std.specs.Fmt.{decimal}
 use Rattle.std.specs.Int.{IsInRange}
+use Rattle.std.proofs.lemmas.Bool.{and_parts}
 use Rattle.std.proofs.lemmas.Bool.Decides.{nat_tests}
 use Rattle.std.proofs.lemmas.Fmt.{decimal_digit, decimal_nonempty, first_decimal}
 use Rattle.std.proofs.lemmas.Fmt.{digits_decimal, digits_value-decimal, decimal-digits_value}
@@ -18,11 +19,6 @@ pub bind_some : {A B : Type 0} (r : Option A) (f : A → Option B) (y : B)
     → (x : A) × (r ≡ Some x) × (f x ≡ Some y)
 bind_some (Some x) f y e = (x, refl, e)
 bind_some None f y e = absurd cc
-
-pub both : (x y : Bool) → (x && y) ≡ true → (x ≡ true) × (y ≡ true)
-both true true e = (refl, refl)
-both true false e = absurd cc
-both false y e = absurd cc
 
 abbrev some : {A : Type 0} → A → Option A
 some x = Some x
@@ -130,7 +126,7 @@ in_digit b e = grind (arith, nat_tests, e.0, e.1)
 tells : IsDigitsTest (λ ds. all_digits ds ≡ true)
 tells = record {
   empty = refl;
-  parts = λ c cs h. let p = both (is_digit c) (all_digits cs) h in (digit_in c p.0, p.1);
+  parts = λ c cs h. let p = and_parts (is_digit c) (all_digits cs) h in (digit_in c p.0, p.1);
   more = λ c cs h t. rw (in_digit c h, t) refl;
 }
 
@@ -149,7 +145,7 @@ number_from_again : (high n : ℕ) (ds : List ℕ)
     → number_from high n ds ≡ Some (value n ds)
 number_from_again high n [] h le = refl
 number_from_again high n (b ∷ bs) h le =
-    let p = both (is_digit b) (all_digits bs) h in
+    let p = and_parts (is_digit b) (all_digits bs) h in
     let small : nat_le (n * 10 + (b - 48)) high ≡ true =
     grind (arith, nat_tests, value_grows (n * 10 + (b - 48)) bs, le) in
     rw (p.0, small) (number_from_again high (n * 10 + (b - 48)) bs p.1 le)
@@ -163,7 +159,7 @@ number_from_only high n m (b ∷ bs) le e =
     let h =
     if_some (is_digit b && nat_le (n * 10 + (b - 48)) high)
     (number_from high (n * 10 + (b - 48)) bs) m e in
-    let p = both (is_digit b) (nat_le (n * 10 + (b - 48)) high) h.0 in
+    let p = and_parts (is_digit b) (nat_le (n * 10 + (b - 48)) high) h.0 in
     let t = number_from_only high (n * 10 + (b - 48)) m bs (grind (arith, nat_tests, p.1)) h.1 in
     (rw (p.0, t.0) refl, t.1, t.2)
 
@@ -219,7 +215,7 @@ decimal_only high n (b ∷ c ∷ bs) small e =
 pub digits_visible : (ds : List ℕ) → all_digits ds ≡ true → AreVisible ds
 digits_visible [] h = tt
 digits_visible (b ∷ bs) h =
-    let p = both (is_digit b) (all_digits bs) h in
+    let p = and_parts (is_digit b) (all_digits bs) h in
     (grind (arith, nat_tests, p.0), digits_visible bs p.1)
 
 pub digits-decimal : (n : ℕ) → n < 2 ^ 64 → all_digits (decimal n) ≡ true

@@ -1,6 +1,7 @@
 -- Of a session in use the live commands are its game.
 use Rattle.std.proofs.Common.{◌≡◌, Bool, true, false, List, [], ◌∷◌, refl, sym, ◌∙◌, ap, arith}
 use Rattle.std.specs.Prelude.{if◌then◌else◌, ◌&&◌, ◌||◌, not}
+use Rattle.std.proofs.lemmas.Bool.{or_parts}
 use Rattle.gate_journal.specs.declared.command.Command.{Command}
 use Rattle.gate_journal.specs.Rows.{commands_of, is_open, is_free}
 use Rattle.journal_pack.specs.Live.{has_open, live_rows}
@@ -14,16 +15,12 @@ game_step : (o h : Bool) (x g : List Command)
 game_step false h x g isnt none = ap (λ (l : List Command). later [] l) none
 game_step true h x g isnt none = cc
 
-or_false : (o h : Bool) → (o || h) ≡ false → h ≡ false
-or_false false h isnt = isnt
-or_false true h isnt = cc
-
 -- where none opens the session, there is no game
 game_none : (cs : List Command) → has_open cs ≡ false → game_of cs ≡ []
 game_none [] isnt = refl
 game_none (c ∷ cs) isnt =
     game_step (is_open c) (has_open cs) (c ∷ cs) (game_of cs) isnt
-    (game_none cs (or_false (is_open c) (has_open cs) isnt))
+    (game_none cs (or_parts (is_open c) (has_open cs) isnt).1)
 
 -- where one does, there is a game
 abbrev IsSome : List Command → Type 0

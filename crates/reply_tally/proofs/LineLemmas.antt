@@ -1,9 +1,10 @@
 -- Bytes with no LF among them, and the lines that an LF cuts off.
 use Rattle.std.proofs.Common.{◌≡◌, ◌≢◌, ℕ, zero, suc, ◌+◌, ◌/◌, ◌%◌, Bool, true, false, ◌==◌}
-use Rattle.std.proofs.Common.{nat_lt, ◌||◌, cond, List, [], ◌∷◌, ◌++◌, refl, sym, ap, ◌∙◌, arith}
+use Rattle.std.proofs.Common.{nat_lt, cond, List, [], ◌∷◌, ◌++◌, refl, sym, ap, ◌∙◌, arith}
 use Rattle.std.proofs.Common.{append_assoc}
 use Rattle.std.specs.Fmt.{digit_glyph, digits_onto, digits, decimal}
 use Rattle.std.specs.List.{AllByRecursion as Each, flat_map, list_any}
+use Rattle.std.proofs.lemmas.Bool.{or_parts}
 use Rattle.std.proofs.lemmas.Bool.Decides.{nat_tests}
 use Rattle.std.proofs.lemmas.List.{append-nil}
 use Rattle.line_words.specs.Spelling.{number_field}
@@ -27,15 +28,11 @@ NoLf-flat_map f [] h = tt
 NoLf-flat_map f (byte ∷ bytes) h =
     NoLf-append (f byte) (flat_map f bytes) (h byte) (NoLf-flat_map f bytes h)
 
-neither : (x y : Bool) → (x || y) ≡ false → (x ≡ false) × (y ≡ false)
-neither true y h = absurd cc
-neither false y h = (refl, h)
-
 -- a literal's bytes are looked at
 pub checked_no_lf : (bytes : List ℕ) → list_any (λ byte. byte == 10) bytes ≡ false → NoLf bytes
 checked_no_lf [] h = tt
 checked_no_lf (byte ∷ bytes) h =
-    let parts = neither (byte == 10) (list_any (λ b. b == 10) bytes) h in
+    let parts = or_parts (byte == 10) (list_any (λ b. b == 10) bytes) h in
     (λ e. grind (arith, nat_tests, parts.0), checked_no_lf bytes parts.1)
 
 pub letter_no_lf : (byte : ℕ) → (byte == 10) ≡ false → NoLf (byte ∷ [])

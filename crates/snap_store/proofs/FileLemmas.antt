@@ -1,7 +1,7 @@
 -- What stands in a file that agrees with another one.
 use Rattle.std.proofs.Common.{◌≡◌, ◌⊎◌, inl, inr, ℕ, zero, suc, ◌+◌, ◌*◌, ◌^◌, ◌<◌, ◌≤◌, Bool, true}
 use Rattle.std.proofs.Common.{false, List, length, get_or, take, drop, refl, sym, ◌∙◌, ap, arith}
-use Rattle.std.specs.Prelude.{nat_eq, nat_le, ◌&&◌, if◌then◌else◌, Some, None}
+use Rattle.std.specs.Prelude.{nat_eq, nat_le, if◌then◌else◌, Some, None}
 use Rattle.std.specs.List.{starts_with}
 use lib.Pointwise.{pointwise}
 use Rattle.std.proofs.lemmas.List.{ext_get_or, length-take, length-drop, get_or-take, get_or-drop}
@@ -71,14 +71,6 @@ pub first_number_read :
 first_number_read n at file bytes reads within =
     big_from_same n 0 at bytes file (λ k lt.
     reads (0 + k) (omega arith) ∙ ap (λ (j : ℕ). get_or file j 0) (omega arith))
-
-pub and-true : (b : Bool) → (b && true) ≡ b
-and-true true = refl
-and-true false = refl
-
-pub and-false : (b : Bool) → (b && false) ≡ false
-and-false true = refl
-and-false false = refl
 
 -- the first bytes tell whether the header is there
 pub starts_same :

@@ -1,8 +1,8 @@
 -- Which area is the newest.
-use Rattle.std.proofs.Common.{◌≡◌, ◌⊎◌, inl, inr, ◌≤◌, ◌∙◌, sym, ap, arith}
+use Rattle.std.proofs.Common.{◌≡◌, ◌⊎◌, inl, inr, ◌≤◌, ◌∙◌, sym, ap}
 use Rattle.std.proofs.Common.{ℕ, Bool, true, false, List, ◌++◌, refl}
 use Rattle.std.specs.Prelude.{nat_lt, ◌&&◌, if◌then◌else◌, filter, Option, Some, None, nat_le, ◌==◌}
-use Rattle.std.proofs.lemmas.Bool.Decides.{nat_tests}
+use Rattle.std.proofs.lemmas.Bool.{and_parts, eqb-true, leb-true}
 use Rattle.snap_store.specs.declared.side.Side.{Side}
 use Rattle.snap_store.specs.declared.side.Side.TheVariants.{A, B}
 use Rattle.snap_store.specs.File.{Stored, area_listed, greatest, is_open_area}
@@ -61,23 +61,12 @@ found_among true false true true a b x is = inr (refl, refl, same_area b x is)
 found_among false wanted_a true true a b x is = inr (refl, refl, same_area b x is)
 found_among open_a wanted_a open_b wanted_b a b x is = absurd (none_some x is)
 
-both_parts : (p q : Bool) → (p && q) ≡ true → (p ≡ true) × (q ≡ true)
-both_parts true true is = (refl, refl)
-both_parts true false is = absurd (cc)
-both_parts false q is = absurd (cc)
-
 wanted_is :
     (place most : ℕ) (x : Stored) → is_wanted_area place most x ≡ true
     → (x.place ≡ place) × (x.count ≤ most)
 wanted_is place most x is =
-    let parts = both_parts (x.place == place) (nat_le x.count most) is in
-    (same (x.place) place parts.0, no_more x.count most parts.1)
-  where
-    same : (m n : ℕ) → (m == n) ≡ true → m ≡ n
-    same m n is = grind (arith, nat_tests)
-
-    no_more : (m n : ℕ) → nat_le m n ≡ true → m ≤ n
-    no_more m n is = grind (arith, nat_tests)
+    let parts = and_parts (x.place == place) (nat_le x.count most) is in
+    (eqb-true x.place place parts.0, leb-true x.count most parts.1)
 
 open_is :
     (side : Side) (file : List ℕ) (x : Stored)

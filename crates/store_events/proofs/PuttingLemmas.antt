@@ -2,8 +2,7 @@
 use Rattle.std.proofs.Common.{◌≡◌, ◌∙◌, ℕ, ◌+◌, ◌^◌, ◌<◌, ◌≤◌, Bool, true, false, List}
 use Rattle.std.proofs.Common.{[], ◌∷◌, length, refl, sym, ap, subst, arith}
 use Rattle.std.specs.Prelude.{◌&&◌, nat_le, nat_lt, Option, Some}
-use Rattle.std.proofs.lemmas.Bool.{and_parts}
-use Rattle.std.proofs.lemmas.Bool.Decides.{nat_tests}
+use Rattle.std.proofs.lemmas.Bool.{and_parts, leb-true, ltb-true}
 use Rattle.disk_model.specs.Disk.{file_written}
 use Rattle.disk_model.specs.DiskState.{DiskState, IsDiskImage, settled}
 use Rattle.disk_model.proofs.StateLaws.{only_settled, seen_write, settled_image}
@@ -43,12 +42,6 @@ true_false is = cc
 
 -- ---- an area that there is room for
 
-by_le : (n m : ℕ) → nat_le n m ≡ true → n ≤ m
-by_le n m is = grind (arith, nat_tests)
-
-by_lt : (n m : ℕ) → nat_lt n m ≡ true → n < m
-by_lt n m is = grind (arith, nat_tests)
-
 -- its place, its count and its bytes
 fits : (area : Stored) → has_room area ≡ true
     → (area.place < 2 ^ 64) × (area.count < 2 ^ 32) × (length area.bytes ≤ MAX_SNAPSHOT)
@@ -56,9 +49,9 @@ fits area room =
     let all = and_parts (nat_lt area.place (2 ^ 64) && nat_lt area.count (2 ^ 32))
     (nat_le (length area.bytes) MAX_SNAPSHOT) room in
     let numbers = and_parts (nat_lt area.place (2 ^ 64)) (nat_lt area.count (2 ^ 32)) all.0 in (
-      by_lt area.place (2 ^ 64) numbers.0,
-      by_lt area.count (2 ^ 32) numbers.1,
-      by_le (length area.bytes) MAX_SNAPSHOT all.1,
+      ltb-true area.place (2 ^ 64) numbers.0,
+      ltb-true area.count (2 ^ 32) numbers.1,
+      leb-true (length area.bytes) MAX_SNAPSHOT all.1,
     )
 
 -- ---- both sides of an image, seen from one of them

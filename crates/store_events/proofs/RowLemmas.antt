@@ -3,8 +3,7 @@ use Rattle.std.proofs.Common.{◌≡◌, ◌≢◌, inl, inr, ◌∙◌, ℕ, �
 use Rattle.std.proofs.Common.{◌++◌, length, refl, sym, ap, subst, append_assoc, arith}
 use Rattle.std.specs.Prelude.{◌&&◌, ◌==◌, ◌≤◌, Some, if◌then◌else◌, not}
 use Rattle.std.specs.List.{Contains}
-use Rattle.std.proofs.lemmas.Bool.{cases_Bool, cases_eq}
-use Rattle.std.proofs.lemmas.Bool.Decides.{nat_tests}
+use Rattle.std.proofs.lemmas.Bool.{cases_Bool, cases_eq, eq-eqb, ne_eqb}
 use Rattle.std.proofs.lemmas.List.{append-nil, length-append}
 use Rattle.std.proofs.lemmas.List.Elements.{Contains-append_cases, Contains-push_cases}
 use Rattle.gate_journal.specs.Rows.{is_open}
@@ -76,12 +75,6 @@ game_more (d ∷ cs) c begun follows shut =
     ∙ joined_more (game_of (d ∷ cs)) c (λ none. game_some d cs begun none)
 
 -- ---- the places of OPEN rows
-
-here_test : (m n : ℕ) → m ≡ n → (m == n) ≡ true
-here_test m n is = grind (arith, nat_tests)
-
-other_test : (m n : ℕ) → m ≢ n → (m == n) ≡ false
-other_test m n apart = grind (arith, nat_tests)
 
 abbrev own : Row → ℕ → Bool
 own r s = r.session == s && is_open r.command
@@ -224,7 +217,7 @@ module _ (stories : List Story) (rows : List Row) (r : Row) (s : ℕ) (store : S
   other : r.session ≢ s → Told []
   other apart =
       let own_is : own r s ≡ false =
-      ap (λ (t : Bool). t && is_open r.command) (other_test r.session s apart) in (
+      ap (λ (t : Bool). t && is_open r.command) (ne_eqb r.session s apart) in (
         parts_are (opens_of rows s) (game_of (commands_of rows s))
             (places_by false own_is ∙ append-nil (opens_of rows s))
             (ap game_of (commands_of-other rows r s apart)),
@@ -234,7 +227,7 @@ module _ (stories : List Story) (rows : List Row) (r : Row) (s : ℕ) (store : S
   own_opens : r.session ≡ s → is_open r.command ≡ true → Told (Begins r.place r.command ∷ [])
   own_opens same opens =
       let own_is : own r s ≡ true =
-      ap (λ (t : Bool). t && is_open r.command) (here_test r.session s same) ∙ opens in (
+      ap (λ (t : Bool). t && is_open r.command) (eq-eqb r.session s same) ∙ opens in (
         parts_are (opens_of rows s ++ r.place ∷ []) (r.command ∷ []) (places_by true own_is)
             (ap game_of (commands_of-same rows r s same)
             ∙ game_of-append-open (commands_of rows s) r.command opens),
@@ -244,7 +237,7 @@ module _ (stories : List Story) (rows : List Row) (r : Row) (s : ℕ) (store : S
   own_more : r.session ≡ s → is_open r.command ≡ false → Told (Takes r.command ∷ [])
   own_more same shut =
       let own_is : own r s ≡ false =
-      ap (λ (t : Bool). t && is_open r.command) (here_test r.session s same) ∙ shut in
+      ap (λ (t : Bool). t && is_open r.command) (eq-eqb r.session s same) ∙ shut in
       let follows : may_follow (commands_of rows s) r.command ≡ true =
       subst (λ (n : ℕ). may_follow (commands_of rows n) r.command ≡ true) same
       next.stands.follows in (
@@ -263,13 +256,13 @@ module _ (stories : List Story) (rows : List Row) (r : Row) (s : ℕ) (store : S
   told : Told (told_of r s)
   told = elim (cases_eq r.session s) [
     | inr apart ↦
-        subst Told (as_told false (is_open r.command) (other_test r.session s apart) refl)
+        subst Told (as_told false (is_open r.command) (ne_eqb r.session s apart) refl)
         (other apart)
     | inl same ↦ elim (cases_Bool (is_open r.command)) [
       | inl opens ↦
-          subst Told (as_told true true (here_test r.session s same) opens) (own_opens same opens)
+          subst Told (as_told true true (eq-eqb r.session s same) opens) (own_opens same opens)
       | inr shut ↦
-          subst Told (as_told true false (here_test r.session s same) shut) (own_more same shut)
+          subst Told (as_told true false (eq-eqb r.session s same) shut) (own_more same shut)
     ]
   ]
 

@@ -5,7 +5,7 @@ use Rattle.std.proofs.Common.{ap, sym, subst, ◌∙◌, ◌⊎◌, arith, flat_
 use Rattle.std.specs.Char.{IsScalar}
 use Rattle.std.specs.Fmt.{digit_glyph}
 use Rattle.std.specs.Str.{is_utf8, chars, all_scalars}
-use Rattle.std.proofs.lemmas.Bool.{cond_both}
+use Rattle.std.proofs.lemmas.Bool.{and_parts, cond_both}
 use Rattle.std.proofs.lemmas.Bool.Decides.{nat_tests}
 use Rattle.std.proofs.lemmas.Str.{IsUtf8-from_is_utf8, is_utf8-from_IsUtf8}
 use Rattle.std.proofs.lemmas.Str.{scalars-chars, chars-encodes, encodes-chars}
@@ -41,15 +41,10 @@ AreBytes-encode c ok =
     (λ g. (grind (arith, nat_tests), (omega arith, (omega arith, tt)))) (λ g.
     (omega arith, (omega arith, (omega arith, (omega arith, tt)))))))
 
-both : (x y : Bool) → (x && y) ≡ true → (x ≡ true) × (y ≡ true)
-both true true e = (refl, refl)
-both true false e = absurd cc
-both false y e = absurd cc
-
 AreBytes-encodes : (cs : List ℕ) → all_scalars cs ≡ true → AreBytes (encode_utf8_all cs)
 AreBytes-encodes [] e = tt
 AreBytes-encodes (c ∷ cs) e =
-    let parts = both _ (all_scalars cs) e in
+    let parts = and_parts _ (all_scalars cs) e in
     AreBytes-append (lib.Utf8.encode c) (encode_utf8_all cs) (AreBytes-encode c parts.0)
     (AreBytes-encodes cs parts.1)
 
@@ -113,11 +108,11 @@ spelled_visible due [] e = tt
 spelled_visible zero (b ∷ bs) e =
     elim (chosen (b == 37) (is_spelled 2 bs) (is_visible b && is_spelled 0 bs) e) [
       | inl h ↦ (grind (arith, nat_tests, h.0), spelled_visible 2 bs h.1)
-      | inr h ↦ let parts = both (is_visible b) (is_spelled 0 bs) h.1 in
+      | inr h ↦ let parts = and_parts (is_visible b) (is_spelled 0 bs) h.1 in
           (parts.0, spelled_visible 0 bs parts.1)
     ]
 spelled_visible (suc due) (b ∷ bs) e =
-    let parts = both (is_hex b) (is_spelled due bs) e in
+    let parts = and_parts (is_hex b) (is_spelled due bs) e in
     (hex_is_visible b parts.0, spelled_visible due bs parts.1)
 
 if_some : {A : Type 0} (b : Bool) (x : Option A) (y : A)
@@ -163,23 +158,23 @@ bytes_only [] e = rw percent_decode-nil refl
 bytes_only (b ∷ []) e =
     elim (chosen (b == 37) (is_spelled 2 []) (is_visible b && true) e) [
       | inl h ↦ absurd cc
-      | inr h ↦ plain_step b [] h.0 (both (is_visible b) true h.1).0 (bytes_only [] refl)
+      | inr h ↦ plain_step b [] h.0 (and_parts (is_visible b) true h.1).0 (bytes_only [] refl)
     ]
 bytes_only (b ∷ c ∷ []) e =
     elim (chosen (b == 37) (is_spelled 2 (c ∷ [])) (is_visible b && is_spelled 0 (c ∷ [])) e) [
-      | inl h ↦ let due = (both (is_hex c) false h.1).1 in absurd cc
-      | inr h ↦ let parts = both (is_visible b) (is_spelled 0 (c ∷ [])) h.1 in
+      | inl h ↦ let due = (and_parts (is_hex c) false h.1).1 in absurd cc
+      | inr h ↦ let parts = and_parts (is_visible b) (is_spelled 0 (c ∷ [])) h.1 in
           plain_step b (c ∷ []) h.0 parts.0 (bytes_only (c ∷ []) parts.1)
     ]
 bytes_only (b ∷ c ∷ d ∷ rest) e =
     elim (chosen (b == 37) (is_spelled 2 (c ∷ d ∷ rest))
     (is_visible b && is_spelled 0 (c ∷ d ∷ rest)) e) [
       | inl h ↦
-          let high = both (is_hex c) (is_spelled 1 (d ∷ rest)) h.1 in
-          let low = both (is_hex d) (is_spelled 0 rest) high.1 in
+          let high = and_parts (is_hex c) (is_spelled 1 (d ∷ rest)) h.1 in
+          let low = and_parts (is_hex d) (is_spelled 0 rest) high.1 in
           escape_step b c d rest (is_mark b h.0) high.0 low.0 (bytes_only rest low.1)
       | inr h ↦
-          let parts = both (is_visible b) (is_spelled 0 (c ∷ d ∷ rest)) h.1 in
+          let parts = and_parts (is_visible b) (is_spelled 0 (c ∷ d ∷ rest)) h.1 in
           plain_step b (c ∷ d ∷ rest) h.0 parts.0 (bytes_only (c ∷ d ∷ rest) parts.1)
     ]
 
@@ -198,11 +193,11 @@ read_parts [] text e = absurd cc
 read_parts (mark ∷ body) text e =
     let first =
     if_some (mark == 61 && is_spelled 0 body) (text_of_bytes (percent_decode body)) text e in
-    let marks = both (mark == 61) (is_spelled 0 body) first.0 in
+    let marks = and_parts (mark == 61) (is_spelled 0 body) first.0 in
     let bytes = percent_decode body in
     let second =
     if_some (is_utf8 bytes && is_short (chars bytes)) (Some (chars bytes)) text first.1 in
-    let tests = both (is_utf8 bytes) (is_short (chars bytes)) second.0 in
+    let tests = and_parts (is_utf8 bytes) (is_short (chars bytes)) second.0 in
     let same = some_is (chars bytes) text second.1 in
     record {
       body = body;

@@ -4,7 +4,7 @@ use Rattle.std.proofs.Common.{false, cond, nat_le, List, [], ◌∷◌, ◌++◌
 use Rattle.std.proofs.Common.{replicate, refl, arith, Result, Ok, Err, ap, sym, ◌∙◌, subst}
 use Rattle.std.proofs.Common.{append_assoc, length-append, slice_index}
 use Rattle.std.specs.List.{flat_map}
-use Rattle.std.proofs.lemmas.Bool.{ne_eqb}
+use Rattle.std.proofs.lemmas.Bool.{le-leb, ne_eqb}
 use Rattle.std.proofs.lemmas.List.{append-nil, length-replicate, replicate-append-replicate}
 use Rattle.std.proofs.lemmas.List.{take-replicate, drop-replicate}
 use Rattle.std.proofs.lemmas.Grind.{flat_map-append}
@@ -22,7 +22,7 @@ use Rattle.vm_stack.proofs.FrameLemmas.{first_word, second_word, aligned_up as a
 use Rattle.vm_stack.proofs.SavedLemmas.{length_head, head_then_padding}
 use Rattle.vm_stack.specs.Chain.{IsFormat}
 use Rattle.vm_stack.specs.declared.fault.StackFault.{StackFault}
-use Rattle.vm_stack.proofs.NumberLemmas.{le_true, number_within}
+use Rattle.vm_stack.proofs.NumberLemmas.{number_within}
 use Rattle.vm_stack.proofs.ChainLemmas.{length_word}
 use Rattle.vm_flow.specs.Answer.{from_stack, and_then}
 use Rattle.vm_flow.specs.Call.{pair_set, locals_set, arguments_given}
@@ -52,7 +52,7 @@ put_at_seam q new n w e h =
     let z = length-replicate {A = ℕ} n 0 in
     let a = length-append q (replicate n 0) in
     let fits : nat_le (length q + length new) (length (q ++ replicate n 0)) ≡ true =
-    le_true _ _ (omega (arith, a, z, e, h)) in
+    le-leb _ _ (omega (arith, a, z, e, h)) in
     let rest : drop (length q + length new) (q ++ replicate n 0) ≡ replicate (n - w) 0 =
     drop-append-add q (replicate n 0) (length new)
     ∙ (drop-replicate (length new) n 0 ∙ ap (λ (k : ℕ). replicate (n - k) 0) e) in
@@ -88,7 +88,7 @@ local_is p done f limit n w x total base sum h =
     let pos : locals_pos s ≡ number 4 p (f + 4) =
     number_in p (done ++ replicate n 0) (f + 4) (omega (arith, low)) in
     let fits : nat_le (length done + w) (frame_len s - locals_pos s) ≡ true =
-    le_true _ _ (omega (arith, len, pos, b_len, sum, h)) in
+    le-leb _ _ (omega (arith, len, pos, b_len, sum, h)) in
     let at : local_at s (length done) ≡ length p + length done = omega (arith, pos, b_pos) in
     let put : replaced_within s.bytes (local_at s (length done)) (big_bytes w x) ≡ p ++
     ((done ++ big_bytes w x) ++ replicate (n - w) 0) =
@@ -422,7 +422,7 @@ pub c1_begins : (s u : StackState) (kind at : ℕ) (format args : List ℕ) → 
 c1_begins s u kind at format args is small room c1 e =
     let t = with_frame s (fresh_frame format) in
     let enters : entered s format ≡ Ok t =
-    rw (le_true (length s.bytes + frame_len_of format) s.limit room) refl in
+    rw (le-leb (length s.bytes + frame_len_of format) s.limit room) refl in
     ap (λ (r : Result StackState StackFault). and_then {B = StackState × ℕ} (from_stack r) (λ t.
     and_then {B = StackState × ℕ} (arguments_given kind t format args) (λ v. Ok (v, at + 1 + length format)))) enters
     ∙ (ap (λ (r : Result StackState FlowStop). and_then {B = StackState × ℕ} r

@@ -2,6 +2,7 @@
 use Rattle.std.proofs.Common.{arith, ◌≡◌, ◌∙◌, refl, sym, ap, subst, ℕ, ◌+◌, ◌-◌, ◌*◌, ◌/◌, ◌%◌}
 use Rattle.std.proofs.Common.{◌^◌, ◌<◌, ◌≤◌, Bool, true, false, nat_lt, [], ◌∷◌, Result, Ok, Err}
 use Rattle.std.specs.List.{All}
+use Rattle.std.proofs.lemmas.Bool.{le-ltb, lt-ltb}
 use Rattle.byteorder.specs.Endian.{big_bytes}
 use Rattle.vm_memory.specs.Chaining.{◌>>=◌}
 use Rattle.vm_memory.specs.MemoryMap.{MemoryMap}
@@ -53,22 +54,16 @@ byte_stands m at x b e =
 
 -- ---- opcodes
 
-no_less : (a b : ℕ) → b ≤ a → nat_lt a b ≡ false
-no_less a b h = grind (arith, h)
-
-less : (a b : ℕ) → a < b → nat_lt a b ≡ true
-less a b h = grind (arith, h)
-
 in_one : (m : MemoryMap) (at a : ℕ) → read 1 m at ≡ Ok a → a < 0x80
     → opcode_number_at m at ≡ Ok (a, at + 1)
 unfolding opcode_number_at
-in_one m at a e h = rw e (rw (less a 0x80 h) refl)
+in_one m at a e h = rw e (rw (lt-ltb a 0x80 h) refl)
 
 in_two : (m : MemoryMap) (at a b : ℕ) → read 1 m at ≡ Ok a → read 1 m (at + 1) ≡ Ok b → 0x80 ≤ a
     → a < 0xC0
     → opcode_number_at m at ≡ Ok ((a - 0x80) * 2 ^ 8 + b, at + 2)
 unfolding opcode_number_at
-in_two m at a b e f g h = rw e (rw (no_less a 0x80 g) (rw (less a 0xC0 h) (rw f refl)))
+in_two m at a b e f g h = rw e (rw (le-ltb a 0x80 g) (rw (lt-ltb a 0xC0 h) (rw f refl)))
 
 in_four : (m : MemoryMap) (at a b c : ℕ) → read 1 m at ≡ Ok a → read 1 m (at + 1) ≡ Ok b
     → read 2 m (at + 2) ≡ Ok c → 0xC0 ≤ a
@@ -76,7 +71,7 @@ in_four : (m : MemoryMap) (at a b c : ℕ) → read 1 m at ≡ Ok a → read 1 m
 unfolding opcode_number_at
 in_four m at a b c e f g h =
     let k : 0x80 ≤ a = omega (arith, h) in
-    rw e (rw (no_less a 0x80 k) (rw (no_less a 0xC0 h) (rw f (rw g refl))))
+    rw e (rw (le-ltb a 0x80 k) (rw (le-ltb a 0xC0 h) (rw f (rw g refl))))
 
 no_first : (m : MemoryMap) (at : ℕ) (f : MemFault) → read 1 m at ≡ Err f
     → opcode_number_at m at ≡ Err (Read f)
@@ -87,8 +82,8 @@ no_second : (m : MemoryMap) (at a : ℕ) (f : MemFault) (b : Bool) → read 1 m 
     → read 1 m (at + 1) ≡ Err f → 0x80 ≤ a → nat_lt a 0xC0 ≡ b
     → opcode_number_at m at ≡ Err (Read f)
 unfolding opcode_number_at
-no_second m at a f true e g h t = rw e (rw (no_less a 0x80 h) (rw t (rw g refl)))
-no_second m at a f false e g h t = rw e (rw (no_less a 0x80 h) (rw t (rw g refl)))
+no_second m at a f true e g h t = rw e (rw (le-ltb a 0x80 h) (rw t (rw g refl)))
+no_second m at a f false e g h t = rw e (rw (le-ltb a 0x80 h) (rw t (rw g refl)))
 
 no_third : (m : MemoryMap) (at a b : ℕ) (f : MemFault) → read 1 m at ≡ Ok a
     → read 1 m (at + 1) ≡ Ok b → read 2 m (at + 2) ≡ Err f → 0xC0 ≤ a
@@ -96,7 +91,7 @@ no_third : (m : MemoryMap) (at a b : ℕ) (f : MemFault) → read 1 m at ≡ Ok 
 unfolding opcode_number_at
 no_third m at a b f e g k h =
     let l : 0x80 ≤ a = omega (arith, h) in
-    rw e (rw (no_less a 0x80 l) (rw (no_less a 0xC0 h) (rw g (rw k refl))))
+    rw e (rw (le-ltb a 0x80 l) (rw (le-ltb a 0xC0 h) (rw g (rw k refl))))
 
 numbered : (n k p : ℕ) → n ≡ k → ◌≡◌ {A = Result (ℕ × ℕ) OpFault} (Ok (n, p)) (Ok (k, p))
 numbered n k p e = rw e refl

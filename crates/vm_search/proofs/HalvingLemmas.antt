@@ -2,7 +2,7 @@
 use Rattle.std.proofs.Common.{◌≡◌, ◌≢◌, ◌∙◌, ◌⊎◌, inl, inr, ℕ, zero, suc, ◌+◌, ◌-◌, ◌<◌, ◌≤◌, ◌==◌}
 use Rattle.std.proofs.Common.{Bool, true, false, cond, nat_le, nat_lt, Some, None, Result, Ok, Err}
 use Rattle.std.proofs.Common.{length, refl, sym, ap, subst, arith}
-use Rattle.std.proofs.lemmas.Bool.{eqb-true, eqb-false}
+use Rattle.std.proofs.lemmas.Bool.{eqb-false, eqb-true, ltb-false, ltb-true}
 use Rattle.std.proofs.Math.Nat.{eq-or-lt_of_le}
 use Rattle.std.specs.Cmp.{ranks}
 use Rattle.std.specs.Ordering.{nat_cmp, MatchOrdering}
@@ -115,19 +115,13 @@ rises m q sorted i j l h =
       | inr s ↦ sorted i j s h
     ]
 
-less : (i p : ℕ) → nat_lt i p ≡ true → i < p
-less i p t = grind (arith, t)
-
-no_less : (i p : ℕ) → nat_lt i p ≡ false → p ≤ i
-no_less i p t = grind (arith, t)
-
 none_has : (m : MemoryMap) (q : Query) (p : ℕ) → LiesAt m q p → IsSorted m q → (i : ℕ) → i < q.count
     → Equals m q (structure_at q i) → ⊥
 none_has m q p lies sorted i l e = pick (nat_lt i p) refl
   where
     pick : (b : Bool) → nat_lt i p ≡ b → ⊥
     pick true t =
-        let s = less i p t in
+        let s = ltb-true i p t in
         elim lies.above as (λ _. ⊥) [
           | inl z ↦ omega (arith, s, z)
           | inr g ↦
@@ -139,7 +133,7 @@ none_has m q p lies sorted i l e = pick (nat_lt i p) refl
               omega (arith, same, own.2, there.2, up))
         ]
     pick false t =
-        let s = no_less i p t in
+        let s = ltb-false i p t in
         elim lies.below as (λ _. ⊥) [
           | inl z ↦ omega (arith, s, z, l)
           | inr g ↦

@@ -1,13 +1,13 @@
 -- The current frame and the stub below it, dropped in one.
 use Rattle.std.proofs.Common.{◌≡◌, ℕ, ◌+◌, ◌-◌, ◌≤◌, List, length, take, refl}
 use Rattle.std.proofs.Common.{Ok, arith, ap, sym, ◌∙◌, subst}
+use Rattle.std.proofs.lemmas.Bool.{le-leb}
 use Rattle.std.proofs.lemmas.List.{take-take, length-take}
 use Rattle.vm_stack.specs.StackState.{StackState, number, value_bytes}
 use Rattle.vm_stack.specs.Frame.{frame_left}
 use Rattle.vm_stack.specs.Stub.{stub_at, stub_taken}
 use Rattle.vm_stack.specs.Values.{without_top}
 use Rattle.vm_stack.specs.Chain.{Chain, HasFrame}
-use Rattle.vm_stack.proofs.NumberLemmas.{le_true}
 use Rattle.vm_stack.proofs.ChainLemmas.{left_keeps, taken_keeps, without_there, has_frame}
 
 -- what is left: where the stub on top begins, and the frame that it names
@@ -58,7 +58,7 @@ pub left_taken : (s : StackState) (b : List ℕ) (at frame : ℕ) → Left s b a
     → stub_taken (frame_left s)
     ≡ Ok (record s { bytes = take at s.bytes; frame = frame }, stub_at b at)
 left_taken s b at frame l le =
-    rw (le_true 16 (value_bytes (frame_left s)) (holds s b at frame l le))
+    rw (le-leb 16 (value_bytes (frame_left s)) (holds s b at frame l le))
     (rw (← dropped s b at frame l) (rw (l.named, l.place) (rw l.bytes refl)))
 
 -- a chain stays one, with a frame

@@ -3,7 +3,7 @@ use Rattle.std.proofs.Common.{◌≡◌, ℕ, false, ◌+◌, ◌-◌, ◌≤◌
 use Rattle.std.proofs.Common.{◌++◌, length, take, drop, refl, arith, ap, ◌∙◌, append_assoc}
 use Rattle.std.proofs.Common.{length-append, length-drop, true, nat_le, inl, inr}
 use Rattle.std.proofs.lemmas.List.{length-take, drop-append-le, take-append-le}
-use Rattle.std.proofs.lemmas.Bool.{cases_Bool, leb-true}
+use Rattle.std.proofs.lemmas.Bool.{cases_Bool, le-leb, leb-true}
 use Rattle.std.proofs.lemmas.Bool.Decides.{nat_tests}
 use Rattle.std.proofs.Math.Seq.{take-append-add, drop-append-add}
 use Rattle.byteorder.specs.Endian.{big_bytes}
@@ -11,7 +11,6 @@ use Rattle.vm_stack.specs.StackState.{StackState, number, replaced_within, frame
 use Rattle.vm_stack.specs.Locals.{local_at, IsWidth}
 use Rattle.vm_stack.specs.Frame.{frame_head}
 use Rattle.vm_stack.specs.Chain.{Frame, IsChain, Chain, HasFrame, bytes_of_frames, start}
-use Rattle.vm_stack.proofs.NumberLemmas.{le_true}
 use Rattle.vm_stack.proofs.FrameLemmas.{length_before, frame_len_is, locals_pos_is}
 use Rattle.vm_stack.proofs.ChainLemmas.{length_word}
 
@@ -20,7 +19,7 @@ put_in : (p l v new : List ℕ) (o : ℕ) → o + length new ≤ length l
     ≡ p ++ (take o l ++ new ++ drop (o + length new) l) ++ v
 put_in p l v new o h =
     let fits : nat_le (length p + o + length new) (length (p ++ l ++ v)) ≡ true =
-    le_true _ _ (omega (arith, length-append {A = ℕ}, h)) in
+    le-leb _ _ (omega (arith, length-append {A = ℕ}, h)) in
     let first : take (length p + o) (p ++ l ++ v) ≡ p ++ take o l =
     take-append-le (length p + o) (p ++ l) v (omega (arith, length-append p l, h))
     ∙ take-append-add p l o in

@@ -1,15 +1,13 @@
 -- Numbers that stand in lists put together.
 use Rattle.std.proofs.Common.{◌≡◌, ℕ, ◌+◌, ◌≤◌, ◌<◌, true, nat_le, List, ◌++◌, length}
 use Rattle.std.proofs.Common.{take, drop, refl, arith, sym, ap, ◌∙◌, length-append, length-drop}
+use Rattle.std.proofs.lemmas.Bool.{le-leb}
 use Rattle.std.proofs.lemmas.Bool.Decides.{nat_tests}
 use Rattle.std.proofs.lemmas.List.{drop-append-le, length-take-le, take-append-drop}
 use Rattle.std.proofs.Math.Seq.{drop-append-add}
 use Rattle.byteorder.specs.Numbers.{big_from-append, big_number-reads_back}
 use Rattle.byteorder.specs.Endian.{big_bytes}
 use Rattle.vm_stack.specs.StackState.{number}
-
-pub le_true : (a b : ℕ) → a ≤ b → nat_le a b ≡ true
-le_true a b h = grind (arith, nat_tests)
 
 -- a number behind other bytes
 pub number_behind : (low ys : List ℕ) (w n i : ℕ)
@@ -25,7 +23,7 @@ number_behind low ys w n i e =
 pub number_first : (x : ℕ) (ys : List ℕ) → x < 4294967296 → number 4 (big_bytes 4 x ++ ys) 0 ≡ x
 number_first x ys h =
     let l : nat_le (0 + 4) (length (big_bytes 4 x ++ ys)) ≡ true =
-    le_true _ _ (omega (arith, length-append (big_bytes 4 x) ys)) in
+    le-leb _ _ (omega (arith, length-append (big_bytes 4 x) ys)) in
     rw l (big_number-reads_back 4 x ys h)
 
 -- a number before other bytes
@@ -34,8 +32,8 @@ pub number_within : (xs ys : List ℕ) (at : ℕ)
     → number 4 xs at ≡ number 4 (xs ++ ys) at
 number_within xs ys at h =
     let a = length-append xs ys in
-    let one : nat_le (at + 4) (length xs) ≡ true = le_true _ _ h in
-    let two : nat_le (at + 4) (length (xs ++ ys)) ≡ true = le_true _ _ (omega (arith, a, h)) in
+    let one : nat_le (at + 4) (length xs) ≡ true = le-leb _ _ h in
+    let two : nat_le (at + 4) (length (xs ++ ys)) ≡ true = le-leb _ _ (omega (arith, a, h)) in
     let d = length-drop at xs in
     rw (one, two, drop-append-le at xs ys (omega (arith, h)))
     (sym (big_from-append 4 (drop at xs) ys (omega (arith, d, h))))

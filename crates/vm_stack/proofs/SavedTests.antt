@@ -1,8 +1,9 @@
 -- The test of a saved stack's bytes tells saved stacks.
 use Rattle.std.proofs.Common.{◌≡◌, inl, inr, ℕ, zero, suc, ◌+◌, ◌-◌, ◌%◌, ◌≤◌, ◌<◌, Bool}
-use Rattle.std.proofs.Common.{true, false, ◌==◌, ◌&&◌, ◌||◌, nat_le, nat_lt, List}
+use Rattle.std.proofs.Common.{true, false, ◌==◌, ◌||◌, nat_le, nat_lt, List}
 use Rattle.std.proofs.Common.{length, take, drop, refl, arith, sym, ap, ◌∙◌, length-drop}
-use Rattle.std.proofs.lemmas.Bool.{and_parts, or_cases, eqb-true}
+use Rattle.std.proofs.lemmas.Bool.{and_from, and_parts, eq-eqb, eqb-true, le-leb, leb-true}
+use Rattle.std.proofs.lemmas.Bool.{lt-ltb, ltb-true, or_cases}
 use Rattle.std.proofs.lemmas.Bool.Decides.{nat_tests}
 use Rattle.std.proofs.lemmas.List.{length-take}
 use Rattle.std.proofs.lemmas.Slice.Eq.{bytes_eq-Decides}
@@ -16,9 +17,6 @@ use Rattle.vm_stack.specs.SavedTest.{are_linked, is_saved_stack}
 use Rattle.vm_stack.proofs.SavedLemmas.{parts, some_format, read_frame, frame_read}
 use Rattle.vm_stack.proofs.LinkLemmas.{no_frames, link_up, link_down}
 
-both : (a b : Bool) → a ≡ true → b ≡ true → (a && b) ≡ true
-both a b h k = rw (h, k) refl
-
 -- one frame
 
 tested : (b f : List ℕ) (n : ℕ)
@@ -29,13 +27,11 @@ tested b f n size is small e =
     let head_is = bytes_eq (take (8 + length f) b) (frame_head f) in
     let in_fours = length b % 4 == 0 in
     let fits = nat_le (frame_len_of f + 16) (length b) in
-    let p = and_parts (nat_lt 0 (length f)) (fits && (in_fours && head_is)) e in
-    let q = and_parts fits (in_fours && head_is) p.1 in
+    let p = and_parts (nat_lt 0 (length f)) _ e in
+    let q = and_parts fits _ p.1 in
     let r = and_parts in_fours head_is q.1 in
-    let e0 : nat_lt 0 (length f) ≡ true = p.0 in
-    let e2 : fits ≡ true = q.0 in
-    let some : 0 < length f = grind (arith, nat_tests, e0) in
-    let long : frame_len_of f + 16 ≤ length b = grind (arith, nat_tests, e2) in
+    let some = ltb-true 0 (length f) p.0 in
+    let long = leb-true (frame_len_of f + 16) (length b) q.0 in
     let fours : length b % 4 ≡ 0 = eqb-true (length b % 4) 0 r.0 in
     let head : take (8 + length f) b ≡ frame_head f =
     (bytes_eq-Decides (take (8 + length f) b) (frame_head f)).0 r.1 in
@@ -54,12 +50,9 @@ passed : (b f : List ℕ)
     → length b % 4 ≡ 0 → take (8 + length f) b ≡ frame_head f
     → is_frame_of f b ≡ true
 passed b f some long fours head =
-    let one : nat_lt 0 (length f) ≡ true = grind (arith, nat_tests, some) in
-    let two : nat_le (frame_len_of f + 16) (length b) ≡ true = grind (arith, nat_tests, long) in
-    let three : (length b % 4 == 0) ≡ true = grind (arith, nat_tests, fours) in
-    let four : bytes_eq (take (8 + length f) b) (frame_head f) ≡ true =
-    (bytes_eq-Decides (take (8 + length f) b) (frame_head f)).1 head in
-    both _ _ one (both _ _ two (both _ _ three four))
+    and_from _ _ (lt-ltb 0 (length f) some) (and_from _ _ (le-leb _ _ long)
+    (and_from _ _ (eq-eqb (length b % 4) 0 fours)
+    ((bytes_eq-Decides (take (8 + length f) b) (frame_head f)).1 head)))
 
 frame_passes : (b : List ℕ) → OneFrame 16 b → is_one_frame b ≡ true
 frame_passes b h =
@@ -80,10 +73,9 @@ up_from : (below : List ℕ → Bool) (xs : List ℕ) (at : ℕ)
 up_from below xs at low is small e =
     let frame = is_one_frame (drop at xs) in
     let rest = below (take at xs) in
-    let p = and_parts (nat_lt at (length xs)) (frame && rest) e in
+    let p = and_parts (nat_lt at (length xs)) _ e in
     let q = and_parts frame rest p.1 in
-    let e1 : nat_lt at (length xs) ≡ true = p.0 in
-    let inside : at < length xs = grind (arith, nat_tests, e1) in
+    let inside = ltb-true at (length xs) p.0 in
     let over = length-drop at xs in
     let under = length-take at xs in
     link_up xs at inside (sym is)
@@ -109,8 +101,8 @@ down_from below n xs at low is some most linked =
     let d = link_down xs at some (sym is) linked in
     let inside : at < length xs = d.inside in
     let under = length-take at xs in
-    both _ _ (grind (arith, nat_tests, inside))
-    (both _ _ (frame_passes (drop at xs) d.frame)
+    and_from _ _ (lt-ltb at (length xs) inside)
+    (and_from _ _ (frame_passes (drop at xs) d.frame)
     (low (take at xs) (omega (arith, under, inside, most)) d.low))
 
 none_or_by : (n : ℕ) (b t : Bool) → (n == 0) ≡ t → (0 < n → b ≡ true) → (t || b) ≡ true
@@ -123,7 +115,7 @@ none_or n b h = none_or_by n b (n == 0) refl h
 linked_down : (n : ℕ) (xs : List ℕ) → length xs ≤ n → LinkedFrames xs → are_linked n xs ≡ true
 unfolding are_linked
 linked_down zero xs most linked =
-    let none : length xs ≡ 0 = omega (arith, most) in grind (arith, nat_tests, none)
+    eq-eqb (length xs) 0 (omega (arith, most))
 linked_down (suc n) xs most linked =
     none_or (length xs) (is_frame_over (are_linked n) xs (number 4 xs (length xs - 4)))
     (λ some. down_from (are_linked n) n xs (number 4 xs (length xs - 4))
@@ -132,18 +124,14 @@ linked_down (suc n) xs most linked =
 saved_by : (xs : List ℕ) → length xs ≤ 1048576 → is_saved_stack xs ≡ true → SavedStack xs
 unfolding is_saved_stack
 saved_by xs small e =
-    let p = and_parts (nat_lt 0 (length xs)) (are_linked (length xs) xs) e in
-    let e1 : nat_lt 0 (length xs) ≡ true = p.0 in
-    record {
-      some = grind (arith, nat_tests, e1);
-      linked = linked_up (length xs) xs small p.1;
-    }
+    let p = and_parts (nat_lt 0 (length xs)) _ e in
+    record { some = ltb-true 0 (length xs) p.0; linked = linked_up (length xs) xs small p.1 }
 
 saved_passes : (xs : List ℕ) → SavedStack xs → is_saved_stack xs ≡ true
 unfolding is_saved_stack
 saved_passes xs s =
-    let some : 0 < length xs = s.some in
-    both _ _ (grind (arith, nat_tests, some)) (linked_down (length xs) xs (omega arith) s.linked)
+    and_from _ _ (lt-ltb 0 (length xs) s.some)
+    (linked_down (length xs) xs (omega arith) s.linked)
 
 -- what a stack may hold passes the test exactly where it is a saved stack
 pub saved_decided : (xs : List ℕ)

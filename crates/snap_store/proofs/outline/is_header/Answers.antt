@@ -3,7 +3,8 @@ use Rattle.std.specs.Prelude.{nat_le, nat_eq, ◌&&◌}
 use Rattle.std.specs.List.{starts_with}
 use Rattle.std.proofs.lemmas.Bool.Decides.{nat_tests}
 use Rattle.snap_store.specs.File.{has_header, snapshot_header}
-use Rattle.snap_store.proofs.FileLemmas.{starts_same, and-true, and-false}
+use Rattle.std.proofs.Math.Bool.{and-false, and-true}
+use Rattle.snap_store.proofs.FileLemmas.{starts_same}
 use Rattle.snap_store.proofs.outline.is_header.Goals as goal
 
 pub returns-then-size : goal.returns-then-size
