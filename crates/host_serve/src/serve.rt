@@ -7,10 +7,10 @@ ghost use Rattle.host_serve.specs.Hosts.{AreOf, IsSound};
 ghost use Rattle.host_serve.specs.Serves.{ServesLines, AnsweredLine};
 ghost use Rattle.host_serve.specs.Told.{TellsLink};
 
+use crate::Served;
 use crate::host::{Host, Passes};
 use crate::mark::Mark;
 use crate::pause::{Lent, Moments, Pause};
-use crate::served::Served;
 use crate::speaker::Speaker;
 use disk_model::Disk;
 use line_talk::{Link, converse};
@@ -98,6 +98,6 @@ impl<'i, D: Disk + Drop> Host<'i, D> {
             passes,
             marks,
         };
-        Served::of(converse(alloc, &mut speaker, link, &mut buffer))
+        converse(alloc, &mut speaker, link, &mut buffer)
     }
 }
