@@ -3,7 +3,7 @@ use Rattle.host_serve.specs.Holders.{holders, seens}
 use Rattle.host_serve.specs.Hosts.{IsSound}
 use Rattle.host_serve.proofs.PassLemmas.{holders_many, seens_many}
 use Rattle.host_serve.proofs.ToldLemmas.{told_at, told_holders, told_nothing}
-use Rattle.host_serve.proofs.host.Host.serve_by.Goals as goal
+use Rattle.host_serve.proofs.host.Host.serve.Goals as goal
 
 pub returns-in_default-clause-value : goal.returns-in_default-clause-value
 returns-in_default-clause-value g c = told_nothing
