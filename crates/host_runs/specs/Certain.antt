@@ -5,7 +5,7 @@ use Rattle.disk_model.specs.Disk.{EachImage}
 use Rattle.disk_model.specs.declared.disk.Disk.{Ghosts as DiskWords}
 use Rattle.gate_journal.specs.Log.{IsClosedWell, rows_of}
 use Rattle.host_serve.specs.Serves.{AnsweredLine}
-use Rattle.host_serve.specs.declared.served.Served.{Served}
+use Rattle.line_talk.specs.declared.ended.Ended.{Ended}
 use Rattle.host_top.specs.Piped.{Conversed}
 use Rattle.line_talk.specs.Streams.{SourceState, SinkState}
 use Rattle.line_words.specs.declared.reply.No.TheVariants.{DiskFault}
@@ -22,7 +22,7 @@ TellsNoFault reply = (from to : ℕ) → reply ≡ No (DiskFault from to) → �
 abbrev pub PipeIsCertain : {D : Type 0} → DiskWords D → Type 0
 PipeIsCertain {D} disks =
     (stories : List Story) (budget : ℕ) (given : D) (givens : List D) (back : D) (backs : List D)
-    (input now : SourceState) (output new : SinkState) (served : Served)
+    (input now : SourceState) (output new : SinkState) (served : Ended)
     (c : Conversed disks stories budget given givens back backs input now output new served)
     → Each (λ (t : AnsweredLine). TellsNoFault t.reply) c.turns
     → EachImage disks.tells disks.may_leave back (IsClosedWell (rows_of c.journal))

@@ -7,7 +7,7 @@ use Rattle.gate_journal.specs.declared.entry.Entry.{Entry as JournalEntry}
 use Rattle.gate_journal.specs.declared.entry.Entry.TheVariants.{Kept, Faulted}
 use Rattle.host_serve.specs.Opening.{histories_in_rows}
 use Rattle.host_serve.specs.Serves.{AnsweredLine}
-use Rattle.host_serve.specs.declared.served.Served.{Served}
+use Rattle.line_talk.specs.declared.ended.Ended.{Ended}
 use Rattle.host_top.specs.DoorServed.{OfDoor}
 use Rattle.host_top.specs.LinksServed.{LinksServed}
 use Rattle.host_top.specs.Piped.{Conversed, NotOpened}
@@ -52,7 +52,7 @@ module _ {D : Type 0} (disks : DiskWords D) where
   abbrev pub PipeLeaves : Type 0
   PipeLeaves =
       (stories : List Story) (budget : ℕ) (given : D) (givens : List D) (back : D)
-      (backs : List D) (input now : SourceState) (output new : SinkState) (served : Served)
+      (backs : List D) (input now : SourceState) (output new : SinkState) (served : Ended)
       (c : Conversed disks stories budget given givens back backs input now output new served)
       (first left : FolderImage) → IsFound given givens first → MayBeLeft back backs left
       → RunLeaves stories first (record {

@@ -6,12 +6,12 @@ use Rattle.turn_cell.proofs.HistoryLemmas.{each_append, nil_right}
 use Rattle.line_talk.specs.Causes.{Rose}
 use Rattle.line_talk.specs.Lines.{lines_from, ReachesLimit}
 use Rattle.line_talk.specs.Streams.{SourceState, SinkState}
+use Rattle.line_talk.specs.declared.ended.Ended.{Ended}
+use Rattle.line_talk.specs.declared.ended.Ended.TheVariants.{End, ReadFault, WriteFault}
+use Rattle.line_talk.specs.declared.ended.Ended.TheVariants.{LineLimit, NoMemory}
 use Rattle.host_serve.specs.declared.host.Host.{Host}
 use Rattle.host_serve.specs.declared.host.Passes.{Passes}
 use Rattle.host_serve.specs.declared.mark.Mark.{Mark}
-use Rattle.host_serve.specs.declared.served.Served.{Served}
-use Rattle.host_serve.specs.declared.served.Served.TheVariants.{End, ReadFault, WriteFault}
-use Rattle.host_serve.specs.declared.served.Served.TheVariants.{LineLimit, NoMemory}
 use Rattle.host_serve.specs.declared.worked.Worked.{Worked}
 use Rattle.host_serve.specs.Chain.{AnswersInOrder}
 use Rattle.host_serve.specs.Doors.{IsEndOf, IsFresh, IsVisit, MayHangUp, Visit, Visits, Works}
@@ -37,7 +37,7 @@ few_lines begun (x ∷ xs) = of (x == 10) (few_lines [] xs) (few_lines (begun ++
     of false m n = omega (arith, n)
 
 -- what `serve` answers, a link may be hung up for
-pub hung_up : (why : Served) (turns : List AnsweredLine) (input now : SourceState)
+pub hung_up : (why : Ended) (turns : List AnsweredLine) (input now : SourceState)
     (output new : SinkState)
     (old_marks marks : List Mark) → TellsLink turns input now output new old_marks marks why
     → IsFresh input output → (why ≡ ReadFault → Rose input.faults now.faults)
@@ -63,7 +63,7 @@ turns_more (x ∷ xs) v = ap (λ (l : List AnsweredLine). x.turns ++ l) (turns_m
 
 -- a link of the door that was served
 pub visit_of : {Conn Lent : Type 0} (source : Conn → SourceState) (sink : Conn → SinkState)
-    (lent : Conn → Lent) (Gives : Conn → Type 0) (taken left : Conn) (why : Served)
+    (lent : Conn → Lent) (Gives : Conn → Type 0) (taken left : Conn) (why : Ended)
     (turns : List AnsweredLine) (none marks : List Mark) → none ≡ []
     → Gives taken × IsFresh (source taken) (sink taken)
     → TellsLink turns (source taken) (source left) (sink taken) (sink left) none marks why

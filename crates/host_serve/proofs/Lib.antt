@@ -7,7 +7,6 @@ pub mod ServesLemmas
 pub mod AloneLemmas
 pub mod StoreLemmas
 pub mod PassLemmas
-pub mod EndedLemmas
 pub mod ToldLemmas
 pub mod OpeningLemmas
 pub mod EndLemmas

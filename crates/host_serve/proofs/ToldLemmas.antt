@@ -1,6 +1,7 @@
 -- From a conversation to the turns of its lines.
 use Rattle.std.proofs.Common.{◌≡◌, ℕ, ◌^◌, ◌≤◌, List, [], ◌∷◌, ◌++◌, length, map, Option, Bool}
-use Rattle.std.proofs.Common.{true, false, refl, ap, sym, ◌∙◌, subst, inl, inr, append_assoc, arith}
+use Rattle.std.proofs.Common.{true, false, None, refl, ap, sym, ◌∙◌, subst, inl, inr, arith}
+use Rattle.std.proofs.Common.{append_assoc}
 use Rattle.std.proofs.lemmas.List.{map-append}
 use Rattle.turn_cell.proofs.HistoryLemmas.{nil_right}
 use Rattle.line_words.specs.Reply.{print_reply}
@@ -9,7 +10,7 @@ use Rattle.line_talk.specs.Conversation.{Answered, BreaksLast, Line}
 use Rattle.line_talk.specs.Conversation.{StopsBehind, Turns, texts_joined}
 use Rattle.line_talk.specs.Lines.{heard, talk}
 use Rattle.line_talk.specs.Streams.{SinkState, SourceState, Gave, Wrote}
-use Rattle.line_talk.specs.Talked.{AnswersOf, Talked}
+use Rattle.line_talk.specs.Talked.{AnsweredOf, AnswersOf, Talked}
 use Rattle.line_talk.specs.declared.ended.Ended.{Ended}
 use Rattle.line_talk.specs.declared.ended.Ended.TheVariants as ended
 use Rattle.line_talk.specs.declared.sink.Stop.{Stop}
@@ -20,18 +21,59 @@ use Rattle.session_core.specs.declared.entry.Entry.{Entry}
 use Rattle.host_serve.specs.declared.answer.Answer.{Answer}
 use Rattle.host_serve.specs.declared.host.Host.{Host}
 use Rattle.host_serve.specs.declared.mark.Mark.{Mark}
-use Rattle.host_serve.specs.declared.served.Served.{Served}
-use Rattle.host_serve.specs.declared.served.Served.TheVariants.{NoMemory}
 use Rattle.host_serve.specs.Chain.{Answers, AnswersInOrder}
 use Rattle.host_serve.specs.Holders.{Holder}
 use Rattle.host_serve.specs.Serves.{ServesLines, AnsweredLine}
 use Rattle.host_serve.specs.Speaking.{Speaking, Speaks, seen_and_marked, turn_with}
-use Rattle.host_serve.specs.Told.{AnsweredOf, IsCutText, TellsLink}
-use Rattle.host_serve.specs.Told.{WritesReplies, served_of, turn_from}
+use Rattle.host_serve.specs.Told.{IsCutText, TellsLink, WritesReplies, turn_from}
 use Rattle.host_serve.proofs.ChainLemmas.{chain_more}
 use Rattle.host_serve.proofs.ServesLemmas.{serves_of}
-use Rattle.host_serve.proofs.EndedLemmas.{line_of, mark_of, reply_of, split_lines}
-pub use Rattle.host_serve.proofs.EndedLemmas.{not_end, read_failed, write_failed}
+
+abbrev pub line_of : AnsweredLine → List ℕ
+line_of t = t.line
+
+abbrev pub mark_of : AnsweredLine → Mark
+mark_of t = t.mark
+
+abbrev pub reply_of : AnsweredLine → Reply
+reply_of t = t.reply
+
+-- the last of some lines
+pub record SplitLines (answered : List (List ℕ)) (before : List Line) (last : Line) : Type 0 where
+  pub front : List (List ℕ)
+  pub back : List ℕ
+  pub all : answered ≡ front ++ back ∷ []
+  pub fronts : map heard front ≡ before
+  pub backs : heard back ≡ last
+
+abbrev head_or : Line → List Line → Line
+head_or d [] = d
+head_or d (x ∷ xs) = x
+
+abbrev tail_of : List Line → List Line
+tail_of [] = []
+tail_of (x ∷ xs) = xs
+
+no_end : (xs : List Line) (x : Line) → [] ≡ xs ++ x ∷ [] → ⊥
+no_end [] x e = let a = ap (λ (l : List Line). length l) e in omega arith
+no_end (y ∷ ys) x e = let a = ap (λ (l : List Line). length l) e in omega arith
+
+pub split_lines : (answered : List (List ℕ)) (before : List Line) (last : Line)
+    → map heard answered ≡ before ++ last ∷ [] → SplitLines answered before last
+split_lines [] before last e = absurd (no_end before last e)
+split_lines (line ∷ []) [] last e =
+    record { front = []; back = line; all = refl; fronts = refl; backs = ap (head_or None) e }
+split_lines (line ∷ more ∷ answered) [] last e =
+    let a = ap (λ (l : List Line). length l) e in absurd (omega arith)
+split_lines (line ∷ answered) (b ∷ before) last e =
+    let rest = split_lines answered before last (ap tail_of e) in
+    record {
+      front = line ∷ rest.front;
+      back = rest.back;
+      all = ap (λ (l : List (List ℕ)). line ∷ l) rest.all;
+      fronts = λ i. ap (head_or None) e i ∷ rest.fronts i;
+      backs = rest.backs;
+    }
 
 -- `sound` says that a host is sound
 module _ {D : Type 0} (sound : Host D → Type 0) where
@@ -191,13 +233,13 @@ module _ {D : Type 0} (sound : Host D → Type 0) where
   module _ (old new : Speaking D) (input now : SourceState) (output written : SinkState)
       (many : length old.holders ≡ 64) (wide : length old.seen ≡ 64) where
     -- what a call tells of its turns
-    abbrev pub Told : Served → Type 0
+    abbrev pub Told : Ended → Type 0
     Told served = (turns : List AnsweredLine)
         × TellsLink turns input now output written old.marks new.marks served
         × InOrder old turns new.seen × Serving old turns new.seen
         × (new ≡ seen_and_marked old new.seen new.marks)
 
-    tell : (served : Served) (read : List ℕ) (answered : List (List ℕ)) (turns : List AnsweredLine)
+    tell : (served : Ended) (read : List ℕ) (answered : List (List ℕ)) (turns : List AnsweredLine)
         (text : List ℕ) → Gave input now read → length read ≤ 2 ^ 31
         → AnsweredOf served read now answered → SaidAll old answered new turns
         → Wrote output written text → WritesReplies served text (map reply_of turns) → Told served
@@ -224,27 +266,25 @@ module _ {D : Type 0} (sound : Host D → Type 0) where
     Talks ended = Talked (Speaks sound) (Speaks sound) never old new input now output written ended
 
     -- each reply was written whole
-    tell_whole : (served : Served) (read : List ℕ) (answered : List (List ℕ)) → Gave input now read
-        → length read ≤ 2 ^ 31 → AnsweredOf served read now answered
-        → Answered (Speaks sound) never old (map heard answered) new output written
+    tell_whole : (ended : Ended) (t : Talks ended) → AnsweredOf ended t.read now t.answered
+        → Answered (Speaks sound) never old (map heard t.answered) new output written
         → ((replies : List Reply)
-        → WritesReplies served (texts_joined (map print_reply replies)) replies)
-        → Told served
-    tell_whole served read answered gave within which how writes =
-        let s = said_whole old new answered output written how in
-        tell served read answered s.0 (texts_joined (map print_reply (map reply_of s.0)))
-        gave within which s.1 s.2 (writes (map reply_of s.0))
+        → WritesReplies ended (texts_joined (map print_reply replies)) replies) → Told ended
+    tell_whole ended t which how writes =
+        let s = said_whole old new t.answered output written how in
+        tell ended t.read t.answered s.0 (texts_joined (map print_reply (map reply_of s.0)))
+        t.gave t.within which s.1 s.2 (writes (map reply_of s.0))
 
     -- the last reply wasn't written whole
-    tell_cut : (served : Served) (read : List ℕ) (answered : List (List ℕ)) (cause : Stop)
-        → Gave input now read → length read ≤ 2 ^ 31 → AnsweredOf served read now answered
-        → BreaksLast (Speaks sound) (Speaks sound) never old (map heard answered) new output written
-        cause
+    tell_cut : (ended : Ended) (t : Talks ended) → AnsweredOf ended t.read now t.answered
+        → (cause : Stop)
+        → BreaksLast (Speaks sound) (Speaks sound) never old (map heard t.answered) new output
+        written cause
         → ((text : List ℕ) (replies : List Reply) → IsCutText text replies
-        → WritesReplies served text replies) → Told served
-    tell_cut served read answered cause gave within which how writes =
-        let s = said_cut old new answered output written cause how in
-        tell served read answered s.0 s.2.0 gave within which s.1 s.2.1
+        → WritesReplies ended text replies) → Told ended
+    tell_cut ended t which cause how writes =
+        let s = said_cut old new t.answered output written cause how in
+        tell ended t.read t.answered s.0 s.2.0 t.gave t.within which s.1 s.2.1
         (writes s.2.0 (map reply_of s.0) s.2.2)
 
     not_over : Bool → Type 0
@@ -255,49 +295,41 @@ module _ {D : Type 0} (sound : Host D → Type 0) where
     is_output Output = Unit {0}
     is_output Memory = ⊥
 
-    pub told_of : (ended : Ended) → Talks ended → Told (served_of ended)
+    pub told_of : (ended : Ended) → Talks ended → Told ended
     unfolding not_over
-    told_of ended.Done t = of t.which
+    told_of ended.End t = of t.which
       where
-        of : AnswersOf ended.Done t.read now false t.answered → Told (served_of ended.Done)
-        of (inl which) = tell_whole (served_of ended.Done) t.read t.answered t.gave t.within which
-            t.how (λ replies. refl)
+        of : AnswersOf ended.End t.read now false t.answered → Told ended.End
+        of (inl which) = tell_whole ended.End t which t.how (λ replies. refl)
         of (inr over) = absurd (subst not_over over.1 tt)
-    told_of ended.ReadFault t = tell_whole (served_of ended.ReadFault) t.read t.answered t.gave
-        t.within t.which t.how (λ replies. refl)
-    told_of ended.LineLimit t = tell_whole (served_of ended.LineLimit) t.read t.answered t.gave
-        t.within t.which t.how (λ replies. refl)
+    told_of ended.ReadFault t = tell_whole ended.ReadFault t t.which t.how (λ replies. refl)
+    told_of ended.LineLimit t = tell_whole ended.LineLimit t t.which t.how (λ replies. refl)
     told_of ended.WriteFault t = of t.how
       where
         of : StopsBehind (Speaks sound) (Speaks sound) never old (map heard t.answered) new output
             written Output
-            → Told (served_of ended.WriteFault)
-        of (inl how) =
-            tell_cut (served_of ended.WriteFault) t.read t.answered Output t.gave t.within
-            t.which how (λ text replies cut. cut)
+            → Told ended.WriteFault
+        of (inl how) = tell_cut ended.WriteFault t t.which Output how (λ text replies cut. cut)
         of (inr done) = absurd (subst is_output done.1 tt)
     told_of ended.NoMemory t = of t.how
       where
         of : StopsBehind (Speaks sound) (Speaks sound) never old (map heard t.answered) new output
             written Memory
-            → Told (served_of ended.NoMemory)
-        of (inl how) = tell_cut (served_of ended.NoMemory) t.read t.answered Memory t.gave t.within
-            t.which how (λ text replies cut. inl cut)
-        of (inr done) = tell_whole (served_of ended.NoMemory) t.read t.answered t.gave t.within
-            t.which done.0 (λ replies. inr refl)
+            → Told ended.NoMemory
+        of (inl how) = tell_cut ended.NoMemory t t.which Memory how (λ text replies cut. inl cut)
+        of (inr done) = tell_whole ended.NoMemory t t.which done.0 (λ replies. inr refl)
 
     -- what the caller's passes and marks then are
-    pub told_at : (ended : Ended) → Talks ended → (served : Served) (seen : List (List Entry))
-        (marks : List Mark) → served ≡ served_of ended → seen ≡ new.seen → marks ≡ new.marks
+    pub told_at : (ended : Ended) → Talks ended → (seen : List (List Entry)) (marks : List Mark)
+        → seen ≡ new.seen → marks ≡ new.marks
         → (turns : List AnsweredLine)
-        × TellsLink turns input now output written old.marks marks served
+        × TellsLink turns input now output written old.marks marks ended
         × InOrder old turns seen × Serving old turns seen
-    told_at ended talks served seen marks is_served is_seen is_marks =
+    told_at ended talks seen marks is_seen is_marks =
         let t = told_of ended talks in (
           t.0,
-          subst
-              (λ (x : Served × List Mark). TellsLink t.0 input now output written old.marks x.1 x.0)
-              (λ i. (sym is_served i, sym is_marks i)) t.1,
+          subst (λ (l : List Mark). TellsLink t.0 input now output written old.marks l ended)
+              (sym is_marks) t.1,
           subst (InOrder old t.0) (sym is_seen) t.2,
           subst (Serving old t.0) (sym is_seen) t.3,
         )
@@ -309,11 +341,11 @@ module _ {D : Type 0} (sound : Host D → Type 0) where
   pub told_nothing : (old : Speaking D) (input : SourceState) (output : SinkState)
       → length old.holders ≡ 64 → length old.seen ≡ 64
       → (turns : List AnsweredLine)
-      × TellsLink turns input input output output old.marks old.marks NoMemory
+      × TellsLink turns input input output output old.marks old.marks ended.NoMemory
       × InOrder old turns old.seen × Serving old turns old.seen
   told_nothing old input output many wide =
       let t =
-      tell old old input input output output many wide NoMemory [] [] [] [] (gave_none input)
+      tell old old input input output output many wide ended.NoMemory [] [] [] [] (gave_none input)
       (omega arith) (talk [], refl)
       (record {
         lines = refl;

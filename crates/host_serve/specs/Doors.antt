@@ -1,14 +1,14 @@
 -- A door, and what a worker does with the links that it gives (own).
 use Rattle.std.specs.Prelude.{◌≡◌, ◌^◌, ◌<◌, ◌≤◌, List, [], ◌∷◌, ◌++◌, true, false}
 use Rattle.line_talk.specs.Streams.{SourceState, SinkState}
+use Rattle.line_talk.specs.declared.ended.Ended.{Ended}
+use Rattle.line_talk.specs.declared.ended.Ended.TheVariants.{End, ReadFault, WriteFault}
+use Rattle.line_talk.specs.declared.ended.Ended.TheVariants.{LineLimit, NoMemory}
 use Rattle.host_serve.specs.declared.door.Next.{Next}
 use Rattle.host_serve.specs.declared.door.Next.TheVariants.{Link, Shut, Failed}
 use Rattle.host_serve.specs.declared.host.Host.{Host}
 use Rattle.host_serve.specs.declared.host.Passes.{Passes}
 use Rattle.host_serve.specs.declared.mark.Mark.{Mark}
-use Rattle.host_serve.specs.declared.served.Served.{Served}
-use Rattle.host_serve.specs.declared.served.Served.TheVariants.{End, ReadFault, WriteFault}
-use Rattle.host_serve.specs.declared.served.Served.TheVariants.{LineLimit, NoMemory}
 use Rattle.host_serve.specs.declared.worked.Worked.{Worked}
 use Rattle.host_serve.specs.declared.worked.Worked.TheVariants as worked
 use Rattle.host_serve.specs.Chain.{AnswersInOrder}
@@ -26,7 +26,7 @@ pub record IsFresh (input : SourceState) (output : SinkState) : Type 0 where
   pub writes : output.faults ≡ 0
 
 -- a link may be hung up for this
-abbrev pub MayHangUp : Served → SourceState → SinkState → Type 0
+abbrev pub MayHangUp : Ended → SourceState → SinkState → Type 0
 MayHangUp End input output = input.ended ≡ true
 MayHangUp ReadFault input output = 0 < input.faults
 MayHangUp WriteFault input output = 0 < output.faults
@@ -55,7 +55,7 @@ module _ {O Conn Done Fault : Type 0} where
 pub record Visit (Conn : Type 0) : Type 0 where
   pub taken : Conn
   pub left : Conn
-  pub why : Served
+  pub why : Ended
   pub turns : List AnsweredLine
 
 -- the turns of all lines, link after link

@@ -1,42 +1,23 @@
 -- What a call tells of the lines that it answered (own).
 use Rattle.std.specs.Prelude.{◌≡◌, ◌⊎◌, ℕ, ◌^◌, ◌≤◌, List, ◌∷◌, [], ◌++◌, length, map, Option}
 use Rattle.line_talk.specs.Conversation.{texts_joined}
-use Rattle.line_talk.specs.Lines.{lines, talk, IsWithinLimits, ReachesLimit}
 use Rattle.line_talk.specs.Streams.{SourceState, SinkState, Gave, Wrote}
-use Rattle.line_talk.specs.Talked.{AreFirst, IsReadToEnd}
+use Rattle.line_talk.specs.Talked.{AnsweredOf}
 use Rattle.line_talk.specs.Writing.{IsPartOf}
 use Rattle.line_talk.specs.declared.ended.Ended.{Ended}
-use Rattle.line_talk.specs.declared.ended.Ended.TheVariants as ended
+use Rattle.line_talk.specs.declared.ended.Ended.TheVariants.{End, ReadFault, WriteFault}
+use Rattle.line_talk.specs.declared.ended.Ended.TheVariants.{LineLimit, NoMemory}
 use Rattle.line_words.specs.Reply.{print_reply}
 use Rattle.line_words.specs.declared.reply.Reply.{Reply}
 use Rattle.story_run.specs.World.{WorldState}
 use Rattle.host_serve.specs.declared.answer.Answer.{Answer}
 use Rattle.host_serve.specs.declared.mark.Mark.{Mark}
-use Rattle.host_serve.specs.declared.served.Served.{Served}
-use Rattle.host_serve.specs.declared.served.Served.TheVariants.{End, ReadFault, WriteFault}
-use Rattle.host_serve.specs.declared.served.Served.TheVariants.{LineLimit, NoMemory}
 use Rattle.host_serve.specs.Serves.{AnsweredLine}
 use Rattle.host_serve.specs.Speaking.{turn_with}
 
 -- the turn of a line with this answer, in this world
 abbrev pub turn_from : List ℕ → Option WorldState → Answer → AnsweredLine
 turn_from line world answer = turn_with line world answer.outcome answer.mark answer.reply
-
--- how a call ends, by how its conversation ended
-abbrev pub served_of : Ended → Served
-served_of ended.Done = End
-served_of ended.ReadFault = ReadFault
-served_of ended.WriteFault = WriteFault
-served_of ended.NoMemory = NoMemory
-served_of ended.LineLimit = LineLimit
-
--- which of the lines that were read were answered, by how the call ended
-abbrev pub AnsweredOf : Served → List ℕ → SourceState → List (List ℕ) → Type 0
-AnsweredOf End read now answered = (answered ≡ lines read) × IsReadToEnd read now
-AnsweredOf ReadFault read now answered = (answered ≡ talk read) × IsWithinLimits read
-AnsweredOf WriteFault read now answered = AreFirst answered (talk read)
-AnsweredOf LineLimit read now answered = (answered ≡ talk read) × ReachesLimit read
-AnsweredOf NoMemory read now answered = AreFirst answered (talk read)
 
 -- all replies were written but for an end of the last one
 pub record IsCutText (written : List ℕ) (replies : List Reply) : Type 0 where
@@ -48,7 +29,7 @@ pub record IsCutText (written : List ℕ) (replies : List Reply) : Type 0 where
   pub text : written ≡ texts_joined (map print_reply before) ++ part
 
 -- what is written of the replies to the answered lines, by how the call ended
-abbrev pub WritesReplies : Served → List ℕ → List Reply → Type 0
+abbrev pub WritesReplies : Ended → List ℕ → List Reply → Type 0
 WritesReplies End written replies = written ≡ texts_joined (map print_reply replies)
 WritesReplies ReadFault written replies = written ≡ texts_joined (map print_reply replies)
 WritesReplies WriteFault written replies = IsCutText written replies
@@ -58,7 +39,7 @@ WritesReplies NoMemory written replies =
 
 -- what was read, which lines of it had these turns, what was written, and the marks
 pub record TellsLink (turns : List AnsweredLine) (input now : SourceState) (output new : SinkState)
-    (old_marks new_marks : List Mark) (served : Served) : Type 0 where
+    (old_marks new_marks : List Mark) (served : Ended) : Type 0 where
   pub read : List ℕ
   pub written : List ℕ
   pub gave : Gave input now read

@@ -1,5 +1,5 @@
 //! Where links come from (own).
-use crate::served::Served;
+use crate::Served;
 use line_talk::Link;
 use std::sync::Wait;
 

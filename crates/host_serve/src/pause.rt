@@ -3,8 +3,9 @@ ghost use Rattle.turn_cell.specs.Passes.{IsInTurn};
 
 use turn_cell::{Pass, Told};
 
-/// What is told of two moments of each answered line. A thread that it holds waits there.
-pub trait Pause: Sync {
+/// What is told of two moments of each answered line. A thread that it holds waits there. Only
+/// `work`, where threads share it, asks for `Sync`.
+pub trait Pause {
     /// The session's turn is this pass's, and the reply is known, or, of a spectator's line, the
     /// commands are copied.
     fn in_turn<T: Told>(&self, session: u8, pass: &Pass<T>)
@@ -22,26 +23,4 @@ impl Pause for NoPause {
     fn in_turn<T: Told>(&self, _session: u8, _pass: &Pass<T>) {}
 
     fn before_reply(&self, _link: u32) {}
-}
-
-/// The same, as the one thread sees it that it holds.
-pub(crate) trait Moments {
-    fn in_turn<T: Told>(&self, session: u8, pass: &Pass<T>)
-        requires inside { IsInTurn pass.now };
-
-    fn before_reply(&self, link: u32);
-}
-
-/// A pause that was lent to one thread.
-#[derive(Drop)]
-pub(crate) struct Lent<'a, P>(pub &'a P);
-
-impl<'a, P: Pause> Moments for Lent<'a, P> {
-    fn in_turn<T: Told>(&self, session: u8, pass: &Pass<T>) {
-        self.0.in_turn(session, pass);
-    }
-
-    fn before_reply(&self, link: u32) {
-        self.0.before_reply(link);
-    }
 }

@@ -9,7 +9,7 @@ ghost use Rattle.host_serve.specs.Told.{turn_from};
 
 use crate::answer::{Answer, to_absent, to_unread};
 use crate::host::{Host, Passes};
-use crate::pause::{Lent, Moments, Pause};
+use crate::pause::Pause;
 use crate::read::read;
 use crate::turn::turn_in;
 use disk_model::Disk;
@@ -20,7 +20,7 @@ use std::sync::Wait;
 
 impl<'i, D: Disk + Drop> Host<'i, D> {
     /// Answers one line, with its mark.
-    pub(crate) fn answer<R: Wait, P: Moments>(
+    pub(crate) fn answer<R: Wait, P: Pause>(
         &self,
         rt: &R,
         alloc: Global,
@@ -75,6 +75,6 @@ impl<'i, D: Disk + Drop> Host<'i, D> {
         ensures kept { AreOf self.now passes.new }
         ensures holders { holders passes.new.desks.items ≡ holders passes.old.desks.items }
     {
-        self.answer(rt, alloc, passes, &Lent(pause), line).reply
+        self.answer(rt, alloc, passes, pause, line).reply
     }
 }

@@ -2,7 +2,7 @@
 use crate::crew::Crew;
 use crate::door::{Door, Next};
 use crate::host::{Host, Passes};
-use crate::pause::Moments;
+use crate::pause::Pause;
 use crate::worked::Worked;
 use disk_model::Disk;
 use std::alloc::Global;
@@ -15,13 +15,13 @@ pub struct Shift<'a, 'i, D: Disk, R, O, P> {
     pub rt: &'a R,
     pub alloc: Global,
     pub door: &'a O,
-    pub pause: P,
+    pub pause: &'a P,
     /// How many links were taken. It is held while a worker takes one.
     pub taken: Mutex<u32>,
 }
 
 // A method of a trait can't call a function that asks for `Sync`, so a worker is one function.
-impl<'a, 'i, D: Disk + Drop, R: Wait, O: Door, P: Moments> Crew<Passes<'i, D>, Worked<O>>
+impl<'a, 'i, D: Disk + Drop, R: Wait, O: Door, P: Pause> Crew<Passes<'i, D>, Worked<O>>
     for Shift<'a, 'i, D, R, O, P> {
     ghost use Rattle.host_serve.specs.Doors.{IsDoorShut, Works};
     ghost use Rattle.host_serve.specs.Hosts.{AreOf, IsSound};
@@ -44,14 +44,8 @@ impl<'a, 'i, D: Disk + Drop, R: Wait, O: Door, P: Moments> Crew<Passes<'i, D>, W
                     *taken = number.wrapping_add(1);
                     drop(taken);
                     let mut marks = Vec::new(self.alloc);
-                    let why = self.host.serve_by(
-                        self.rt,
-                        self.alloc,
-                        passes,
-                        &self.pause,
-                        number,
-                        &mut link,
-                        &mut marks,
+                    let why = self.host.serve(
+                        self.rt, self.alloc, passes, self.pause, number, &mut link, &mut marks,
                     );
                     self.door.hang_up(self.rt, link, &why);
                 }

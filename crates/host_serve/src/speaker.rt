@@ -14,7 +14,7 @@ ghost use Rattle.host_serve.specs.Told.{turn_from};
 use crate::answer::{Answer, to_dropped};
 use crate::host::{Host, Passes};
 use crate::mark::Mark;
-use crate::pause::Moments;
+use crate::pause::Pause;
 use disk_model::Disk;
 use line_talk::{Answers, Sink, Stop, write_all};
 use line_words::{Reply, write_reply};
@@ -34,7 +34,7 @@ pub struct Speaker<'a, 'i, D: Disk, R, P> {
 }
 
 /// The answer to a line, or to one that was dropped.
-fn answer_to<'i, D: Disk + Drop, R: Wait, P: Moments>(
+fn answer_to<'i, D: Disk + Drop, R: Wait, P: Pause>(
     host: &Host<'i, D>,
     rt: &R,
     alloc: Global,
@@ -71,7 +71,7 @@ fn reply_with<K: Sink>(alloc: Global, reply: &Reply, output: &mut K) -> Result<(
     write_all(output, &text)
 }
 
-impl<'a, 'i, D: Disk + Drop, R: Wait, P: Moments> Answers for Speaker<'a, 'i, D, R, P> {
+impl<'a, 'i, D: Disk + Drop, R: Wait, P: Pause> Answers for Speaker<'a, 'i, D, R, P> {
     ghost use Rattle.std.specs.Prelude.{◌<◌, ℕ, false, vec_len, vec_capacity};
     ghost use Rattle.host_serve.specs.declared.host.Host.{Host};
     ghost use Rattle.host_serve.specs.Holders.{holders, seens};

@@ -17,7 +17,7 @@ ghost use Rattle.host_serve.specs.Chain.{TurnsIn};
 use crate::answer::Answer;
 use crate::host::Host;
 use crate::mark::Mark;
-use crate::pause::Moments;
+use crate::pause::Pause;
 use disk_model::Disk;
 use line_words::{No, Reply, Request};
 use session_core::{Outcome, copies_of, session_of};
@@ -28,7 +28,7 @@ use story_watch::watch;
 use turn_cell::{Cell, Pass, Told};
 
 /// The turn of a player's line, which is read as this request, on the session of this cell.
-fn play_in<'i, D: Disk + Drop, R: Wait, P: Moments>(
+fn play_in<'i, D: Disk + Drop, R: Wait, P: Pause>(
     rt: &R,
     alloc: Global,
     host: &Host<'i, D>,
@@ -79,7 +79,7 @@ fn out_of_memory(mark: Mark) -> Answer
 
 /// The turn of a spectator's line. The session's cell is his while its commands are copied; the
 /// game is played once others may have it.
-fn watch_in<'i, D: Disk + Drop, R: Wait, P: Moments>(
+fn watch_in<'i, D: Disk + Drop, R: Wait, P: Pause>(
     rt: &R,
     alloc: Global,
     host: &Host<'i, D>,
@@ -125,7 +125,7 @@ fn watch_in<'i, D: Disk + Drop, R: Wait, P: Moments>(
 }
 
 /// The turn of a line, which is read as this request, on the session of this cell.
-pub fn turn_in<'i, D: Disk + Drop, R: Wait, P: Moments>(
+pub fn turn_in<'i, D: Disk + Drop, R: Wait, P: Pause>(
     rt: &R,
     alloc: Global,
     host: &Host<'i, D>,

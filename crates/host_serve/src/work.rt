@@ -8,7 +8,7 @@ ghost use Rattle.host_serve.specs.Hosts.{AreOf, IsSound};
 use crate::crew::all_run;
 use crate::door::Door;
 use crate::host::{Host, Passes};
-use crate::pause::{Lent, Pause};
+use crate::pause::Pause;
 use crate::shift::Shift;
 use crate::worked::Worked;
 use disk_model::Disk;
@@ -21,7 +21,7 @@ impl<'i, D: Disk + Drop + Send + Sync> Host<'i, D> {
     /// Each worker has passes of its own, and hangs a link up with what `serve` answered. Where
     /// the door fails for one, the others go on. However the work ends, the passes of each have
     /// seen what its lines left. Links are numbered from 0 as they are taken.
-    pub fn work<R: Threads + Wait + Sync, O: Door, P: Pause>(
+    pub fn work<R: Threads + Wait + Sync, O: Door, P: Pause + Sync>(
         &self,
         rt: &R,
         alloc: Global,
@@ -40,7 +40,7 @@ impl<'i, D: Disk + Drop + Send + Sync> Host<'i, D> {
             rt,
             alloc,
             door,
-            pause: Lent(pause),
+            pause,
             taken: Mutex::new(0),
         };
         let mut answer = None;

@@ -26,37 +26,32 @@ use Rattle.host_top.specs.Said.{SaysFault, SaysLine}
 use Rattle.host_top.specs.Packed.{IsNotPacked, Journals, PacksOn, PacksOver, SaysPackFault, journal_loan}
 use Rattle.host_top.specs.Replayed.{ReplaysOn, ReplaysOver}
 use Rattle.host_top.specs.Speech.{Task, Says, Serves, ServesLinks, Begins, Replays, PacksFrom}
-use Rattle.host_top.specs.Status.{status_of, status_of_served, status_of_stop}
+use Rattle.host_top.specs.Status.{status_of, status_of_end}
 use Rattle.line_talk.specs.Streams.{SourceState, SinkState, Wrote}
 use Rattle.command_words.specs.Words.{Asked}
 use Rattle.host_top.proofs.LinksLemmas.{fault_no_door}
 use Rattle.host_top.proofs.LendingLemmas.{same_item}
 use Rattle.host_top.proofs.NameLemmas.{snaps_many}
 use Rattle.turn_cell.specs.History.{Each}
-use Rattle.host_serve.specs.declared.served.Served.{Served}
-use Rattle.host_serve.specs.declared.served.Served.TheVariants as served
-use Rattle.line_talk.specs.declared.sink.Stop.{Stop}
-use Rattle.line_talk.specs.declared.sink.Stop.TheVariants as stop
+use Rattle.line_talk.specs.declared.ended.Ended.{Ended}
+use Rattle.line_talk.specs.declared.ended.Ended.TheVariants as ended
+use Rattle.line_talk.specs.Ends.{ended_by}
 use Rattle.host_top.specs.declared.status.Status.{Status}
 use Rattle.host_top.specs.declared.status.Status.TheVariants.{Done, BadWords, ReadFault, WriteFault}
 use Rattle.host_top.specs.declared.status.Status.TheVariants.{DiskFault, DoorFault, NoMemory}
 
 -- no end of a connection has this status
-no_end : (how : Served) (A : Type 0) → DiskFault ≡ status_of_served how → A
-no_end served.End A e = absurd (grind (arith, e))
-no_end served.ReadFault A e = absurd (grind (arith, e))
-no_end served.WriteFault A e = absurd (grind (arith, e))
-no_end served.NoMemory A e = absurd (grind (arith, e))
-no_end served.LineLimit A e = absurd (grind (arith, e))
-
-no_stop : (cause : Stop) (A : Type 0) → DiskFault ≡ status_of_stop cause → A
-no_stop stop.Output A e = absurd (grind (arith, e))
-no_stop stop.Memory A e = absurd (grind (arith, e))
+no_end : (how : Ended) (A : Type 0) → DiskFault ≡ status_of_end how → A
+no_end ended.End A e = absurd (grind (arith, e))
+no_end ended.ReadFault A e = absurd (grind (arith, e))
+no_end ended.WriteFault A e = absurd (grind (arith, e))
+no_end ended.NoMemory A e = absurd (grind (arith, e))
+no_end ended.LineLimit A e = absurd (grind (arith, e))
 
 pub no_line : {good : Status} {line : List ℕ} {output new : SinkState} (A : Type 0)
     → (DiskFault ≡ good → A) → SaysLine good line output new DiskFault → A
 no_line A f (inl said) = f said.0
-no_line A f (inr (cause, is, stopped)) = no_stop cause A is
+no_line A f (inr (cause, is, stopped)) = no_end (ended_by cause) A is
 
 -- P holds, and nothing was written
 abbrev Failed : Type 0 → SinkState → SinkState → Type 0
@@ -319,22 +314,18 @@ failed_six disks {OnDoor} asked status code outside beyond input now output new 
 
 -- ---- the status of a door that failed
 
-no_served : (how : Served) (A : Type 0) → DoorFault ≡ status_of_served how → A
-no_served served.End A e = absurd (grind (arith, e))
-no_served served.ReadFault A e = absurd (grind (arith, e))
-no_served served.WriteFault A e = absurd (grind (arith, e))
-no_served served.NoMemory A e = absurd (grind (arith, e))
-no_served served.LineLimit A e = absurd (grind (arith, e))
-
-no_cut : (cause : Stop) (A : Type 0) → DoorFault ≡ status_of_stop cause → A
-no_cut stop.Output A e = absurd (grind (arith, e))
-no_cut stop.Memory A e = absurd (grind (arith, e))
+no_served : (how : Ended) (A : Type 0) → DoorFault ≡ status_of_end how → A
+no_served ended.End A e = absurd (grind (arith, e))
+no_served ended.ReadFault A e = absurd (grind (arith, e))
+no_served ended.WriteFault A e = absurd (grind (arith, e))
+no_served ended.NoMemory A e = absurd (grind (arith, e))
+no_served ended.LineLimit A e = absurd (grind (arith, e))
 
 -- no line ends so
 unsaid : {good : Status} {line : List ℕ} {output new : SinkState} (A : Type 0)
     → (DoorFault ≡ good → A) → SaysLine good line output new DoorFault → A
 unsaid A f (inl said) = f said.0
-unsaid A f (inr (cause, is, stopped)) = no_cut cause A is
+unsaid A f (inr (cause, is, stopped)) = no_served (ended_by cause) A is
 
 unrefused : (why : InitFault) (output new : SinkState) (A : Type 0)
     → SaysRefusal why output new DoorFault → A

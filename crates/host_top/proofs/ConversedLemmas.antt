@@ -24,7 +24,7 @@ use Rattle.snap_store.specs.Store.{Snapshots}
 use Rattle.std.specs.List.{AllZip}
 use Rattle.host_serve.specs.declared.host.Host.{Host}
 use Rattle.host_serve.specs.declared.host.Passes.{Passes}
-use Rattle.host_serve.specs.declared.served.Served.{Served}
+use Rattle.line_talk.specs.declared.ended.Ended.{Ended}
 use Rattle.line_talk.specs.Streams.{SourceState, SinkState}
 use Rattle.session_core.specs.Turning.{commands_in}
 use Rattle.session_core.specs.declared.entry.Entry.{Entry}
@@ -298,7 +298,7 @@ module _ {D : Type 0} (disks : DiskWords D) (given back : D) (givens backs : Lis
   -- ---- the lines between the two
 
   module _ (holds : holders last.desks.items ≡ holders first.desks.items) {input now : SourceState}
-      {output new : SinkState} (served : Served)
+      {output new : SinkState} (served : Ended)
       (lines : ServesBetween (IsSound disks.tells disks.seen host) host first last input now output
       new served) where
     abbrev Sound : Type 0

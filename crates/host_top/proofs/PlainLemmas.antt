@@ -1,20 +1,22 @@
 -- Conversations that are answered by functions of the state.
 use Rattle.std.proofs.Common.{◌≡◌, ℕ, ◌⊎◌, inl, inr, List, [], ◌∷◌, ◌++◌, map, refl, sym, ap, ◌∙◌}
-use Rattle.std.proofs.Common.{arith, append_assoc, cond, Option, Some, Bool, true, false}
+use Rattle.std.proofs.Common.{arith, append_assoc, cond, Some, Ok, Bool, true, false}
 use Rattle.std.proofs.lemmas.List.{append-nil, map-append}
 use Rattle.line_talk.specs.declared.sink.Stop.{Stop}
 use Rattle.line_talk.specs.declared.ended.Ended.{Ended}
-use Rattle.line_talk.specs.declared.ended.Ended.TheVariants.{Done, ReadFault, WriteFault, NoMemory}
-use Rattle.line_talk.specs.declared.ended.Ended.TheVariants.{LineLimit}
+use Rattle.line_talk.specs.declared.ended.Ended.TheVariants.{End, ReadFault, WriteFault}
+use Rattle.line_talk.specs.declared.ended.Ended.TheVariants.{LineLimit, NoMemory}
 use Rattle.line_talk.specs.Streams.{SourceState, SinkState, Wrote}
 use Rattle.line_talk.specs.Hearing.{heard_from, begun_after}
 use Rattle.line_talk.specs.Lines.{heard, lines, talk}
 use Rattle.line_talk.specs.Writing.{IsPartOf}
 use Rattle.line_talk.specs.Conversation.{Line, Turns, Answered, BreaksLast, texts_joined}
 use Rattle.line_talk.specs.Talked.{Talked}
-use Rattle.host_top.specs.Plain.{Answering, Plain, PlainReply, answering_held}
-use Rattle.host_top.specs.Plain.{is_over_held, replies_heard, after_heard, replies}
-use Rattle.host_top.specs.Plain.{state_after_lines, PlainLeaves, TalkedPlain}
+use Rattle.host_top.specs.Plain.{Answering, Plain, PlainReply, answering_held, after_heard}
+use Rattle.host_top.specs.Plain.{replies_heard, replies, state_after_lines}
+use Rattle.host_top.specs.Headline.{Speech}
+use Rattle.host_top.specs.Spoken.{Spoken, SpeechLeaves}
+use Rattle.host_top.specs.Status.{status_of_end}
 use Rattle.line_talk.proofs.HearingLemmas.{heard_append}
 use Rattle.line_talk.proofs.StreamsLemmas.{wrote_then}
 use Rattle.line_talk.proofs.TalkLemmas.{kept_lines}
@@ -227,10 +229,25 @@ after_settled by start read rest over =
     ap (after_heard by start) h.1 ∙ after_append by start (map heard (lines read)) h.0
     ∙ after_over by (state_after_lines by start (lines read)) h.0 over
 
+-- an opening, and then the replies to lines
+abbrev pub speech_by : {A : Type 0} → Answering A → A → List ℕ → Speech
+speech_by by start opening =
+    record {
+      text = λ lines. opening ++ replies by start lines;
+      is_over = λ lines. by.is_over (state_after_lines by start lines);
+    }
+
+-- the same without an opening
+abbrev pub TalkedPlain : {A : Type 0} → Answering A → A → SourceState → SourceState → SinkState
+    → SinkState → Ended → Type 0
+TalkedPlain by start input now output new ended =
+    Spoken (Ok (speech_by by start [])) input now output new (status_of_end ended)
+
 talked_all : {A : Type 0} (by : Answering A) {old new : A} {input now : SourceState}
     {output wrote : SinkState} {ended : Ended}
     (t : Talked (Plain by) (PlainReply by) by.is_over old new input now output wrote ended)
-    → (written : List ℕ) → Wrote output wrote written → PlainLeaves ended by old t.read now written
+    → (written : List ℕ) → Wrote output wrote written
+    → SpeechLeaves (status_of_end ended) (Ok (speech_by by old [])) t.read now written
     → TalkedPlain by old input now output wrote ended
 talked_all by t written told leaves =
     record {
@@ -248,14 +265,14 @@ by_lines : {A : Type 0} (by : Answering A) (old : A) (answered all more : List (
     → replies_heard by old (map heard answered ++ map heard more) ≡ replies by old all
 by_lines by old answered all more e = ap (replies_heard by old) (behind answered all more e)
 
-part_by : (part text whole : List ℕ) → IsPartOf part text → text ≡ whole → IsPartOf part whole
+pub part_by : (part text whole : List ℕ) → IsPartOf part text → text ≡ whole → IsPartOf part whole
 part_by part text whole p e = (p.0, sym e ∙ p.1)
 
 pub talked_plain : {A : Type 0} (by : Answering A) {old new : A} {input now : SourceState}
     {output wrote : SinkState} (ended : Ended)
     → Talked (Plain by) (PlainReply by) by.is_over old new input now output wrote ended
     → TalkedPlain by old input now output wrote ended
-talked_plain by {old} {new} {input} {now} Done t = elim t.which [
+talked_plain by {old} {new} {input} {now} End t = elim t.which [
   | inl end ↦
       let s = said_all by t.how in
       talked_all by t s.written s.told (
@@ -309,7 +326,7 @@ talked_plain by {old} LineLimit t =
     )
 
 -- a state that is held answers as it does alone
-held_replies : {A : Type 0} (by : Answering A) (state : A) (lines : List Line)
+pub held_replies : {A : Type 0} (by : Answering A) (state : A) (lines : List Line)
     → replies_heard (answering_held by) (Some state) lines ≡ replies_heard by state lines
 held_replies by state [] = refl
 held_replies by state (line ∷ lines) =
@@ -321,7 +338,7 @@ held_replies by state (line ∷ lines) =
       | false ↦ ap (λ t. by.reply state line ++ t) (held_replies by (by.next state line) lines)
     ]
 
-held_after : {A : Type 0} (by : Answering A) (state : A) (lines : List Line)
+pub held_after : {A : Type 0} (by : Answering A) (state : A) (lines : List Line)
     → after_heard (answering_held by) (Some state) lines ≡ Some (after_heard by state lines)
 held_after by state [] = refl
 held_after by state (line ∷ lines) =
@@ -331,40 +348,3 @@ held_after by state (line ∷ lines) =
       | true ↦ refl
       | false ↦ held_after by (by.next state line) lines
     ]
-
-leaves_held : {A : Type 0} (by : Answering A) (start : A) (ended : Ended) (read : List ℕ)
-    (now : SourceState) (written : List ℕ)
-    → PlainLeaves ended (answering_held by) (Some start) read now written
-    → PlainLeaves ended by start read now written
-leaves_held by start Done read now written p = elim p.1 [
-  | inl end ↦ (p.0 ∙ held_replies by start (map heard (lines read)), inl end)
-  | inr over ↦ (
-    p.0 ∙ held_replies by start (map heard (lines read)),
-    inr
-        (ap (is_over_held by) (sym (held_after by start (map heard (lines read)))) ∙ over),
-  )
-]
-leaves_held by start ReadFault read now written p =
-    p ∙ held_replies by start (map heard (talk read))
-leaves_held by start WriteFault read now written p =
-    part_by written _ _ p (held_replies by start (map heard (talk read)))
-leaves_held by start NoMemory read now written p =
-    part_by written _ _ p (held_replies by start (map heard (talk read)))
-leaves_held by start LineLimit read now written p =
-    (p.0 ∙ held_replies by start (map heard (talk read)), p.1)
-
-pub talked_held : {A : Type 0} (by : Answering A) {start : A} {new : Option A}
-    {input now : SourceState} {output wrote : SinkState} (ended : Ended)
-    → Talked (Plain (answering_held by)) (PlainReply (answering_held by)) (is_over_held by)
-    (Some start) new input
-    now output wrote ended → TalkedPlain by start input now output wrote ended
-talked_held by {start} {now = now} ended talked =
-    let t = talked_plain (answering_held by) ended talked in
-    record {
-      read = t.read;
-      written = t.written;
-      gave = t.gave;
-      within = t.within;
-      wrote = t.wrote;
-      leaves = leaves_held by start ended t.read now t.written t.leaves;
-    }

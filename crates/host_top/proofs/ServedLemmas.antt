@@ -18,18 +18,18 @@ use Rattle.host_top.specs.Piped.{PipesOver}
 use Rattle.host_top.specs.Said.{SaysFault, SaysLine, bad_journal, bad_journal_at}
 use Rattle.host_top.specs.Served.{AnswersIn, AreSound, AreTold, RefusesJournal, WritesServed}
 use Rattle.host_top.specs.Served.{WritesTurns}
-use Rattle.host_top.specs.Status.{status_of_served, status_of_stop}
+use Rattle.host_top.specs.Status.{status_of_end, status_of_stop}
 use Rattle.line_talk.specs.Streams.{SourceState, SinkState, Wrote}
+use Rattle.line_talk.specs.Talked.{AnsweredOf}
 use Rattle.line_talk.specs.Writing.{IsPartOf}
 use Rattle.gate_journal.specs.Rows.{commands_of}
 use Rattle.gate_journal.specs.declared.row.Row.{Row}
 use Rattle.host_serve.specs.Opening.{AreAgreed}
 use Rattle.host_serve.specs.Serves.{AnsweredLine}
-use Rattle.host_serve.specs.Told.{AnsweredOf}
 use Rattle.session_core.specs.History.{game_of}
 use Rattle.session_saves.specs.Agreement.{IsAgreedFile, opens_of}
-use Rattle.host_serve.specs.declared.served.Served.{Served}
-use Rattle.host_serve.specs.declared.served.Served.TheVariants as served
+use Rattle.line_talk.specs.declared.ended.Ended.{Ended}
+use Rattle.line_talk.specs.declared.ended.Ended.TheVariants as ended
 use Rattle.line_talk.specs.declared.sink.Stop.{Stop}
 use Rattle.line_talk.specs.declared.sink.Stop.TheVariants as stop
 use Rattle.host_top.specs.declared.status.Status.{Status}
@@ -58,30 +58,30 @@ where_told disks Missing given P lent has all = subst P (lent (all given)).0 (ha
 where_told disks (There told) given P lent has all = subst P (lent (all given)).0 (has (all given))
 
 -- the lines read are those of the input that they began
-answers_in : (how : Served) (read rest : List ℕ) (now : SourceState) (answered : List (List ℕ))
+answers_in : (how : Ended) (read rest : List ℕ) (now : SourceState) (answered : List (List ℕ))
     → length read ≤ 2 ^ 31 → now.left ≡ Some rest
     → AnsweredOf how read now answered → AnswersIn how (read ++ rest) answered
-answers_in served.End read rest now answered within left end =
+answers_in ended.End read rest now answered within left end =
     let all : read ++ rest ≡ read =
     ap (λ l. read ++ l) (nothing_left now.left rest end.1.at_end left) ∙ append-nil read in
     (end.0 ∙ ap lines (sym all), subst IsWithinLimits (sym all) end.1.within)
-answers_in served.ReadFault read rest now answered within left is = (read, (rest, refl), is.0)
-answers_in served.WriteFault read rest now answered within left first =
+answers_in ended.ReadFault read rest now answered within left is = (read, (rest, refl), is.0)
+answers_in ended.WriteFault read rest now answered within left first =
     first_then answered (talk read) (talk (read ++ rest)) first (talk_first read rest within)
-answers_in served.NoMemory read rest now answered within left first =
+answers_in ended.NoMemory read rest now answered within left first =
     first_then answered (talk read) (talk (read ++ rest)) first (talk_first read rest within)
-answers_in served.LineLimit read rest now answered within left is =
+answers_in ended.LineLimit read rest now answered within left is =
     (is.0 ∙ sym (talk_settled read rest within is.1), still_reached read rest is.1)
 
 served_by : {D : Type 0} (disks : DiskWords D) (stories : List Story) (budget : ℕ)
-    (disk : List ℕ → Told D) (folder : List ℕ) (input written : List ℕ) (how : Served)
+    (disk : List ℕ → Told D) (folder : List ℕ) (input written : List ℕ) (how : Ended)
     → WritesTurns disks stories budget disk folder input written how
-    → WritesServed (status_of_served how) disks stories budget disk folder input written
-served_by disks stories budget disk folder input written served.End w = w
-served_by disks stories budget disk folder input written served.ReadFault w = inr w
-served_by disks stories budget disk folder input written served.WriteFault w = inl w
-served_by disks stories budget disk folder input written served.NoMemory w = inr (inl w)
-served_by disks stories budget disk folder input written served.LineLimit w = w
+    → WritesServed (status_of_end how) disks stories budget disk folder input written
+served_by disks stories budget disk folder input written ended.End w = w
+served_by disks stories budget disk folder input written ended.ReadFault w = inr w
+served_by disks stories budget disk folder input written ended.WriteFault w = inl w
+served_by disks stories budget disk folder input written ended.NoMemory w = inr (inl w)
+served_by disks stories budget disk folder input written ended.LineLimit w = w
 
 -- something was written, and it has P
 abbrev pub WroteSome : SinkState → SinkState → (List ℕ → Type 0) → Type 0

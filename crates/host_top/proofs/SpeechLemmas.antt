@@ -1,6 +1,6 @@
 -- How the parts of what a command says make the whole.
-use Rattle.std.proofs.Common.{◌≡◌, ℕ, inr, List, [], ◌++◌, refl, sym, ap, ◌∙◌, subst, arith}
-use Rattle.std.proofs.Common.{append_assoc, Option, None, Some, Result, Ok, Err, true}
+use Rattle.std.proofs.Common.{◌≡◌, ℕ, inl, inr, List, [], ◌++◌, refl, sym, ap, ◌∙◌, subst, arith}
+use Rattle.std.proofs.Common.{map, append_assoc, Option, None, Some, Result, Ok, Err, true}
 use Rattle.std.proofs.lemmas.List.{append-nil}
 use Rattle.story_run.specs.Solo.{is_over}
 use Rattle.story_run.specs.World.{WorldState}
@@ -8,12 +8,11 @@ use Rattle.story_run.specs.declared.story.Story.{Story}
 use Rattle.line_talk.specs.declared.sink.Stop.{Stop}
 use Rattle.line_talk.specs.declared.sink.Stop.TheVariants as stop
 use Rattle.host_top.specs.declared.status.Status.TheVariants.{Done, Refused, NoMemory}
-use Rattle.host_top.specs.Plain.{Answering, replies, state_after_lines, PlainLeaves}
-use Rattle.host_top.specs.Plain.{TalkedPlain, answering_held, is_over_held}
+use Rattle.host_top.specs.Plain.{Answering, replies, answering_held, is_over_held}
 use Rattle.line_talk.specs.declared.ended.Ended.{Ended}
 use Rattle.line_talk.specs.declared.ended.Ended.TheVariants as ended
 use Rattle.host_top.specs.Headline.{Speech, whole_text}
-use Rattle.line_talk.specs.Lines.{lines, talk}
+use Rattle.line_talk.specs.Lines.{lines, talk, heard}
 use Rattle.host_top.specs.RunText.{world_after_opening, solo, show_text}
 use Rattle.host_top.specs.CheckText.{good_line}
 use Rattle.host_top.specs.Speech.{said_once, run_speech, check_speech}
@@ -24,47 +23,59 @@ use Rattle.line_talk.specs.Writing.{IsPartOf, Stopped}
 use Rattle.line_talk.proofs.StreamsLemmas.{gave_none, wrote_none, wrote_then}
 use Rattle.host_top.specs.Plain.{Plain, PlainReply}
 use Rattle.line_talk.specs.Talked.{Talked}
-use Rattle.host_top.proofs.PlainLemmas.{replies_more, replies_settled, after_settled, talked_held}
+use Rattle.host_top.proofs.PlainLemmas.{replies_more, replies_settled, after_settled, talked_plain}
+use Rattle.host_top.proofs.PlainLemmas.{speech_by, held_replies, held_after, part_by}
 use Rattle.line_talk.proofs.WritingLemmas.{stopped_more}
-
--- an opening, and then the replies to lines
-abbrev pub speech_by : {A : Type 0} → Answering A → A → List ℕ → Speech
-speech_by by start opening =
-    record {
-      text = λ lines. opening
-          ++ replies by start lines;
-      is_over = λ lines. by.is_over (state_after_lines by start lines);
-    }
 
 begun_part : (first part text : List ℕ) → IsPartOf part text
     → IsPartOf (first ++ part) (first ++ text)
 begun_part first part text p = (p.0, ap (λ t. first ++ t) p.1 ∙ sym (append_assoc first part p.0))
 
-talk_leaves : {A : Type 0} (by : Answering A) (start : A) (opening : List ℕ) (e : Ended)
-    (read : List ℕ) (now : SourceState) (written : List ℕ)
-    → PlainLeaves e by start read now written
-    → SpeechLeaves (status_of_end e) (Ok (speech_by by start opening)) read now (opening ++ written)
-talk_leaves by start opening ended.Done read now written t = (ap (λ w. opening ++ w) t.0, t.1)
-talk_leaves by start opening ended.ReadFault read now written t = ap (λ w. opening ++ w) t
-talk_leaves by start opening ended.WriteFault read now written t =
-    begun_part opening written (replies by start (talk read)) t
-talk_leaves by start opening ended.NoMemory read now written t =
-    begun_part opening written (replies by start (talk read)) t
-talk_leaves by start opening ended.LineLimit read now written t = (ap (λ w. opening ++ w) t.0, t.1)
+-- a speech that another one says behind an opening
+leaves_behind : (behind speech : Speech) (opening : List ℕ)
+    → ((lines : List (List ℕ)) → opening ++ behind.text lines ≡ speech.text lines)
+    → ((lines : List (List ℕ)) → behind.is_over lines ≡ speech.is_over lines)
+    → (e : Ended) (read : List ℕ) (now : SourceState) (written : List ℕ)
+    → SpeechLeaves (status_of_end e) (Ok behind) read now written
+    → SpeechLeaves (status_of_end e) (Ok speech) read now (opening ++ written)
+leaves_behind behind speech opening text over ended.End read now written p = (
+  ap (λ w. opening ++ w) p.0 ∙ text (lines read),
+  elim p.1 [
+    | inl end ↦ inl end
+    | inr is ↦ inr (sym (over (lines read)) ∙ is)
+  ],
+)
+leaves_behind behind speech opening text over ended.ReadFault read now written p =
+    ap (λ w. opening ++ w) p ∙ text (talk read)
+leaves_behind behind speech opening text over ended.WriteFault read now written p =
+    part_by _ _ _ (begun_part opening written (behind.text (talk read)) p) (text (talk read))
+leaves_behind behind speech opening text over ended.NoMemory read now written p =
+    part_by _ _ _ (begun_part opening written (behind.text (talk read)) p) (text (talk read))
+leaves_behind behind speech opening text over ended.LineLimit read now written p =
+    (ap (λ w. opening ++ w) p.0 ∙ text (talk read), p.1)
 
--- the opening was written, and then lines were answered
-pub spoken_by : {A : Type 0} (by : Answering A) (start : A) (opening : List ℕ)
+-- an opening was written, and then lines were answered by a state that is held
+spoken_by : {A : Type 0} (by : Answering A) (start : A) (opening : List ℕ) {new_state : Option A}
     {input now : SourceState} {output mid new : SinkState} (e : Ended)
-    → Wrote output mid opening → TalkedPlain by start input now mid new e
+    → Wrote output mid opening
+    → Talked (Plain (answering_held by)) (PlainReply (answering_held by)) (is_over_held by)
+    (Some start) new_state input now mid new e
     → Spoken (Ok (speech_by by start opening)) input now output new (status_of_end e)
-spoken_by by start opening {input} {now} {output} {mid} {new} e wrote t = record {
-  read = t.read;
-  written = opening ++ t.written;
-  gave = t.gave;
-  within = t.within;
-  wrote = wrote_then wrote t.wrote;
-  leaves = talk_leaves by start opening e t.read now t.written t.leaves;
-}
+spoken_by by start opening {new_state} {input} {now} {output} {mid} {new} e wrote talked =
+    let t = talked_plain (answering_held by) e talked in
+    record {
+      read = t.read;
+      written = opening ++ t.written;
+      gave = t.gave;
+      within = t.within;
+      wrote = wrote_then wrote t.wrote;
+      leaves =
+          leaves_behind (speech_by (answering_held by) (Some start) [])
+          (speech_by by start opening) opening
+          (λ lines. ap (λ w. opening ++ w) (held_replies by start (map heard lines)))
+          (λ lines. ap (is_over_held by) (held_after by start (map heard lines)))
+          e t.read now t.written t.leaves;
+    }
 
 -- no line is answered after the opening
 pub spoken_over : {A : Type 0} (by : Answering A) (start : A) (opening : List ℕ)
@@ -184,11 +195,9 @@ pub run_talked : (story : Story) (budget : ℕ) {input now : SourceState} {outpu
     new_player input now mid new e
     → Spoken (Ok (run_speech (Some story) budget)) input now output new (status_of_end e)
 run_talked story budget {input} {now} {output} {mid} {new} e start is wrote talked =
-    spoken_by solo (world_after_opening story budget)
-    (show_text (world_after_opening story budget)) e
-    (subst (λ (w : WorldState). Wrote output mid (show_text w)) is wrote)
-    (subst (λ (w : WorldState). TalkedPlain solo w input now mid new e) is
-    (talked_held solo e talked))
+    subst (λ (w : WorldState).
+    Spoken (Ok (speech_by solo w (show_text w))) input now output new (status_of_end e)) is
+    (spoken_by solo start (show_text start) e wrote talked)
 
 -- a text goes on as its input does
 pub record IsSteady (speech : Speech) : Type 0 where

@@ -13,7 +13,7 @@ use Rattle.gate_journal.specs.declared.row.Row.{Row}
 use Rattle.host_serve.specs.Alone.{AreMet, replies_met}
 use Rattle.host_serve.specs.Opening.{histories_in_rows}
 use Rattle.host_serve.specs.Serves.{AnsweredLine}
-use Rattle.host_serve.specs.declared.served.Served.TheVariants as served
+use Rattle.line_talk.specs.declared.ended.Ended.TheVariants as ended
 use Rattle.line_talk.specs.Conversation.{texts_joined}
 use Rattle.line_talk.specs.Lines.{lines}
 use Rattle.line_talk.specs.Streams.{SourceState, SinkState}
@@ -52,7 +52,7 @@ one_told disks (There d) a b told have = one_list (disks.seen d) b a have told
 -- the turns of answered lines as a list of what they met
 pub alone_text : {D : Type 0} (disks : DiskWords D) (stories : List Story) (budget : ℕ)
     (disk : List ℕ → Told D) (folder bytes written : List ℕ) (rows : List Row)
-    → WritesTurns disks stories budget disk folder bytes written served.End
+    → WritesTurns disks stories budget disk folder bytes written ended.End
     → AreTold disks.seen (disk (journal_in folder)) (λ c. SpellsRows c rows)
     → AreSound disks stories disk folder rows
     → RepliesAlone stories budget rows (lines bytes) written

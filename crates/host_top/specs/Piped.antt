@@ -12,8 +12,8 @@ use Rattle.gate_journal.specs.Rows.{SpellsRows, IsJournal, commands_of, journal_
 use Rattle.host_serve.specs.Ending.{AreAgreedDisks}
 use Rattle.host_serve.specs.Opening.{AreAgreed, histories_in_rows}
 use Rattle.host_serve.specs.Serves.{AnsweredLine}
-use Rattle.host_serve.specs.Told.{AnsweredOf, WritesReplies}
-use Rattle.host_serve.specs.declared.served.Served.{Served}
+use Rattle.host_serve.specs.Told.{WritesReplies}
+use Rattle.line_talk.specs.declared.ended.Ended.{Ended}
 use Rattle.host_serve.specs.Alone.{AreMet, histories_met, replies_met}
 use Rattle.host_serve.specs.Said.{said_in, turn_said_in}
 use Rattle.session_core.specs.Hosts.{entries_of, session_on}
@@ -30,8 +30,9 @@ use Rattle.host_top.specs.declared.folder.Back.{Back}
 use Rattle.host_top.specs.declared.folder.Back.TheVariants.{All, Journal, Snap, Nothing}
 use Rattle.host_top.specs.JournalBack.{JournalBack}
 use Rattle.host_top.specs.Said.{SaysFault}
-use Rattle.host_top.specs.Status.{status_of_served}
+use Rattle.host_top.specs.Status.{status_of_end}
 use Rattle.line_talk.specs.Streams.{SourceState, SinkState, Gave, Wrote}
+use Rattle.line_talk.specs.Talked.{AnsweredOf}
 use Rattle.host_top.specs.declared.status.Status.{Status}
 
 -- the rows have each session's commands
@@ -117,7 +118,7 @@ pub record StoresBack {D : Type 0} (disks : DiskWords D) (stories : List Story)
 -- met; what was written; and what a stop leaves of the disks handed back.
 pub record Conversed {D : Type 0} (disks : DiskWords D) (stories : List Story) (budget : ℕ)
     (given : D) (givens : List D) (back : D) (backs : List D) (input now : SourceState)
-    (output new : SinkState) (served : Served) : Type 0 where
+    (output new : SinkState) (served : Ended) : Type 0 where
   pub rows : List Row
   pub handed_in : IsTrue (disks.tells given) → SpellsRows (disks.seen given) rows
   pub read : List ℕ
@@ -206,6 +207,6 @@ HostedOver Hosts disks given givens Nothing input now output new status =
 abbrev pub PipesOver : {D : Type 0} → DiskWords D → List Story → ℕ → D → List D → Back D
     → SourceState → SourceState → SinkState → SinkState → Status → Type 0
 PipesOver disks stories budget given givens back input now output new status =
-    HostedOver (λ journal snaps. (served : Served) × (status ≡ status_of_served served)
+    HostedOver (λ journal snaps. (served : Ended) × (status ≡ status_of_end served)
     × Conversed disks stories budget given givens journal snaps input now output new served)
     disks given givens back input now output new status

@@ -1,14 +1,8 @@
 -- A conversation in which each line is answered by functions of the state (own).
-use Rattle.std.specs.Prelude.{◌≡◌, ℕ, ◌^◌, ◌≤◌, ◌⊎◌, if◌then◌else◌, List, [], ◌∷◌, ◌++◌, map}
-use Rattle.std.specs.Prelude.{length, Bool, true, Option, None, Some}
+use Rattle.std.specs.Prelude.{◌≡◌, ℕ, if◌then◌else◌, List, [], ◌∷◌, ◌++◌, map, Bool, true}
+use Rattle.std.specs.Prelude.{Option, None, Some}
 use Rattle.line_talk.specs.Conversation.{Line, Turn}
-use Rattle.line_talk.specs.Lines.{lines, talk, heard, ReachesLimit}
-use Rattle.line_talk.specs.Streams.{SourceState, SinkState, Gave, Wrote}
-use Rattle.line_talk.specs.Talked.{IsReadToEnd}
-use Rattle.line_talk.specs.Writing.{IsPartOf}
-use Rattle.line_talk.specs.declared.ended.Ended.{Ended}
-use Rattle.line_talk.specs.declared.ended.Ended.TheVariants.{Done, ReadFault, WriteFault, NoMemory}
-use Rattle.line_talk.specs.declared.ended.Ended.TheVariants.{LineLimit}
+use Rattle.line_talk.specs.Lines.{heard}
 
 -- how lines are answered: when no more are, the reply to a line, and the state after it
 pub record Answering (State : Type 0) : Type 0 where
@@ -61,25 +55,3 @@ replies by state lines = replies_heard by state (map heard lines)
 -- the state after lines
 abbrev pub state_after_lines : {S : Type 0} → Answering S → S → List (List ℕ) → S
 state_after_lines by state lines = after_heard by state (map heard lines)
-
--- what such a conversation leaves, by the bytes read and the bytes written
-abbrev pub PlainLeaves : {S : Type 0} → Ended → Answering S → S → List ℕ → SourceState
-    → List ℕ → Type 0
-PlainLeaves Done by start read now written =
-    (written ≡ replies by start (lines read))
-    × (IsReadToEnd read now ⊎ (by.is_over (state_after_lines by start (lines read)) ≡ true))
-PlainLeaves ReadFault by start read now written = written ≡ replies by start (talk read)
-PlainLeaves WriteFault by start read now written = IsPartOf written (replies by start (talk read))
-PlainLeaves NoMemory by start read now written = IsPartOf written (replies by start (talk read))
-PlainLeaves LineLimit by start read now written =
-    (written ≡ replies by start (talk read)) × ReachesLimit read
-
--- what was read and what was written, told or not
-pub record TalkedPlain {S : Type 0} (by : Answering S) (start : S) (input now : SourceState)
-    (output new : SinkState) (ended : Ended) : Type 0 where
-  pub read : List ℕ
-  pub written : List ℕ
-  pub gave : Gave input now read
-  pub within : length read ≤ 2 ^ 31
-  pub wrote : Wrote output new written
-  pub leaves : PlainLeaves ended by start read now written

@@ -14,8 +14,8 @@ use Rattle.line_talk.specs.Lines.{lines, talk, IsWithinLimits, ReachesLimit}
 use Rattle.host_serve.specs.Opening.{histories_in_rows}
 use Rattle.host_serve.specs.Serves.{AnsweredLine}
 use Rattle.host_serve.specs.Told.{WritesReplies}
-use Rattle.host_serve.specs.declared.served.Served.{Served}
-use Rattle.host_serve.specs.declared.served.Served.TheVariants as served
+use Rattle.line_talk.specs.declared.ended.Ended.{Ended}
+use Rattle.line_talk.specs.declared.ended.Ended.TheVariants as ended
 use Rattle.host_top.specs.Piped.{Lead, LeadAlone}
 use Rattle.host_top.specs.Said.{bad_journal, bad_journal_at}
 use Rattle.line_talk.specs.Talked.{AreFirst}
@@ -26,13 +26,13 @@ use Rattle.host_top.specs.declared.status.Status.TheVariants.{WriteFault, NoMemo
 use Rattle.host_top.specs.declared.status.Status.TheVariants.{DiskFault, BadFolder, DoorFault}
 
 -- the lines of an input that were answered, by how it ended
-abbrev pub AnswersIn : Served → List ℕ → List (List ℕ) → Type 0
-AnswersIn served.End input answered = (answered ≡ lines input) × IsWithinLimits input
-AnswersIn served.ReadFault input answered =
+abbrev pub AnswersIn : Ended → List ℕ → List (List ℕ) → Type 0
+AnswersIn ended.End input answered = (answered ≡ lines input) × IsWithinLimits input
+AnswersIn ended.ReadFault input answered =
     (read : List ℕ) × IsPartOf read input × (answered ≡ talk read)
-AnswersIn served.WriteFault input answered = AreFirst answered (talk input)
-AnswersIn served.NoMemory input answered = AreFirst answered (talk input)
-AnswersIn served.LineLimit input answered = (answered ≡ talk input) × ReachesLimit input
+AnswersIn ended.WriteFault input answered = AreFirst answered (talk input)
+AnswersIn ended.NoMemory input answered = AreFirst answered (talk input)
+AnswersIn ended.LineLimit input answered = (answered ≡ talk input) × ReachesLimit input
 
 -- the bytes of a disk are told, and have P; where there is told to be none, no bytes have
 abbrev pub AreTold : {D : Type 0} → (D → List ℕ) → Told D → (List ℕ → Type 0) → Type 0
@@ -52,7 +52,7 @@ AreSound {D} disks stories disk folder rows =
 -- each of these lines has one reply, by what its turn met, from the sessions of the journal's rows;
 -- where the folder's stores are sound, that of `turn_said_on`
 pub record WritesTurns {D : Type 0} (disks : DiskWords D) (stories : List Story) (budget : ℕ)
-    (disk : List ℕ → Told D) (folder input written : List ℕ) (how : Served) : Type 0 where
+    (disk : List ℕ → Told D) (folder input written : List ℕ) (how : Ended) : Type 0 where
   pub rows : List Row
   pub handed_in : WhereTold disks (disk (journal_in folder)) (λ bytes. SpellsRows bytes rows)
   pub turns : List AnsweredLine
@@ -80,20 +80,20 @@ BeginsRefusal disks journal written =
 abbrev pub WritesServed : {D : Type 0} → Status → DiskWords D → List Story → ℕ
     → (List ℕ → Told D) → List ℕ → List ℕ → List ℕ → Type 0
 WritesServed Done disks stories budget disk folder input written =
-    WritesTurns disks stories budget disk folder input written served.End
+    WritesTurns disks stories budget disk folder input written ended.End
 WritesServed BadWords disks stories budget disk folder input written = ⊥
 WritesServed Refused disks stories budget disk folder input written = ⊥
 WritesServed ReadFault disks stories budget disk folder input written =
-    (written ≡ []) ⊎ WritesTurns disks stories budget disk folder input written served.ReadFault
+    (written ≡ []) ⊎ WritesTurns disks stories budget disk folder input written ended.ReadFault
 WritesServed WriteFault disks stories budget disk folder input written =
-    WritesTurns disks stories budget disk folder input written served.WriteFault
+    WritesTurns disks stories budget disk folder input written ended.WriteFault
     ⊎ BeginsRefusal disks (disk (journal_in folder)) written
 WritesServed DiskFault disks stories budget disk folder input written = written ≡ []
 WritesServed NoMemory disks stories budget disk folder input written =
-    (written ≡ []) ⊎ WritesTurns disks stories budget disk folder input written served.NoMemory
+    (written ≡ []) ⊎ WritesTurns disks stories budget disk folder input written ended.NoMemory
     ⊎ BeginsRefusal disks (disk (journal_in folder)) written
 WritesServed BadFolder disks stories budget disk folder input written =
     RefusesJournal disks (disk (journal_in folder)) written
 WritesServed DoorFault disks stories budget disk folder input written = ⊥
 WritesServed LineLimit disks stories budget disk folder input written =
-    WritesTurns disks stories budget disk folder input written served.LineLimit
+    WritesTurns disks stories budget disk folder input written ended.LineLimit

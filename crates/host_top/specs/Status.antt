@@ -6,8 +6,6 @@ use Rattle.line_talk.specs.declared.ended.Ended.TheVariants as ended
 use Rattle.line_talk.specs.declared.sink.Stop.{Stop}
 use Rattle.host_serve.specs.declared.worked.Worked.{Worked}
 use Rattle.host_serve.specs.declared.worked.Worked.TheVariants as worked
-use Rattle.host_serve.specs.declared.served.Served.{Served}
-use Rattle.host_serve.specs.declared.served.Served.TheVariants as served
 use Rattle.host_top.specs.declared.outside.Fetch.{Fetch}
 use Rattle.host_top.specs.declared.outside.Fetch.TheVariants as fetch
 use Rattle.host_top.specs.declared.status.Status.{Status}
@@ -29,21 +27,13 @@ status_of code =
     (if code == 9 then Some DoorFault else
     (if code == 10 then Some LineLimit else None)))))))))
 
--- the status of a conversation
+-- the status of a conversation, as one with a host
 abbrev pub status_of_end : Ended → Status
-status_of_end ended.Done = Done
+status_of_end ended.End = Done
 status_of_end ended.ReadFault = ReadFault
 status_of_end ended.WriteFault = WriteFault
 status_of_end ended.NoMemory = NoMemory
 status_of_end ended.LineLimit = LineLimit
-
--- the status of a host's connection
-abbrev pub status_of_served : Served → Status
-status_of_served served.End = Done
-status_of_served served.ReadFault = ReadFault
-status_of_served served.WriteFault = WriteFault
-status_of_served served.LineLimit = LineLimit
-status_of_served served.NoMemory = NoMemory
 
 -- the status of the work at a door
 abbrev pub status_of_worked : {O C E F : Type 0} → Worked O C E F → Status

@@ -79,7 +79,7 @@ fn pipe_over<'i, R: Wait, D: Disk + Drop, S: Source, K: Sink>(
     };
     let served = answer_lines(rt, alloc, &host, &mut passes, input, output);
     let (journal, snaps) = host.end(rt, passes);
-    (Status::of_served(served), Back::All(journal, snaps))
+    (Status::of_end(served), Back::All(journal, snaps))
 }
 
 /// Answers the requests of the input by the sessions of a folder.

@@ -2,7 +2,7 @@
 ghost use Rattle.std.specs.Prelude.{◌≡◌, Some};
 
 use crate::outside::Fetch;
-use host_serve::{Door, Served, Worked};
+use host_serve::{Door, Worked};
 use line_talk::{Ended, Stop};
 
 /// How the program ends.
@@ -32,31 +32,18 @@ pub enum Status {
 
 impl Status {
     ghost use Rattle.host_top.specs.Status.{status_of, status_of_end, status_of_stop};
-    ghost use Rattle.host_top.specs.Status.{status_of_fetch, status_of_served, status_of_worked};
+    ghost use Rattle.host_top.specs.Status.{status_of_fetch, status_of_worked};
 
-    /// That of a conversation.
+    /// That of a conversation, as one with a host.
     pub fn of_end(ended: Ended) -> Status
         ensures { result ≡ status_of_end ended }
     {
         match ended {
-            Ended::Done => Status::Done,
+            Ended::End => Status::Done,
             Ended::ReadFault => Status::ReadFault,
             Ended::WriteFault => Status::WriteFault,
             Ended::NoMemory => Status::NoMemory,
             Ended::LineLimit => Status::LineLimit,
-        }
-    }
-
-    /// That of a host's connection.
-    pub fn of_served(served: Served) -> Status
-        ensures { result ≡ status_of_served served }
-    {
-        match served {
-            Served::End => Status::Done,
-            Served::ReadFault => Status::ReadFault,
-            Served::WriteFault => Status::WriteFault,
-            Served::LineLimit => Status::LineLimit,
-            Served::NoMemory => Status::NoMemory,
         }
     }
 

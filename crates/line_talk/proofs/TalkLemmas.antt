@@ -7,7 +7,7 @@ use Rattle.std.proofs.lemmas.List.{append-nil, take_all, take-append-le, length-
 use Rattle.std.specs.Io.KnownBytes.{IsAtEnd}
 use Rattle.line_talk.specs.declared.sink.Stop.{Stop}
 use Rattle.line_talk.specs.declared.sink.Stop.TheVariants as stop
-use Rattle.line_talk.specs.declared.ended.Ended.TheVariants.{Done, ReadFault, WriteFault}
+use Rattle.line_talk.specs.declared.ended.Ended.TheVariants.{End, ReadFault, WriteFault}
 use Rattle.line_talk.specs.declared.ended.Ended.TheVariants.{NoMemory, LineLimit}
 use Rattle.line_talk.specs.Causes.{Rose}
 use Rattle.line_talk.specs.Streams.{SourceState, SinkState, Gave}
@@ -149,7 +149,7 @@ module _ {A : Type 0} {turn : Turn A} {over : A → Bool} {start : A} {input : S
   -- the source has ended
   pub talk_end : (cut : Turn A) {now' : SourceState}
       → Gave now now' [] → now'.ended ≡ true → IsAtEnd now'.left → 0 < room
-      → Talked turn cut over start state input now' output new Done
+      → Talked turn cut over start state input now' output new End
   talk_end cut gave ended at_end more = record {
     read = t.read;
     answered = lines t.read;
@@ -227,7 +227,7 @@ module _ {A : Type 0} {turn : Turn A} {over : A → Bool} {start : A} {input : S
     pub talk_over : (cut : Turn A) {new' : SinkState} {state' : A}
         → HearsPart (λ lines. Answered turn over state lines state' new new' × (over state' ≡ true))
         line piece
-        → Talked turn cut over start state' input now' output new' Done
+        → Talked turn cut over start state' input now' output new' End
     talk_over cut p = record {
       read = t.read ++ piece;
       answered = lines (t.read ++ p.front);

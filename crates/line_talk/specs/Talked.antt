@@ -6,8 +6,8 @@ use Rattle.line_talk.specs.Lines.{lines, talk, heard, IsWithinLimits, ReachesLim
 use Rattle.line_talk.specs.Conversation.{Line, Turn, Answered, StopsBehind}
 use Rattle.line_talk.specs.declared.sink.Stop.TheVariants.{Output, Memory}
 use Rattle.line_talk.specs.declared.ended.Ended.{Ended}
-use Rattle.line_talk.specs.declared.ended.Ended.TheVariants.{Done, ReadFault, WriteFault, NoMemory}
-use Rattle.line_talk.specs.declared.ended.Ended.TheVariants.{LineLimit}
+use Rattle.line_talk.specs.declared.ended.Ended.TheVariants.{End, ReadFault, WriteFault}
+use Rattle.line_talk.specs.declared.ended.Ended.TheVariants.{LineLimit, NoMemory}
 
 -- the input was read to its end, within the limits of a connection
 pub record IsReadToEnd (read : List ℕ) (now : SourceState) : Type 0 where
@@ -19,20 +19,24 @@ pub record IsReadToEnd (read : List ℕ) (now : SourceState) : Type 0 where
 abbrev pub AreFirst : List (List ℕ) → List (List ℕ) → Type 0
 AreFirst some all = (more : List (List ℕ)) × (all ≡ some ++ more)
 
--- which of the lines read were answered, by how it ended
+-- which of the lines read were answered, by how it ended, where the answerer never ends it
+abbrev pub AnsweredOf : Ended → List ℕ → SourceState → List (List ℕ) → Type 0
+AnsweredOf End read now answered = (answered ≡ lines read) × IsReadToEnd read now
+AnsweredOf ReadFault read now answered = (answered ≡ talk read) × IsWithinLimits read
+AnsweredOf WriteFault read now answered = AreFirst answered (talk read)
+AnsweredOf LineLimit read now answered = (answered ≡ talk read) × ReachesLimit read
+AnsweredOf NoMemory read now answered = AreFirst answered (talk read)
+
+-- the same where it may: all lines before its end
 abbrev pub AnswersOf : Ended → List ℕ → SourceState → Bool → List (List ℕ) → Type 0
-AnswersOf Done read now over answered =
-    (answered ≡ lines read) × IsReadToEnd read now
-    ⊎ AreFirst answered (lines read) × (over ≡ true)
-AnswersOf ReadFault read now over answered = (answered ≡ talk read) × IsWithinLimits read
-AnswersOf WriteFault read now over answered = AreFirst answered (talk read)
-AnswersOf NoMemory read now over answered = AreFirst answered (talk read)
-AnswersOf LineLimit read now over answered = (answered ≡ talk read) × ReachesLimit read
+AnswersOf End read now over answered =
+    AnsweredOf End read now answered ⊎ AreFirst answered (lines read) × (over ≡ true)
+AnswersOf ended read now over answered = AnsweredOf ended read now answered
 
 -- how they were answered, by how it ended
 abbrev pub Converses : {A : Type 0} → Ended → Turn A → Turn A → (A → Bool) → A → List Line → A
     → SinkState → SinkState → Type 0
-Converses Done turn cut over old lines new output now =
+Converses End turn cut over old lines new output now =
     Answered turn over old lines new output now
 Converses ReadFault turn cut over old lines new output now =
     Answered turn over old lines new output now

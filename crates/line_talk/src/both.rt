@@ -74,7 +74,7 @@ pub fn converse_between<A: Answers, S: Source, K: Sink>(
     requires buffer { 0 < length buffer.old }
     ensures value { Talked A.turn A.cut A.over (A.state speaker.old) (A.state speaker.new)
         (S.source source.old) (S.source source.new) (K.sink sink.old) (K.sink sink.new) result }
-    ensures ended { ¬ (result ≡ Ended.Done)
+    ensures ended { ¬ (result ≡ Ended.End)
         → (S.source source.new).ended ≡ (S.source source.old).ended }
     ensures read_fault { result ≡ Ended.ReadFault
         → Rose (S.source source.old).faults (S.source source.new).faults }

@@ -46,7 +46,7 @@ pub fn converse<A: Answers, L: Link>(
     requires buffer { 0 < length buffer.old }
     ensures value { Talked A.turn A.cut A.over (A.state speaker.old) (A.state speaker.new)
         (L.source link.old) (L.source link.new) (L.sink link.old) (L.sink link.new) result }
-    ensures ended { ¬ (result ≡ Ended.Done)
+    ensures ended { ¬ (result ≡ Ended.End)
         → (L.source link.new).ended ≡ (L.source link.old).ended }
     ensures read_fault { result ≡ Ended.ReadFault
         → Rose (L.source link.old).faults (L.source link.new).faults }
@@ -65,14 +65,14 @@ pub fn converse<A: Answers, L: Link>(
     while room > 0 {
         let size = match read_at_most(link, buffer, room) {
             Got::Bytes(size) => size,
-            Got::End => return Ended::Done,
+            Got::End => return Ended::End,
             Got::Failed => return Ended::ReadFault,
         };
         room -= size;
         let (piece, _) = buffer.split_at(size);
         match hear(alloc, speaker, &mut line, &mut count, piece, link) {
             Ok(Heard::More) => {}
-            Ok(Heard::Over) => return Ended::Done,
+            Ok(Heard::Over) => return Ended::End,
             Ok(Heard::Limit) => return Ended::LineLimit,
             Err(stop) => return stop.ended(),
         }

@@ -83,7 +83,7 @@ pub fn is_answered<'i, R: Wait>(
 }
 
 /// How the work of two ends.
-pub fn worked<'a, 'i, R: Threads + Wait + Sync, P: Pause>(
+pub fn worked<'a, 'i, R: Threads + Wait + Sync, P: Pause + Sync>(
     rt: &R,
     alloc: Global,
     host: &Host<'i, MemDisk>,

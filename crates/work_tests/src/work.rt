@@ -58,7 +58,7 @@ fn are_answered<'i, R: Wait>(
 
 /// Whether the work of two at a door ends as it is shut, and not as it fails, once their host has
 /// answered these lines so.
-fn is_shut<'i, R: Threads + Wait + Sync, P: Pause>(
+fn is_shut<'i, R: Threads + Wait + Sync, P: Pause + Sync>(
     rt: &R,
     alloc: Global,
     stories: &'i [Story<'i>],

@@ -16,7 +16,7 @@ returns-in-Err-clause-value g c =
 pub returns-clause-value : goal.returns-clause-value
 returns-clause-value g c = (
   c.answer_lines-served.result,
-  c.of_served.ensures,
+  c.of_end.ensures,
   rw (← c.in-Ok.ensures.silent) (conversed g.D.Disk _ _ _ _ _ _ _ _ _ _
       c.in-Ok.ensures.ok.2 c.end-journal.ensures.value c.answer_lines-served.ensures.holders _
       c.answer_lines-served.ensures.value c.in-Ok.ensures.ok.1 c.in-Ok.ensures.sound
