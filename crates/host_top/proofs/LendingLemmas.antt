@@ -24,7 +24,7 @@ use Rattle.host_top.specs.declared.outside.Fetch.TheVariants as fetch
 use Rattle.host_top.proofs.BorrowLemmas.{elsewhere, lent_one}
 use Rattle.host_top.proofs.LoansLemmas.{all_back, keeps_none, lent_nothing}
 use Rattle.host_top.proofs.BorrowLemmas.{one_back, together, turned_about}
-use Rattle.host_top.proofs.LoansLemmas.{named_each, same_all}
+use Rattle.host_top.proofs.LoansLemmas.{named_each, same_all, with_none}
 
 pub on_err : {T E : Type 0} (r : Result T E) (P : Type 0) → P → OnErr r P
 on_err (Ok x) P p = tt
@@ -267,14 +267,10 @@ module _ {D : Type 0} (disks : DiskWords D) where
         (named other (each_at (λ n. bytes_eq n other ≡ false) ns (length ds) name away e, tt))),
     (all_back disks a a b c [] ls (take (length ds) ns) ds ds
         (subst (λ (l : List (Lending D)). Borrowed disks a b (l ++ ls)) (lent_first ns ds) is)
-        (apart_first ns ds apart) (no_front (take (length ds) ns))
+        (apart_first ns ds apart) (with_none disks (take (length ds) ns))
         (others_named ns ds name ls apart e named) (same_all disks ds)
         (puts_first disks.faults ns ds b c puts)).0,
   )
-    where
-      no_front : (l : List (List ℕ)) → Each (λ n. Each {A = Lending D} (IsOther n) []) l
-      no_front [] = tt
-      no_front (x ∷ xs) = (tt, no_front xs)
 
   -- each that is out may be put back
   pub lent_at : (a b : OutsideState D) (ns : List (List ℕ)) (ds : List D) (i : ℕ) (name : List ℕ)

@@ -146,12 +146,16 @@ module _ {D : Type 0} (disks : DiskWords D) where
   lent_out (n ∷ ns) [] = tt
   lent_out (n ∷ ns) (d ∷ ds) = (refl, lent_out ns ds)
 
-  others_turned : (name : List ℕ) (ns : List (List ℕ))
+  pub others_turned : (name : List ℕ) (ns : List (List ℕ))
       → Each (λ other. bytes_eq name other ≡ false) ns
       → Each (λ other. bytes_eq other name ≡ false) ns
   others_turned name ns apart =
       each_map (λ other. bytes_eq name other ≡ false) (λ other. bytes_eq other name ≡ false) ns
       (λ other e. turned_about name other e) apart
+
+  pub with_none : (ns : List (List ℕ)) → Each (λ n. Each {A = Lending D} (IsOther n) []) ns
+  with_none [] = tt
+  with_none (n ∷ ns) = (tt, with_none ns)
 
   behind : (front : List (Lending D)) (l : Lending D) (ls : List (Lending D))
       → front ++ l ∷ ls ≡ (front ++ l ∷ []) ++ ls
