@@ -1,23 +1,25 @@
 -- The disks of a folder, taken and put back.
 use Rattle.std.proofs.Common.{◌≡◌, ℕ, zero, suc, List, [], ◌∷◌, ◌++◌, length, map, arith, refl, sym}
 use Rattle.std.proofs.Common.{ap, ◌∙◌, subst, None, Some, slice_get, slice_index_or, false, String}
-use Rattle.std.proofs.Common.{Option, remove, string_bytes}
+use Rattle.std.proofs.Common.{Global, Option, Vec, remove, string_bytes}
 use Rattle.std.specs.Str.{bytes_eq}
 use Rattle.disk_model.specs.Disk.{SameDisk}
 use Rattle.turn_cell.specs.History.{Each}
-use Rattle.turn_cell.proofs.HistoryLemmas.{each_map, nil_right}
+use Rattle.turn_cell.proofs.HistoryLemmas.{nil_right}
 use Rattle.host_top.specs.Borrowed.{AreDifferentNames, Borrowed, CountsFaults, IsLending, IsOther}
-use Rattle.host_top.specs.Borrowed.{Lending, PutsBack, back_as, journal_in, lent_as, names_of, snaps_below}
+use Rattle.host_top.specs.Borrowed.{Lending, PutsBack, back_as, journal_in, lent_as, names_of}
+use Rattle.host_top.specs.Borrowed.{snaps_below}
 use Rattle.disk_model.specs.declared.disk.Disk.{Ghosts as DiskWords}
 use Rattle.host_top.specs.Calls.{NoneIsOut}
 use Rattle.host_top.specs.Files.{IsLent, KeepsDisks, OutsideState, TakesDiskBack, is_out}
 use Rattle.host_top.specs.Folder.{AreOut, AreSame, Handled, TakesDisks, back_at, folder_back}
 use Rattle.host_top.specs.declared.folder.Back.{Back}
+use Rattle.host_top.specs.declared.folder.Back.TheVariants as back
 use Rattle.host_top.specs.declared.loan.Loan.{Loan}
 use Rattle.host_top.proofs.BorrowLemmas.{each_last, elsewhere, one_back, turned_about}
-use Rattle.host_top.proofs.LoansLemmas.{all_back, borrowed_still, counts_one, counts_out}
-use Rattle.host_top.proofs.LoansLemmas.{counts_still, lent_out, named_each, others_turned, with_none}
-use Rattle.host_top.proofs.LendingLemmas.{apart_at, lent_at, same_item}
+use Rattle.host_top.proofs.LoansLemmas.{all_back, away_from, behind, borrowed_still, counts_one}
+use Rattle.host_top.proofs.LoansLemmas.{counts_out, lent_out, named_each, others_turned, with_none}
+use Rattle.host_top.proofs.LendingLemmas.{lent_at, same_item}
 use Rattle.host_top.proofs.NameLemmas.{names_apart, snaps_many}
 
 pub short_names : {Y : Type 0} (names : List (String Y))
@@ -25,10 +27,20 @@ pub short_names : {Y : Type 0} (names : List (String Y))
 short_names [] = refl
 short_names (n ∷ names) = omega (arith, short_names names)
 
--- behind the journal's there are 64 names
-pub sixty_four : {Y : Type 0} (folder name : List ℕ) (names : List (String Y))
-    → name ∷ map string_bytes names ≡ names_of folder → length names ≡ 64
-sixty_four folder name names named =
+-- the journal's comes first, then 64 others
+same_parts : (x y : List ℕ) (xs ys : List (List ℕ)) → x ∷ xs ≡ y ∷ ys → (x ≡ y) × (xs ≡ ys)
+same_parts x y xs ys e = (cc, cc)
+
+pub parted : {Y : Type 0} (folder : List ℕ) (all rest : List (String Y)) (first : String Y)
+    → all ≡ first ∷ rest → map string_bytes all ≡ names_of folder
+    → (string_bytes first ≡ journal_in folder)
+    × (map string_bytes rest ≡ snaps_below folder 64)
+parted folder all rest first is named =
+    same_parts _ _ _ _ (ap (map string_bytes) (sym is) ∙ named)
+
+pub sixty_four : {Y : Type 0} (folder : List ℕ) (names : List (String Y))
+    → map string_bytes names ≡ snaps_below folder 64 → length names ≡ 64
+sixty_four folder names named =
     omega (arith, short_names names, ap length named, snaps_many folder 64)
 
 -- where no disk is out, none of these is
@@ -103,53 +115,6 @@ module _ {D : Type 0} (disks : DiskWords D) where
   )
   same_at (g ∷ gs) (b ∷ bs) (suc i) d same there = same_at gs bs i d same.1 there
 
-  -- one of them stands between others
-  record Stands (ls backs : List (Lending D)) (l : Lending D) (d : D) : Type 0 where
-    pub front : List (Lending D)
-    pub rest : List (Lending D)
-    pub is : ls ≡ front ++ l ∷ rest
-    pub after : backs ≡ front ++ record l { back = Some d } ∷ rest
-    pub before : Each (IsOther l.name) front
-    pub behind : Each (IsOther l.name) rest
-
-  stands_at : (ns : List (List ℕ)) (gs : List D) (s : ℕ) (n : List ℕ) (g d : D)
-      → AreDifferentNames ns
-      → slice_get ns s ≡ Some n → slice_get gs s ≡ Some g
-      → Stands (lent_as ns gs) (back_at s d (lent_as ns gs))
-      (record { name = n; given = g; back = None }) d
-  stands_at [] gs s n g d apart named there = cc
-  stands_at (m ∷ ns) [] s n g d apart named there = cc
-  stands_at (m ∷ ns) (h ∷ gs) zero n g d apart named there =
-      let name : m ≡ n = same_item m n named in
-      let disk : h ≡ g = same_item h g there in
-      record {
-        front = [];
-        rest = lent_as ns gs;
-        is =
-            ap (λ (x : List ℕ). record { name = x; given = h; back = None } ∷ lent_as ns gs) name
-            ∙ ap (λ (x : D). record { name = n; given = x; back = None } ∷ lent_as ns gs) disk;
-        after =
-            ap (λ (x : List ℕ). record { name = x; given = h; back = Some d } ∷ lent_as ns gs) name
-            ∙ ap (λ (x : D). record { name = n; given = x; back = Some d } ∷ lent_as ns gs) disk;
-        before = tt;
-        behind =
-            named_each disks (λ x. bytes_eq x n ≡ false) ns gs
-            (subst (λ (y : List ℕ). Each (λ x. bytes_eq x y ≡ false) ns) name
-            (others_turned disks m ns apart.0));
-      }
-  stands_at (m ∷ ns) (h ∷ gs) (suc s) n g d apart named there =
-      let more = stands_at ns gs s n g d apart.1 named there in
-      record {
-        front = record { name = m; given = h; back = None } ∷ more.front;
-        rest = more.rest;
-        is = ap (λ (x : List (Lending D)). record { name = m; given = h; back = None } ∷ x) more.is;
-        after =
-            ap (λ (x : List (Lending D)). record { name = m; given = h; back = None } ∷ x)
-            more.after;
-        before = (apart_at (m ∷ ns) 0 (suc s) m n apart refl named (omega arith), more.before);
-        behind = more.behind;
-      }
-
   -- what is put back, between others
   handled_one : (a b c : OutsideState D) (front : List (Lending D)) (l : Lending D)
       (rest : List (Lending D)) (d : D) → Handled disks a b (front ++ l ∷ rest) → l.back ≡ None
@@ -163,14 +128,31 @@ module _ {D : Type 0} (disks : DiskWords D) where
         counts_one disks a b c front l rest d is.1 out here.0.loan takes,
       )
 
-  -- by what comes back
-  pub put_so : (folder : List ℕ) (a c : OutsideState D) (given : D) (givens : List D)
-      (x y : Back D) → x ≡ y
-      → Handled disks a c (folder_back (journal_in folder) (snaps_below folder 64) given givens y)
-      → Handled disks a c (folder_back (journal_in folder) (snaps_below folder 64) given givens x)
-  put_so folder a c given givens x y same handled =
-      subst (λ (z : Back D). Handled disks a c (folder_back (journal_in folder)
-      (snaps_below folder 64) given givens z)) (sym same) handled
+  -- the disk at a place is put back, behind others
+  one_back_at : (front : List (Lending D)) (ns : List (List ℕ)) (gs : List D) (k : ℕ)
+      (n : List ℕ) (g d : D) (a b c : OutsideState D) → AreDifferentNames ns
+      → Each (λ m. Each (IsOther m) front) ns
+      → slice_get ns k ≡ Some n → slice_get gs k ≡ Some g
+      → SameDisk disks.tells disks.room disks.label g d → TakesDiskBack disks.faults n d b c
+      → Handled disks a b (front ++ lent_as ns gs)
+      → Handled disks a c (front ++ back_at k d (lent_as ns gs))
+  one_back_at front [] gs k n g d a b c apart far at there same takes is = cc
+  one_back_at front (m ∷ ns) [] k n g d a b c apart far at there same takes is = cc
+  one_back_at front (m ∷ ns) (h ∷ gs) zero n g d a b c apart far at there same takes is =
+      handled_one a b c front (record { name = m; given = h; back = None }) (lent_as ns gs) d is
+      refl far.0
+      (named_each disks (λ x. bytes_eq x m ≡ false) ns gs (others_turned disks m ns apart.0))
+      (subst (λ (x : List ℕ). TakesDiskBack disks.faults x d b c) (sym (same_item m n at)) takes)
+      (subst (λ (x : D). SameDisk disks.tells disks.room disks.label x d)
+      (sym (same_item h g there)) same)
+  one_back_at front (m ∷ ns) (h ∷ gs) (suc k) n g d a b c apart far at there same takes is =
+      let l : Lending D = record { name = m; given = h; back = None } in
+      subst (λ (x : List (Lending D)). Handled disks a c x)
+      (sym (behind disks front l (back_at k d (lent_as ns gs))))
+      (one_back_at (front ++ l ∷ []) ns gs k n g d a b c apart.1
+      (away_from disks front m h ns far.1 apart.0) at there same takes
+      (subst (λ (x : List (Lending D)). Handled disks a b x) (behind disks front l (lent_as ns gs))
+      is))
 
   -- the journal's loan stays while the stores' disks are put back
   pub journal_still : (name : List ℕ) (ns : List (List ℕ)) (ds : List D) (label : ℕ)
@@ -185,62 +167,68 @@ module _ {D : Type 0} (disks : DiskWords D) where
       (sym (puts.2.loans name ∙ elsewhere (bytes_eq n name) _ (puts.0.loan name)
       (turned_about name n far.0))) (journal_still name ns ds label a puts.0 far.1 puts.1 lent)
 
--- the disks of a folder are out, by these names
-module _ {D : Type 0} (disks : DiskWords D) (folder : List ℕ) (ns : List (List ℕ))
-    (named : ns ≡ names_of folder) (given : D) (givens : List D) (a b : OutsideState D)
-    (out : AreOut disks folder a b given givens) where
-  pub apart : AreDifferentNames ns
-  apart = subst AreDifferentNames (sym named) (names_apart folder)
+-- the disks of a folder are out
+module _ {D : Type 0} {disks : DiskWords D} {folder : List ℕ} {given : D} {givens : List D}
+    {a b : OutsideState D} (out : AreOut disks folder a b given givens) where
+  abbrev back_so : OutsideState D → Back D → Type 0
+  back_so c x =
+      Handled disks a c (folder_back (journal_in folder) (snaps_below folder 64) given givens x)
 
-  lent : Borrowed disks a b (lent_as ns (given ∷ givens))
-  lent = subst (λ (l : List (List ℕ)). Borrowed disks a b (lent_as l (given ∷ givens)))
-      (sym named) out.borrowed
-
-  out_so : Handled disks a b (lent_as ns (given ∷ givens))
-  out_so = (lent, counts_out disks a b _ (lent_out disks ns (given ∷ givens)) out.count)
-
-  -- each may be put back
-  pub may_put : (k : ℕ) (name : List ℕ) (g d : D) → slice_get ns k ≡ Some name
-      → slice_get (given ∷ givens) k ≡ Some g → SameDisk disks.tells disks.room disks.label g d
-      → IsLent (b.loan name) (disks.label d)
-  may_put k name g d at there same =
-      subst (λ (l : ℕ). IsLent (b.loan name) l) (sym same.name)
-      (lent_at disks a b ns (given ∷ givens) k name g lent.each at there)
-
-  -- none of them, one or all are put back
-  pub none_put : (c : OutsideState D) → KeepsDisks b c
-      → Handled disks a c (lent_as (names_of folder) (given ∷ givens))
-  none_put c keeps = (
-    borrowed_still disks a b c _ out.borrowed keeps,
-    counts_still disks a b c _
-        (counts_out disks a b _ (lent_out disks (names_of folder) (given ∷ givens)) out.count)
-        keeps.disk_faults,
+  out_so : back_so b back.Nothing
+  out_so = (
+    out.borrowed,
+    counts_out disks a b _ (lent_out disks (names_of folder) (given ∷ givens)) out.count,
   )
 
-  pub one_put : (k : ℕ) (name : List ℕ) (g d : D) (c : OutsideState D)
-      → slice_get ns k ≡ Some name → slice_get (given ∷ givens) k ≡ Some g
-      → SameDisk disks.tells disks.room disks.label g d → TakesDiskBack disks.faults name d b c
-      → Handled disks a c (back_at k d (lent_as (names_of folder) (given ∷ givens)))
-  one_put k name g d c at there same takes =
-      let stands = stands_at disks ns (given ∷ givens) k name g d apart at there in
-      subst (λ (l : List (List ℕ)). Handled disks a c (back_at k d (lent_as l (given ∷ givens))))
-      named (subst (λ (l : List (Lending D)). Handled disks a c l) (sym stands.after)
-      (handled_one disks a b c stands.front _ stands.rest d
-      (subst (λ (l : List (Lending D)). Handled disks a b l) stands.is out_so) refl
-      stands.before stands.behind takes same))
+  -- each may be put back
+  pub may_put : (k : ℕ) {name : List ℕ} {g d : D} → slice_get (names_of folder) k ≡ Some name
+      → slice_get (given ∷ givens) k ≡ Some g → SameDisk disks.tells disks.room disks.label g d
+      → IsLent (b.loan name) (disks.label d)
+  may_put k {name} {g} {d} at there same =
+      subst (λ (l : ℕ). IsLent (b.loan name) l) (sym same.name)
+      (lent_at disks a b (names_of folder) (given ∷ givens) k name g out.borrowed.each at there)
 
-  pub all_put : (ds : List D) (c : OutsideState D) → AreSame disks (given ∷ givens) ds
-      → PutsBack disks.faults ns ds b c
-      → Handled disks a c (back_as (lent_as (names_of folder) (given ∷ givens)) ds)
-  all_put ds c same puts =
+  -- and is then, by what comes back
+  pub all_put : {x : Back D} {journal : D} {snaps : Vec D Global} {c e : OutsideState D}
+      → x ≡ back.All journal snaps → SameDisk disks.tells disks.room disks.label given journal
+      → AreSame disks givens snaps.items
+      → PutsBack disks.faults (snaps_below folder 64) snaps.items b c
+      → TakesDiskBack disks.faults (journal_in folder) journal c e → back_so e x
+  all_put {x} {journal} {snaps} {c} {e} is same sames puts takes =
+      let ns : List (List ℕ) = names_of folder in
       let was : List (Lending D) = lent_as ns (given ∷ givens) in
       let goes =
-      all_back disks a a b c [] [] ns (given ∷ givens) ds
-      (subst (λ (l : List (Lending D)). Borrowed disks a b l) (sym (nil_right was)) lent) apart
-      (with_none disks ns) (with_none disks ns) same puts in
-      subst (λ (l : List (List ℕ)). Handled disks a c (back_as (lent_as l (given ∷ givens)) ds))
-      named (subst (λ (l : List (Lending D)). Handled disks a c l) (nil_right (back_as was ds)) (
+      all_back disks a a b e [] [] ns (given ∷ givens) (journal ∷ snaps.items)
+      (subst (λ (l : List (Lending D)). Borrowed disks a b l) (sym (nil_right was)) out.borrowed)
+      (names_apart folder) (with_none disks ns) (with_none disks ns) (same, sames)
+      (c, puts, takes) in
+      subst (back_so e) (sym is) (subst (λ (l : List (Lending D)). Handled disks a e l)
+      (nil_right (back_as was (journal ∷ snaps.items))) (
         goes.0,
         goes.1 (subst (λ (l : List (Lending D)). CountsFaults disks a b l) (sym (nil_right was))
             out_so.1),
       ))
+
+  place_put : (k : ℕ) {name : List ℕ} {g d : D} {c : OutsideState D}
+      → slice_get (names_of folder) k ≡ Some name → slice_get (given ∷ givens) k ≡ Some g
+      → SameDisk disks.tells disks.room disks.label g d → TakesDiskBack disks.faults name d b c
+      → Handled disks a c (back_at k d (lent_as (names_of folder) (given ∷ givens)))
+  place_put k at there same takes =
+      one_back_at disks [] (names_of folder) (given ∷ givens) k _ _ _ a b _ (names_apart folder)
+      (with_none disks (names_of folder)) at there same takes out_so
+
+  pub journal_put : {x : Back D} {journal : D} {c : OutsideState D} → x ≡ back.Journal journal
+      → SameDisk disks.tells disks.room disks.label given journal
+      → TakesDiskBack disks.faults (journal_in folder) journal b c → back_so c x
+  journal_put {c = c} is same takes =
+      subst (back_so c) (sym is) (place_put 0 refl refl same takes)
+
+  pub snap_put : {x : Back D} {s : ℕ} {name : List ℕ} {g snap : D} {c : OutsideState D}
+      → x ≡ back.Snap s snap → slice_get (snaps_below folder 64) s ≡ Some name
+      → slice_get givens s ≡ Some g → SameDisk disks.tells disks.room disks.label g snap
+      → TakesDiskBack disks.faults name snap b c → back_so c x
+  snap_put {s = s} {c = c} is at there same takes =
+      subst (back_so c) (sym is) (place_put (suc s) at there same takes)
+
+  pub none_put : {x : Back D} → x ≡ back.Nothing → back_so b x
+  none_put is = subst (back_so b) (sym is) out_so

@@ -157,11 +157,11 @@ module _ {D : Type 0} (disks : DiskWords D) where
   with_none [] = tt
   with_none (n ∷ ns) = (tt, with_none ns)
 
-  behind : (front : List (Lending D)) (l : Lending D) (ls : List (Lending D))
+  pub behind : (front : List (Lending D)) (l : Lending D) (ls : List (Lending D))
       → front ++ l ∷ ls ≡ (front ++ l ∷ []) ++ ls
   behind front l ls = sym (append_assoc front (l ∷ []) ls)
 
-  away_from : (front : List (Lending D)) (n : List ℕ) (d : D) (ns : List (List ℕ))
+  pub away_from : (front : List (Lending D)) (n : List ℕ) (d : D) (ns : List (List ℕ))
       → Each (λ m. Each (IsOther m) front) ns → Each (λ other. bytes_eq n other ≡ false) ns
       → Each (λ m. Each (IsOther m) (front ++ record { name = n; given = d; back = None } ∷ [])) ns
   away_from front n d [] far apart = tt
