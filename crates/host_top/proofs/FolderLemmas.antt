@@ -5,9 +5,8 @@ use Rattle.std.proofs.Common.{Global, Option, Vec, remove, string_bytes}
 use Rattle.std.specs.Str.{bytes_eq}
 use Rattle.disk_model.specs.Disk.{SameDisk}
 use Rattle.turn_cell.specs.History.{Each}
-use Rattle.turn_cell.proofs.HistoryLemmas.{nil_right}
-use Rattle.host_top.specs.Borrowed.{AreDifferentNames, Borrowed, CountsFaults, IsLending, IsOther}
-use Rattle.host_top.specs.Borrowed.{Lending, PutsBack, back_as, journal_in, lent_as, names_of}
+use Rattle.host_top.specs.Borrowed.{AreDifferentNames, Borrowed, IsLending, IsOther}
+use Rattle.host_top.specs.Borrowed.{Lending, PutsBack, journal_in, lent_as, names_of}
 use Rattle.host_top.specs.Borrowed.{snaps_below}
 use Rattle.disk_model.specs.declared.disk.Disk.{Ghosts as DiskWords}
 use Rattle.host_top.specs.Calls.{NoneIsOut}
@@ -195,19 +194,11 @@ module _ {D : Type 0} {disks : DiskWords D} {folder : List ℕ} {given : D} {giv
       → PutsBack disks.faults (snaps_below folder 64) snaps.items b c
       → TakesDiskBack disks.faults (journal_in folder) journal c e → back_so e x
   all_put {x} {journal} {snaps} {c} {e} is same sames puts takes =
-      let ns : List (List ℕ) = names_of folder in
-      let was : List (Lending D) = lent_as ns (given ∷ givens) in
       let goes =
-      all_back disks a a b e [] [] ns (given ∷ givens) (journal ∷ snaps.items)
-      (subst (λ (l : List (Lending D)). Borrowed disks a b l) (sym (nil_right was)) out.borrowed)
-      (names_apart folder) (with_none disks ns) (with_none disks ns) (same, sames)
+      all_back disks a a b e [] (names_of folder) (given ∷ givens) (journal ∷ snaps.items)
+      out.borrowed (names_apart folder) (with_none disks (names_of folder)) (same, sames)
       (c, puts, takes) in
-      subst (back_so e) (sym is) (subst (λ (l : List (Lending D)). Handled disks a e l)
-      (nil_right (back_as was (journal ∷ snaps.items))) (
-        goes.0,
-        goes.1 (subst (λ (l : List (Lending D)). CountsFaults disks a b l) (sym (nil_right was))
-            out_so.1),
-      ))
+      subst (back_so e) (sym is) (goes.0, goes.1 out_so.1)
 
   place_put : (k : ℕ) {name : List ℕ} {g d : D} {c : OutsideState D}
       → slice_get (names_of folder) k ≡ Some name → slice_get (given ∷ givens) k ≡ Some g

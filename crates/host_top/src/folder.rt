@@ -7,7 +7,8 @@ use std::alloc::{AllocError, Global};
 /// How many sessions a folder has.
 pub const SESSIONS: u8 = 64;
 
-/// The names of a folder's disks, the journal's first, then one for each session; no two are the same.
+/// The names of a folder's disks, the journal's first, then one for each session. No two of them are
+/// the same.
 #[derive(Drop)]
 pub struct Names<'f> {
     pub folder: &'f str,

@@ -1,11 +1,11 @@
 //! Disks that a command is lent by their names, and that it puts back.
-ghost use Rattle.std.specs.Prelude.{◌≡◌, ◌≤◌, ◌∷◌, [], ◌++◌, ℕ, List, Some, IfOk, OnOk, OnErr};
-ghost use Rattle.std.specs.Prelude.{IfErr, IsErrOf, false, length, map, string_bytes, slice_get};
+ghost use Rattle.std.specs.Prelude.{◌≡◌, ◌≤◌, ℕ, List, Some, IfOk, OnOk, OnErr, IfErr, IsErrOf};
+ghost use Rattle.std.specs.Prelude.{false, length, map, string_bytes, slice_get};
 ghost use Rattle.line_talk.specs.Causes.{Rose};
 ghost use Rattle.line_talk.specs.Streams.{SinkState, SourceState};
 ghost use Rattle.host_top.specs.Borrowed.{AreDifferentNames, AreAsGiven, AreNamed, Borrowed};
-ghost use Rattle.host_top.specs.Borrowed.{Lending, NotLent, PutsBack, journal_in, lent_as, names_of};
-ghost use Rattle.host_top.specs.Borrowed.{snaps_below};
+ghost use Rattle.host_top.specs.Borrowed.{Lending, NotLent, PutsBack, journal_in, lent_as};
+ghost use Rattle.host_top.specs.Borrowed.{names_of, snaps_below};
 ghost use Rattle.host_top.specs.Calls.{NoneIsListed, NoneIsOut};
 ghost use Rattle.host_top.specs.Files.{IsLent, KeepsDoors, KeepsFiles, OutsideState, is_out};
 ghost use Rattle.host_top.specs.Folder.{AreOut, Handled, IsSameBack, folder_back};
@@ -15,43 +15,6 @@ ghost use Rattle.turn_cell.specs.History.{Each};
 use crate::folder::{Back, Disks, Names, names_in};
 use crate::outside::{Fetch, Outside};
 use std::alloc::Global;
-
-/// Takes the disk of a name behind others.
-fn take_one<O: Outside>(
-    alloc: Global,
-    name: &str,
-    disks: &mut Vec<O::Disk>,
-    outside: &mut O,
-) -> Result<(), Fetch>
-    ensures ok { OnOk result ((disk : O.Disk) × (disks.new.items ≡ disks.old.items ++ disk ∷ [])
-        × Borrowed O.Disk.Disk (O.outside outside.old) (O.outside outside.new)
-        (lent_as (name.now ∷ []) (disk ∷ []))) }
-    ensures count { OnOk result
-        ((O.outside outside.new).disk_faults ≡ (O.outside outside.old).disk_faults) }
-    ensures err { OnErr result ((disks.new.items ≡ disks.old.items)
-        × ((ls : List (Lending O.Disk)) × AreAsGiven ls × AreNamed (name.now ∷ []) ls
-        × Borrowed O.Disk.Disk (O.outside outside.old) (O.outside outside.new) ls)) }
-    ensures cause { IsErrOf result Fetch.Failed
-        → Rose (O.outside outside.old).disk_faults (O.outside outside.new).disk_faults }
-    // where no call for a disk is to fail, none does for one that isn't out
-    ensures unlisted { NoneIsListed (O.failing_loans outside.old)
-        → is_out ((O.outside outside.old).loan name.now) ≡ false
-        → ¬ (IsErrOf result Fetch.Failed) }
-    ensures listed { NoneIsListed (O.failing_loans outside.old)
-        → NoneIsListed (O.failing_loans outside.new) }
-    ensures later { (O.outside outside.old).disk_faults ≤ (O.outside outside.new).disk_faults }
-    ensures files { KeepsFiles (O.outside outside.old) (O.outside outside.new) }
-    ensures doors { KeepsDoors (O.outside outside.old) (O.outside outside.new) }
-{
-    let disk = outside.disk(alloc, name)?;
-    match disks.push(disk) {
-        Ok(()) => Ok(()),
-        Err(failed) => {
-            outside.put_back(name, failed.value);
-            Err(Fetch::NoMemory)
-        }
-    }
-}
 
 /// Puts disks back under these names.
 pub fn put_all_back<O: Outside>(names: &[String], disks: Vec<O::Disk>, outside: &mut O)
@@ -101,10 +64,12 @@ pub fn take_all<O: Outside>(
     ensures files { KeepsFiles (O.outside outside.old) (O.outside outside.new) }
     ensures doors { KeepsDoors (O.outside outside.old) (O.outside outside.new) }
 {
-    let mut disks = Vec::new(alloc);
+    let Ok(mut disks) = Vec::with_capacity(alloc, names.len()) else {
+        return Err(Fetch::NoMemory);
+    };
     for name in names {
-        match take_one(alloc, name, &mut disks, outside) {
-            Ok(()) => {}
+        match outside.disk(alloc, name) {
+            Ok(disk) => disks.push_reserved(disk),
             Err(why) => {
                 put_all_back(names, disks, outside);
                 return Err(why);

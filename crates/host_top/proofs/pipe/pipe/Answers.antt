@@ -5,7 +5,8 @@ use Rattle.host_top.proofs.pipe.pipe.Goals as goal
 
 pub returns-in-Err-clause-value : goal.returns-in-Err-clause-value
 returns-in-Err-clause-value g c =
-    inl (rw (sym c.of_fetch.ensures) at (c.in-Err.ensures.err _ _))
+    inl (rw (sym c.of_fetch.ensures) at (c.in-Err.ensures.err
+    (g.S.Source.source c.args.input.now) (g.K.Sink.sink c.args.output.now)))
 
 pub pipe_over-status-requires-clause-many : goal.pipe_over-status-requires-clause-many
 pipe_over-status-requires-clause-many g c = c.in-Ok.ensures.ok.1.many

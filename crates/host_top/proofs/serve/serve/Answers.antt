@@ -5,7 +5,8 @@ use Rattle.host_top.proofs.serve.serve.Goals as goal
 
 pub returns-in-Err-clause-value : goal.returns-in-Err-clause-value
 returns-in-Err-clause-value g c =
-    λ input. inl (rw (sym c.of_fetch.ensures) at (c.in-Err.ensures.err input _))
+    λ input. inl (rw (sym c.of_fetch.ensures) at (c.in-Err.ensures.err
+    input (g.K.Sink.sink c.args.output.now)))
 
 pub serve_over-status-requires-clause-many : goal.serve_over-status-requires-clause-many
 serve_over-status-requires-clause-many g c = λ κ within. c.in-Ok.ensures.ok.1.many
