@@ -1,7 +1,7 @@
 -- What `pipe` leaves of its disk, its input and its output, from what its host says as it is
 -- opened, serves and ends.
 use Rattle.std.proofs.Common.{◌≡◌, ◌⊎◌, ℕ, ◌+◌, ◌<◌, ◌≤◌, max, List, [], ◌∷◌, ◌++◌, length, map}
-use Rattle.std.proofs.Common.{take, drop, IfSome, sym, ap, ◌∙◌, subst, Bool, IsTrue, arith, refl}
+use Rattle.std.proofs.Common.{take, drop, IfSome, sym, ap, ◌∙◌, subst, Bool, IsTrue, arith}
 use Rattle.std.proofs.lemmas.List.{length-map}
 use Rattle.std.proofs.Math.Seq.{take-append_seam}
 use Rattle.std.proofs.lemmas.Option.{same_Some}
@@ -85,12 +85,6 @@ module _ {D : Type 0} (disks : DiskWords D) where
     },
     same_zip gs ss bs of.1 gives.1,
   )
-
-  pub same_long : (gs bs : List D) → AreSame disks gs bs → length bs ≡ length gs
-  same_long [] [] same = refl
-  same_long [] (b ∷ bs) same = absurd same
-  same_long (g ∷ gs) [] same = absurd same
-  same_long (g ∷ gs) (b ∷ bs) same = omega (arith, same_long gs bs same.1)
 
   pub back_zip : (gs : List D) (ss : List (Snapshots D)) (bs : List D)
       → AllZip (IsStoreOf disks.tells disks.may_leave disks.seen disks.moment disks.left_since

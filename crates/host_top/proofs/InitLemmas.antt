@@ -1,5 +1,5 @@
 -- The stores of a new folder are made.
-use Rattle.std.proofs.Common.{◌≡◌, ℕ, ◌+◌, ◌<◌, ◌≤◌, List, [], ◌∷◌, ◌++◌, length, map, arith, refl}
+use Rattle.std.proofs.Common.{◌≡◌, ℕ, ◌+◌, ◌<◌, List, [], ◌∷◌, ◌++◌, length, map, arith, refl}
 use Rattle.std.proofs.Common.{sym, ap, ◌∙◌, subst, None, Some, Bool, true, false, IsTrue, IsSomeAnd}
 use Rattle.std.proofs.lemmas.List.{map-append}
 use Rattle.std.specs.Str.{bytes_eq}
@@ -96,26 +96,6 @@ module _ {D : Type 0} (disks : DiskWords D) where
         → IsLentFrom disks.seen disks.may_leave (a.disk n) given) is lent)
         same (subst (λ (n : List ℕ). TakesDiskBack disks.faults n back b c) again takes);
   }
-
-  -- it failed, and so did its disk
-  pub store_failed : (name second : List ℕ) (given back : D) (a b c : OutsideState D)
-      → second ≡ name → Lends disks.label disks.faults name given a b
-      → TakesDiskBack disks.faults second back b c → Rose (disks.faults given) (disks.faults back)
-      → Rose a.disk_faults c.disk_faults
-  store_failed name second given back a b c again lends takes rose =
-      let counts =
-      counts_at name given back a b c lends
-      (subst (λ (n : List ℕ). TakesDiskBack disks.faults n back b c) again takes) in
-      counts.rose.0 rose
-
-  pub store_later : (name second : List ℕ) (given back : D) (a b c : OutsideState D) → second ≡ name
-      → Lends disks.label disks.faults name given a b
-      → TakesDiskBack disks.faults second back b c → a.disk_faults ≤ c.disk_faults
-  store_later name second given back a b c again lends takes =
-      let counts =
-      counts_at name given back a b c lends
-      (subst (λ (n : List ℕ). TakesDiskBack disks.faults n back b c) again takes) in
-      counts.later
 
   pub no_stores : (names : List (List ℕ)) (a c : OutsideState D)
       → ((other : List ℕ) → (c.disk other ≡ a.disk other) × (c.loan other ≡ a.loan other))

@@ -12,7 +12,7 @@ use Rattle.std.specs.Option.{option_map}
 use Rattle.std.specs.Str.{bytes_eq}
 use Rattle.disk_model.specs.Disk.{SameDisk}
 use Rattle.turn_cell.specs.History.{Each}
-use Rattle.turn_cell.proofs.HistoryLemmas.{each_append, each_first, each_map}
+use Rattle.turn_cell.proofs.HistoryLemmas.{each_map}
 use Rattle.host_top.specs.Borrowed.{AreDifferentNames, AreAsGiven, AreNamed, Borrowed}
 use Rattle.host_top.specs.Borrowed.{IsLending, IsOther, Lending, PutsBack, back_as, lent_as}
 use Rattle.disk_model.specs.declared.disk.Disk.{Ghosts as DiskWords}
@@ -22,9 +22,9 @@ use Rattle.host_top.specs.declared.loan.Loan.{Loan}
 use Rattle.host_top.specs.declared.outside.Fetch.{Fetch}
 use Rattle.host_top.specs.declared.outside.Fetch.TheVariants as fetch
 use Rattle.host_top.proofs.BorrowLemmas.{elsewhere, lent_one}
-use Rattle.host_top.proofs.LoansLemmas.{all_back, keeps_none, lent_nothing}
+use Rattle.host_top.proofs.LoansLemmas.{all_back, borrowed_same, keeps_none, lent_nothing}
 use Rattle.host_top.proofs.BorrowLemmas.{one_back, together, turned_about}
-use Rattle.host_top.proofs.LoansLemmas.{named_each, same_all}
+use Rattle.host_top.proofs.LoansLemmas.{named_each, same_all, with_none}
 
 pub on_err : {T E : Type 0} (r : Result T E) (P : Type 0) → P → OnErr r P
 on_err (Ok x) P p = tt
@@ -74,11 +74,6 @@ pub each_at : (P : List ℕ → Type 0) (ns : List (List ℕ)) (i : ℕ) (n : Li
 each_at P [] i n each e = cc
 each_at P (m ∷ ns) zero n each e = subst P (same_item m n e) each.0
 each_at P (m ∷ ns) (suc i) n each e = each_at P ns i n each.1 e
-
-pub each_take : (P : List ℕ → Type 0) (n : ℕ) (ns : List (List ℕ)) → Each P ns → Each P (take n ns)
-each_take P zero ns each = tt
-each_take P (suc n) [] each = tt
-each_take P (suc n) (m ∷ ns) each = (each.0, each_take P n ns each.1)
 
 pub apart_at : (ns : List (List ℕ)) (i k : ℕ) (a b : List ℕ)
     → AreDifferentNames ns → slice_get ns i ≡ Some a
@@ -143,14 +138,6 @@ module _ {D : Type 0} (faults : D → ℕ) where
   puts_later (n ∷ ns) (d ∷ ds) a b puts = let more =
       puts_later ns ds a puts.0 puts.1 in omega (arith, more, takes_later n d puts.0 b puts.2)
 
-  -- names that are left over put nothing back
-  pub puts_first : (ns : List (List ℕ)) (ds : List D) (a b : OutsideState D)
-      → PutsBack faults ns ds a b → PutsBack faults (take (length ds) ns) ds a b
-  puts_first [] [] a b puts = puts
-  puts_first [] (d ∷ ds) a b puts = puts
-  puts_first (n ∷ ns) [] a b puts = puts
-  puts_first (n ∷ ns) (d ∷ ds) a b puts = (puts.0, puts_first ns ds a puts.0 puts.1, puts.2)
-
 -- ---- one disk more is lent
 
 module _ {D : Type 0} (disks : DiskWords D) where
@@ -201,45 +188,20 @@ module _ {D : Type 0} (disks : DiskWords D) where
       (named_each disks (λ n. bytes_eq n name ≡ false) (take (length ds) ns) ds
       (next_apart ns ds name apart e)))).1
 
-  apart_first : (ns : List (List ℕ)) (ds : List D)
-      → AreDifferentNames ns
-      → AreDifferentNames (take (length ds) ns)
-  apart_first [] [] apart = tt
-  apart_first [] (d ∷ ds) apart = tt
-  apart_first (n ∷ ns) [] apart = tt
-  apart_first (n ∷ ns) (d ∷ ds) apart = (
-    each_take (λ other. bytes_eq n other ≡ false) (length ds) ns apart.0,
-    apart_first ns ds
-        apart.1,
-  )
-
-  -- disks that are lent then, of this name alone, are others
-  others_named : (ns : List (List ℕ)) (ds : List D) (name : List ℕ) (ls : List (Lending D))
-      → AreDifferentNames ns → slice_get ns (length ds) ≡ Some name → AreNamed (name ∷ []) ls
-      → Each (λ n. Each (IsOther n) ls) (take (length ds) ns)
-  others_named ns ds name ls apart e named =
-      each_map (λ n. bytes_eq n name ≡ false) (λ n. Each (IsOther n) ls) (take (length ds) ns)
-      (λ n other. named n (turned_about n name other, tt)) (next_apart ns ds name apart e)
-
-  take_on : (a b c : OutsideState D) (ns : List (List ℕ)) (ds : List D) (name : List ℕ)
-      (ls : List (Lending D)) → AreDifferentNames ns → slice_get ns (length ds) ≡ Some name
-      → AreNamed (name ∷ []) ls → Borrowed disks a b (lent_as ns ds) → Borrowed disks b c ls
-      → Borrowed disks a c (lent_as ns ds ++ ls)
-  take_on a b c ns ds name ls apart e named first more =
-      together disks a b c (lent_as ns ds) ls first more
-      (subst (λ (l : List (Lending D)). Each (λ k. Each (IsOther k.name) ls) l)
-      (sym (lent_first ns ds))
-      (named_each disks (λ n. Each (IsOther n) ls) (take (length ds) ns) ds
-      (others_named ns ds name ls apart e named)))
-
   pub take_more : (a b c : OutsideState D) (ns : List (List ℕ)) (ds : List D) (name : List ℕ)
       (d : D) → AreDifferentNames ns → slice_get ns (length ds) ≡ Some name
-      → Borrowed disks a b (lent_as ns ds) → Borrowed disks b c (lent_as (name ∷ []) (d ∷ []))
+      → Borrowed disks a b (lent_as ns ds)
+      → Borrowed disks b c (record { name = name; given = d; back = None } ∷ [])
       → Borrowed disks a c (lent_as ns (ds ++ d ∷ []))
   take_more a b c ns ds name d apart e first more =
-      subst (λ (l : List (Lending D)). Borrowed disks a c l) (sym (lent_more ns ds name d e))
-      (take_on a b c ns ds name (lent_as (name ∷ []) (d ∷ [])) apart e (λ other away. away) first
-      more)
+      let l : Lending D = record { name = name; given = d; back = None } in
+      subst (λ (k : List (Lending D)). Borrowed disks a c k) (sym (lent_more ns ds name d e))
+      (together disks a b c (lent_as ns ds) (l ∷ []) first more
+      (subst (λ (k : List (Lending D)). Each (λ m. Each (IsOther m.name) (l ∷ [])) k)
+      (sym (lent_first ns ds)) (named_each disks (λ n. Each (IsOther n) (l ∷ []))
+      (take (length ds) ns) ds (each_map (λ n. bytes_eq n name ≡ false)
+      (λ n. Each (IsOther n) (l ∷ [])) (take (length ds) ns)
+      (λ n other. (turned_about n name other, tt)) (next_apart ns ds name apart e)))))
 
   given_all : (ns : List (List ℕ)) (ds : List D) → AreAsGiven (back_as (lent_as ns ds) ds)
   given_all [] ds = tt
@@ -251,30 +213,6 @@ module _ {D : Type 0} (disks : DiskWords D) where
   back_named P [] ds each = tt
   back_named P (n ∷ ns) [] each = tt
   back_named P (n ∷ ns) (d ∷ ds) each = (each.0, back_named P ns ds each.1)
-
-  refused_back : (a b c : OutsideState D) (ns : List (List ℕ)) (ds : List D) (name : List ℕ)
-      (ls : List (Lending D)) → AreDifferentNames ns → slice_get ns (length ds) ≡ Some name
-      → AreNamed (name ∷ []) ls → AreAsGiven ls → Borrowed disks a b (lent_as ns ds ++ ls)
-      → PutsBack disks.faults ns ds b c
-      → (ks : List (Lending D)) × AreAsGiven ks × AreNamed ns ks × Borrowed disks a c ks
-  refused_back a b c ns ds name ls apart e named given is puts = (
-    back_as (lent_as (take (length ds) ns) ds) ds ++ ls,
-    each_append (λ l. l.back ≡ Some l.given) (back_as (lent_as (take (length ds) ns) ds) ds) ls
-        (given_all (take (length ds) ns) ds) given,
-    (λ other away. each_append (IsOther other) (back_as (lent_as (take (length ds) ns) ds) ds) ls
-        (back_named (λ n. bytes_eq n other ≡ false) (take (length ds) ns) ds
-        (each_take (λ n. bytes_eq n other ≡ false) (length ds) ns away))
-        (named other (each_at (λ n. bytes_eq n other ≡ false) ns (length ds) name away e, tt))),
-    (all_back disks a a b c [] ls (take (length ds) ns) ds ds
-        (subst (λ (l : List (Lending D)). Borrowed disks a b (l ++ ls)) (lent_first ns ds) is)
-        (apart_first ns ds apart) (no_front (take (length ds) ns))
-        (others_named ns ds name ls apart e named) (same_all disks ds)
-        (puts_first disks.faults ns ds b c puts)).0,
-  )
-    where
-      no_front : (l : List (List ℕ)) → Each (λ n. Each {A = Lending D} (IsOther n) []) l
-      no_front [] = tt
-      no_front (x ∷ xs) = (tt, no_front xs)
 
   -- each that is out may be put back
   pub lent_at : (a b : OutsideState D) (ns : List (List ℕ)) (ds : List D) (i : ℕ) (name : List ℕ)
@@ -289,29 +227,24 @@ module _ {D : Type 0} (disks : DiskWords D) where
   lent_at a b (n ∷ ns) (g ∷ gs) (suc i) name d each named is =
       lent_at a b ns gs i name d each.1 named is
 
-  lent_first_at : (a b : OutsideState D) (ns : List (List ℕ)) (ds : List D)
-      (ls : List (Lending D)) (i : ℕ) (name : List ℕ) (d : D)
-      → Borrowed disks a b (lent_as ns ds ++ ls)
-      → slice_get ns i ≡ Some name → slice_get ds i ≡ Some d → IsLent (b.loan name) (disks.label d)
-  lent_first_at a b ns ds ls i name d is =
-      lent_at a b ns ds i name d (each_first (IsLending disks a b) (lent_as ns ds) ls is.each)
-
   -- where one isn't lent, those that were are out still, and may be put back as they were given
-  pub take_not : (a b c : OutsideState D) (ns : List (List ℕ)) (ds new : List D) (name : List ℕ)
-      → AreDifferentNames ns → slice_get ns (length ds) ≡ Some name
-      → Borrowed disks a b (lent_as ns ds)
-      → (new ≡ ds) × ((ls : List (Lending D)) × AreAsGiven ls × AreNamed (name ∷ []) ls
-      × Borrowed disks b c ls)
+  pub take_not : (a b c : OutsideState D) (ns : List (List ℕ)) (ds : List D)
+      → AreDifferentNames ns → Borrowed disks a b (lent_as ns ds)
+      → ((other : List ℕ) → (c.disk other ≡ b.disk other) × (c.loan other ≡ b.loan other))
       → ((i : ℕ) (other : List ℕ) (d : D) → slice_get ns i ≡ Some other
-      → slice_get new i ≡ Some d → IsLent (c.loan other) (disks.label d))
-      × ((e : OutsideState D) → PutsBack disks.faults ns new c e
+      → slice_get ds i ≡ Some d → IsLent (c.loan other) (disks.label d))
+      × ((e : OutsideState D) → PutsBack disks.faults ns ds c e
       → (ks : List (Lending D)) × AreAsGiven ks × AreNamed ns ks × Borrowed disks a e ks)
-  take_not a b c ns ds new name apart named first e =
-      let all = take_on a b c ns ds name e.1.0 apart named e.1.2 first e.1.3 in (
-        λ i other d there is. lent_first_at a c ns ds e.1.0 i other d all there
-            (subst (λ (l : List D). slice_get l i ≡ Some d) e.0 is),
-        λ x puts. refused_back a c x ns ds name e.1.0 apart named e.1.2 e.1.1 all
-            (subst (λ (l : List D). PutsBack disks.faults ns l c x) e.0 puts),
+  take_not a b c ns ds apart first same =
+      let still = borrowed_same disks a b c (lent_as ns ds) first same in (
+        λ i other d there is. lent_at a c ns ds i other d still.each there is,
+        λ e puts. (
+          back_as (lent_as ns ds) ds,
+          given_all ns ds,
+          (λ other away. back_named (λ n. bytes_eq n other ≡ false) ns ds away),
+          (all_back disks a a c e [] ns ds ds still apart (with_none disks ns) (same_all disks ds)
+              puts).0,
+        ),
       )
 
   pub none_lent : (a : OutsideState D) (ns : List (List ℕ)) (ds : List D) → ds ≡ []

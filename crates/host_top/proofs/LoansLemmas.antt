@@ -22,28 +22,23 @@ module _ {D : Type 0} (disks : DiskWords D) where
       → Borrowed disks a b []
   lent_nothing a b same = record { each = tt; others = λ other away. same other }
 
-  still_all : (a b c : OutsideState D) (ls : List (Lending D)) → KeepsDisks b c
-      → Each (IsLending disks a b) ls → Each (IsLending disks a c) ls
-  still_all a b c [] keeps each = tt
-  still_all a b c (l ∷ ls) keeps each = (
-    lending_still disks a b c [] l
-        (lent_nothing b c (λ other. (keeps.disk other, keeps.loan other))) tt each.0,
-    still_all a b c
-        ls keeps each.1,
-  )
-
   -- nothing becomes of them where the disks stay
+  pub borrowed_same : (a b c : OutsideState D) (ls : List (Lending D)) → Borrowed disks a b ls
+      → ((other : List ℕ) → (c.disk other ≡ b.disk other) × (c.loan other ≡ b.loan other))
+      → Borrowed disks a c ls
+  borrowed_same a b c ls is same = record {
+    each = each_map (IsLending disks a b) (IsLending disks a c) ls
+        (λ l one. lending_still disks a b c [] l (lent_nothing b c same) tt one) is.each;
+    others = λ other away. (
+      (same other).0 ∙ (is.others other away).0,
+      (same other).1 ∙ (is.others other away).1,
+    );
+  }
+
   pub borrowed_still : (a b c : OutsideState D) (ls : List (Lending D)) → Borrowed disks a b ls
       → KeepsDisks b c → Borrowed disks a c ls
-  borrowed_still a b c ls is keeps = record {
-    each = still_all a b c ls keeps is.each;
-    others =
-        λ other away. (
-          keeps.disk other ∙ (is.others other away).0,
-          keeps.loan other
-              ∙ (is.others other away).1,
-        );
-  }
+  borrowed_still a b c ls is keeps =
+      borrowed_same a b c ls is (λ other. (keeps.disk other, keeps.loan other))
 
   -- ---- counts of faults
 
@@ -146,18 +141,22 @@ module _ {D : Type 0} (disks : DiskWords D) where
   lent_out (n ∷ ns) [] = tt
   lent_out (n ∷ ns) (d ∷ ds) = (refl, lent_out ns ds)
 
-  others_turned : (name : List ℕ) (ns : List (List ℕ))
+  pub others_turned : (name : List ℕ) (ns : List (List ℕ))
       → Each (λ other. bytes_eq name other ≡ false) ns
       → Each (λ other. bytes_eq other name ≡ false) ns
   others_turned name ns apart =
       each_map (λ other. bytes_eq name other ≡ false) (λ other. bytes_eq other name ≡ false) ns
       (λ other e. turned_about name other e) apart
 
-  behind : (front : List (Lending D)) (l : Lending D) (ls : List (Lending D))
+  pub with_none : (ns : List (List ℕ)) → Each (λ n. Each {A = Lending D} (IsOther n) []) ns
+  with_none [] = tt
+  with_none (n ∷ ns) = (tt, with_none ns)
+
+  pub behind : (front : List (Lending D)) (l : Lending D) (ls : List (Lending D))
       → front ++ l ∷ ls ≡ (front ++ l ∷ []) ++ ls
   behind front l ls = sym (append_assoc front (l ∷ []) ls)
 
-  away_from : (front : List (Lending D)) (n : List ℕ) (d : D) (ns : List (List ℕ))
+  pub away_from : (front : List (Lending D)) (n : List ℕ) (d : D) (ns : List (List ℕ))
       → Each (λ m. Each (IsOther m) front) ns → Each (λ other. bytes_eq n other ≡ false) ns
       → Each (λ m. Each (IsOther m) (front ++ record { name = n; given = d; back = None } ∷ [])) ns
   away_from front n d [] far apart = tt
@@ -173,45 +172,40 @@ module _ {D : Type 0} (disks : DiskWords D) where
   Goes s a b c ls ks =
       Borrowed disks a c ks × (CountsFaults disks s b ls → CountsFaults disks s c ks)
 
-  -- they are put back, between others
-  pub all_back : (s a b c : OutsideState D) (front rest : List (Lending D)) (ns : List (List ℕ))
-      (gs bs : List D) → Borrowed disks a b (front ++ (lent_as ns gs ++ rest))
+  -- they are put back, behind others
+  pub all_back : (s a b c : OutsideState D) (front : List (Lending D)) (ns : List (List ℕ))
+      (gs bs : List D) → Borrowed disks a b (front ++ lent_as ns gs)
       → AreDifferentNames ns
       → Each (λ n. Each (IsOther n) front) ns
-      → Each (λ n. Each (IsOther n) rest) ns
       → AreSame disks gs bs → PutsBack disks.faults ns bs b c
-      → Goes s a b c (front ++ (lent_as ns gs ++ rest))
-      (front ++ (back_as (lent_as ns gs) bs ++ rest))
-  all_back s a b c front rest [] gs bs is apart before after same puts = (
-    borrowed_still a b c (front ++ rest) is puts,
-    λ counts. counts_still s b c (front ++ rest)
-        counts puts.disk_faults,
+      → Goes s a b c (front ++ lent_as ns gs) (front ++ back_as (lent_as ns gs) bs)
+  all_back s a b c front [] gs bs is apart before same puts = (
+    borrowed_still a b c (front ++ []) is puts,
+    λ counts. counts_still s b c (front ++ []) counts puts.disk_faults,
   )
-  all_back s a b c front rest (n ∷ ns) [] [] is apart before after same puts = (
-    borrowed_still a b c (front ++ rest) is puts,
-    λ counts. counts_still s b c (front ++ rest)
-        counts puts.disk_faults,
+  all_back s a b c front (n ∷ ns) [] [] is apart before same puts = (
+    borrowed_still a b c (front ++ []) is puts,
+    λ counts. counts_still s b c (front ++ []) counts puts.disk_faults,
   )
-  all_back s a b c front rest (n ∷ ns) [] (d ∷ bs) is apart before after same puts = absurd same
-  all_back s a b c front rest (n ∷ ns) (g ∷ gs) [] is apart before after same puts = absurd same
-  all_back s a b c front rest (n ∷ ns) (g ∷ gs) (d ∷ bs) is apart before after same puts =
+  all_back s a b c front (n ∷ ns) [] (d ∷ bs) is apart before same puts = absurd same
+  all_back s a b c front (n ∷ ns) (g ∷ gs) [] is apart before same puts = absurd same
+  all_back s a b c front (n ∷ ns) (g ∷ gs) (d ∷ bs) is apart before same puts =
       let l : Lending D = record { name = n; given = g; back = None } in
       let mid : OutsideState D = puts.0 in
-      let was : List (Lending D) = lent_as ns gs ++ rest in
-      let now : List (Lending D) = back_as (lent_as ns gs) bs ++ rest in
+      let was : List (Lending D) = lent_as ns gs in
+      let now : List (Lending D) = back_as (lent_as ns gs) bs in
       let inner : Goes s a b mid ((front ++ l ∷ []) ++ was) ((front ++ l ∷ []) ++ now) =
-      all_back s a b mid (front ++ l ∷ []) rest ns gs bs
+      all_back s a b mid (front ++ l ∷ []) ns gs bs
       (subst (λ (x : List (Lending D)). Borrowed disks a b x) (behind front l was) is)
-      apart.1 (away_from front n g ns before.1 apart.0) after.1 same.1 puts.1 in
+      apart.1 (away_from front n g ns before.1 apart.0) same.1 puts.1 in
       let here : Goes s a b mid (front ++ l ∷ was) (front ++ l ∷ now) =
       subst (λ (x : List (Lending D)). Goes s a b mid x (front ++ l ∷ now))
       (sym (behind front l was))
       (subst (λ (x : List (Lending D)). Goes s a b mid ((front ++ l ∷ []) ++ was) x)
       (sym (behind front l now)) inner) in
       let loan = each_last (IsLending disks a mid) front (l ∷ now) here.0.each in
-      let far : Each (IsOther n) now = each_append (IsOther n) (back_as (lent_as ns gs) bs) rest
-      (named_back (λ m. bytes_eq m n ≡ false) (lent_as ns gs) bs
-      (named_each (λ m. bytes_eq m n ≡ false) ns gs (others_turned n ns apart.0))) after.0 in (
+      let far : Each (IsOther n) now = named_back (λ m. bytes_eq m n ≡ false) (lent_as ns gs) bs
+      (named_each (λ m. bytes_eq m n ≡ false) ns gs (others_turned n ns apart.0)) in (
         one_back disks a mid c front l now d here.0 before.0 far puts.2 same.0,
         λ counts. counts_one s mid c front l now d (here.1 counts) refl loan.0.loan puts.2,
       )

@@ -14,7 +14,7 @@ use Rattle.std.specs.List.{range_with_len}
 use Rattle.std.specs.Prelude.{slice_index}
 use Rattle.std.specs.Str.{bytes_eq}
 use Rattle.turn_cell.specs.History.{Each}
-use Rattle.host_top.specs.Borrowed.{AreDifferentNames, journal_in, snap_in, snaps_below}
+use Rattle.host_top.specs.Borrowed.{AreDifferentNames, journal_in, names_of, snap_in, snaps_below}
 
 -- names that aren't equal are told apart
 pub told_apart : (a b : List ℕ) → (a ≡ b → ⊥) → bytes_eq a b ≡ false
@@ -102,22 +102,9 @@ pub journal_apart : (folder : List ℕ) (n : ℕ)
 unfolding snaps_below
 journal_apart folder n = journal_from folder 0 n
 
--- the names as they are made
-pub names_none : {Y : Type 0} (folder : List ℕ) (names : List (String Y)) → names ≡ []
-    → map string_bytes names ≡ snaps_below folder 0
-unfolding snaps_below
-names_none folder names none = ap (map string_bytes) none
-
-pub names_pushed : {Y : Type 0} (folder : List ℕ) (s : ℕ) (old new : List (String Y))
-    (name : String Y) → new ≡ old ++ name ∷ []
-    → map string_bytes old ≡ snaps_below folder s → string_bytes name ≡ snap_in folder s
-    → map string_bytes new ≡ snaps_below folder (s + 1)
-unfolding snaps_below
-names_pushed folder s old new name is before this =
-    ap (map string_bytes) is ∙ map-append string_bytes old (name ∷ [])
-    ∙ ap (λ (l : List (List ℕ)). l ++ string_bytes name ∷ []) before
-    ∙ ap (λ (n : List ℕ). map (snap_in folder) (range_with_len 0 s) ++ n ∷ []) this
-    ∙ sym (map-range_with_len_more (snap_in folder) 0 s s (omega arith))
+-- so no two names of a folder are the same
+pub names_apart : (folder : List ℕ) → AreDifferentNames (names_of folder)
+names_apart folder = (journal_apart folder 64, snaps_apart folder 64 (omega arith))
 
 -- ---- what holds of the names of stores
 
@@ -165,6 +152,25 @@ pub snaps_more : (folder : List ℕ) (s : ℕ)
     → snaps_below folder (s + 1) ≡ snaps_below folder s ++ snap_in folder s ∷ []
 unfolding snaps_below
 snaps_more folder s = map-range_with_len_more (snap_in folder) 0 s s (omega arith)
+
+-- the names as they are made
+pub names_begun : {Y : Type 0} (folder : List ℕ) (old new : List (String Y)) (name : String Y)
+    → old ≡ [] → new ≡ old ++ name ∷ [] → string_bytes name ≡ journal_in folder
+    → map string_bytes new ≡ journal_in folder ∷ snaps_below folder 0
+unfolding snaps_below
+names_begun folder old new name none is this =
+    ap (map string_bytes) (is ∙ ap (λ (l : List (String _)). l ++ name ∷ []) none)
+    ∙ ap (λ (n : List ℕ). n ∷ []) this
+
+pub names_pushed : {Y : Type 0} (folder : List ℕ) (s : ℕ) (old new : List (String Y))
+    (name : String Y) → new ≡ old ++ name ∷ []
+    → map string_bytes old ≡ journal_in folder ∷ snaps_below folder s
+    → string_bytes name ≡ snap_in folder s
+    → map string_bytes new ≡ journal_in folder ∷ snaps_below folder (s + 1)
+names_pushed folder s old new name is before this =
+    ap (map string_bytes) is ∙ map-append string_bytes old (name ∷ [])
+    ∙ (λ i. before i ++ this i ∷ [])
+    ∙ ap (λ (l : List (List ℕ)). journal_in folder ∷ l) (sym (snaps_more folder s))
 
 pub snap_at : (folder : List ℕ) (n s : ℕ) → s < n
     → slice_get (snaps_below folder n) s ≡ Some (snap_in folder s)

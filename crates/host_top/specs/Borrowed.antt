@@ -27,6 +27,10 @@ snap_in folder s = folder ++ codes "/snap" ++ decimal (s / 10) ++ decimal (s % 1
 unfoldable pub snaps_below : List ℕ → ℕ → List (List ℕ)
 snaps_below folder n = map (snap_in folder) (range_with_len 0 n)
 
+-- the names of the disks of a folder, the journal's first
+abbrev pub names_of : List ℕ → List (List ℕ)
+names_of folder = journal_in folder ∷ snaps_below folder 64
+
 -- no two of these names are the same
 abbrev pub AreDifferentNames : List (List ℕ) → Type 0
 AreDifferentNames [] = Unit {0}

@@ -1,13 +1,13 @@
 -- The disks of a folder, as a host takes them and gives them back (own).
-use Rattle.std.specs.Prelude.{◌≡◌, ◌⊎◌, ℕ, ◌<◌, ◌≤◌, zero, suc, List, [], ◌∷◌, length, Option, None}
+use Rattle.std.specs.Prelude.{◌≡◌, ◌⊎◌, ℕ, zero, suc, List, [], ◌∷◌, length, Option, None}
 use Rattle.std.specs.Prelude.{Some, slice_get}
 use Rattle.disk_model.specs.Disk.{OnlyLooks, SameDisk}
 use Rattle.line_talk.specs.Causes.{Rose}
 use Rattle.line_talk.specs.Streams.{SourceState, SinkState, Gave, Wrote}
-use Rattle.host_top.specs.Borrowed.{Borrowed, CountsFaults, Lending, NotLent, PutsBack, back_as}
-use Rattle.host_top.specs.Borrowed.{journal_in, lent_as, snaps_below}
+use Rattle.host_top.specs.Borrowed.{Borrowed, CountsFaults, Lending, NotLent, back_as}
+use Rattle.host_top.specs.Borrowed.{journal_in, lent_as, names_of, snaps_below}
 use Rattle.disk_model.specs.declared.disk.Disk.{Ghosts as DiskWords}
-use Rattle.host_top.specs.Files.{IsLent, KeepsDisks, OutsideState, TakesDiskBack}
+use Rattle.host_top.specs.Files.{OutsideState}
 use Rattle.host_top.specs.declared.folder.Back.{Back}
 use Rattle.host_top.specs.declared.folder.Back.TheVariants.{All, Journal, Snap, Nothing}
 use Rattle.host_top.specs.declared.status.Status.{Status}
@@ -59,37 +59,18 @@ IsSameBack {D} disks given givens (Snap session snap) =
     × SameDisk disks.tells disks.room disks.label g snap
 IsSameBack disks given givens Nothing = Unit {0}
 
--- there are names for what comes back
-abbrev pub FitsNames : {D : Type 0} → ℕ → Back D → Type 0
-FitsNames many (All journal snaps) = length snaps.items ≤ many
-FitsNames many (Journal journal) = Unit {0}
-FitsNames many (Snap session snap) = session < many
-FitsNames many Nothing = Unit {0}
+-- the disks of a folder are out, as they were given
+pub record AreOut {D : Type 0} (disks : DiskWords D) (folder : List ℕ)
+    (outside beyond : OutsideState D) (given : D) (givens : List D) : Type 0 where
+  pub many : length givens ≡ 64
+  pub borrowed : Borrowed disks outside beyond (lent_as (names_of folder) (given ∷ givens))
+  pub count : beyond.disk_faults ≡ outside.disk_faults
 
--- it may be put back under these names
-abbrev pub MayPutBack : {D : Type 0} → (D → ℕ) → List ℕ → List (List ℕ) → Back D
-    → OutsideState D → Type 0
-MayPutBack {D} label name names (All journal snaps) outside =
-    IsLent (outside.loan name) (label journal)
-    × ((i : ℕ) (n : List ℕ) (d : D) → slice_get names i ≡ Some n
-    → slice_get snaps.items i ≡ Some d → IsLent (outside.loan n) (label d))
-MayPutBack label name names (Journal journal) outside =
-    IsLent (outside.loan name) (label journal)
-MayPutBack label name names (Snap session snap) outside =
-    (n : List ℕ) → slice_get names session ≡ Some n → IsLent (outside.loan n) (label snap)
-MayPutBack label name names Nothing outside = Unit {0}
-
--- it was put back under them, the journal's disk last
-abbrev pub PutsFolderBack : {D : Type 0} → (D → ℕ) → List ℕ → List (List ℕ) → Back D
-    → OutsideState D → OutsideState D → Type 0
-PutsFolderBack {D} faults name names (All journal snaps) old new =
-    (mid : OutsideState D) × PutsBack faults names snaps.items old mid
-    × TakesDiskBack faults name journal mid new
-PutsFolderBack faults name names (Journal journal) old new =
-    TakesDiskBack faults name journal old new
-PutsFolderBack faults name names (Snap session snap) old new =
-    (n : List ℕ) × (slice_get names session ≡ Some n) × TakesDiskBack faults n snap old new
-PutsFolderBack faults name names Nothing old new = KeepsDisks old new
+-- these disks were lent, some put back, and the faults counted
+abbrev pub Handled : {D : Type 0} → DiskWords D → OutsideState D → OutsideState D
+    → List (Lending D) → Type 0
+Handled disks outside beyond ls =
+    Borrowed disks outside beyond ls × CountsFaults disks outside beyond ls
 
 -- all disks of a folder were lent, P is done with them, and those that come back were put back
 pub record TakesDisks {D : Type 0} (disks : DiskWords D) (folder : List ℕ)

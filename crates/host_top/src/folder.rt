@@ -1,17 +1,19 @@
 //! The disks of a folder, and their names.
-ghost use Rattle.std.specs.Prelude.{◌≡◌, ◌<◌, IfOk, map, string_bytes};
-ghost use Rattle.host_top.specs.Borrowed.{journal_in, snap_in, snaps_below};
+ghost use Rattle.std.specs.Prelude.{◌≡◌, IfOk, map, string_bytes};
+ghost use Rattle.host_top.specs.Borrowed.{journal_in, names_of, snap_in};
 
 use std::alloc::{AllocError, Global};
 
 /// How many sessions a folder has.
 pub const SESSIONS: u8 = 64;
 
-/// The names of a folder's disks.
+/// The names of a folder's disks, the journal's first, then one for each session. No two of them are
+/// the same.
 #[derive(Drop)]
-pub struct Names {
-    pub journal: String,
-    pub snaps: Vec<String>,
+pub struct Names<'f> {
+    pub folder: &'f str,
+    pub all: Vec<String>,
+    ghost named: { map string_bytes all.items ≡ names_of folder.now },
 }
 
 /// The disks of a folder, those of the stores in the order of the sessions.
@@ -50,25 +52,14 @@ pub fn snap_name(alloc: Global, folder: &str, session: u8) -> Result<String, All
     format!(in alloc; "{folder}/snap{tens}{units}")
 }
 
-/// The names of the stores of all sessions.
-pub fn snap_names(alloc: Global, folder: &str) -> Result<Vec<String>, AllocError>
-    ensures { IfOk result (λ names. map string_bytes names.items ≡ snaps_below folder.now 64) }
-{
-    let mut names = Vec::new(alloc);
-    for session in 0..SESSIONS {
-        names.push(snap_name(alloc, folder, session)?)?;
-    }
-    Ok(names)
-}
-
 /// The names of a folder's disks.
-pub fn names_in(alloc: Global, folder: &str) -> Result<Names, AllocError>
-    ensures journal { IfOk result (λ names. string_bytes names.journal ≡ journal_in folder.now) }
-    ensures snaps { IfOk result (λ names.
-        map string_bytes names.snaps.items ≡ snaps_below folder.now 64) }
+pub fn names_in<'f>(alloc: Global, folder: &'f str) -> Result<Names<'f>, AllocError>
+    ensures { IfOk result (λ names. names.folder.now ≡ folder.now) }
 {
-    Ok(Names {
-        journal: journal_name(alloc, folder)?,
-        snaps: snap_names(alloc, folder)?,
-    })
+    let mut all = Vec::new(alloc);
+    all.push(journal_name(alloc, folder)?)?;
+    for session in 0..SESSIONS {
+        all.push(snap_name(alloc, folder, session)?)?;
+    }
+    Ok(Names { folder, all })
 }

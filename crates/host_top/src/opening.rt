@@ -8,7 +8,7 @@ ghost use Rattle.host_serve.specs.Hosts.{IsSound, rows_at_opening, opened_stores
 ghost use Rattle.host_serve.specs.Opening.{AreAgreed, IsOpenedHost, IsStoreOf};
 ghost use Rattle.line_talk.specs.Causes.{Rose};
 ghost use Rattle.line_talk.specs.Streams.{SourceState};
-ghost use Rattle.host_top.specs.Folder.{FitsNames, IsSameBack};
+ghost use Rattle.host_top.specs.Folder.{IsSameBack};
 ghost use Rattle.host_top.specs.Piped.{HostedOver};
 
 use crate::folder::{Back, Disks};
@@ -46,7 +46,6 @@ pub fn open_host<'i, D: Disk + Drop, K: Sink>(
         (K.sink output.old) (K.sink output.new) refusal.0) }
     ensures kept { IfErr result (λ refusal.
         IsSameBack D.Disk disks.journal disks.snaps.items refusal.1) }
-    ensures fits { IfErr result (λ refusal. FitsNames 64 refusal.1) }
     ensures status { IfErr result (λ refusal. ¬ (refusal.0 ≡ Status.Done)
         × ¬ (refusal.0 ≡ Status.DoorFault) × ¬ (refusal.0 ≡ Status.ReadFault)) }
     ensures write_fault { IfErr result (λ refusal. refusal.0 ≡ Status.WriteFault

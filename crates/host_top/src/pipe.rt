@@ -4,13 +4,13 @@ ghost use Rattle.gate_journal.specs.Command.{IsBudget};
 ghost use Rattle.host_serve.specs.Holders.{holders};
 ghost use Rattle.host_serve.specs.Hosts.{AreOf, IsSound};
 ghost use Rattle.line_talk.specs.Causes.{Rose};
-ghost use Rattle.host_top.specs.Folder.{FitsNames, IsSameBack, UsesFolder};
+ghost use Rattle.host_top.specs.Folder.{IsSameBack, UsesFolder};
 ghost use Rattle.host_top.specs.Calls.{DisksStand};
 ghost use Rattle.host_top.specs.Files.{KeepsDoors, KeepsFiles};
 ghost use Rattle.host_top.specs.Piped.{PipesOver};
 ghost use Rattle.host_top.specs.Between.{ServesBetween};
 
-use crate::folder::{Back, Disks, names_in};
+use crate::folder::{Back, Disks};
 use crate::lending::{put_folder_back, take_folder};
 use crate::opening::open_host;
 use crate::outside::Outside;
@@ -67,7 +67,6 @@ fn pipe_over<'i, R: Wait, D: Disk + Drop, S: Source, K: Sink>(
         (S.source input.old) (S.source input.new) (K.sink output.old) (K.sink output.new)
         result.0 }
     ensures kept { IsSameBack D.Disk disks.journal disks.snaps.items result.1 }
-    ensures fits { FitsNames 64 result.1 }
     ensures read_fault { result.0 ≡ Status.ReadFault
         → Rose (S.source input.old).faults (S.source input.new).faults }
     ensures write_fault { result.0 ≡ Status.WriteFault
@@ -108,11 +107,8 @@ pub fn pipe<'i, R: Wait, O: Outside, S: Source, K: Sink>(
     ensures files { KeepsFiles (O.outside outside.old) (O.outside outside.new) }
     ensures doors { KeepsDoors (O.outside outside.old) (O.outside outside.new) }
 {
-    let Ok(names) = names_in(alloc, folder) else {
-        return Status::NoMemory;
-    };
-    let disks = match take_folder(alloc, &names, outside) {
-        Ok(disks) => disks,
+    let (names, disks) = match take_folder(alloc, folder, outside) {
+        Ok(taken) => taken,
         Err(why) => return Status::of_fetch(why),
     };
     let (status, back) = pipe_over(rt, alloc, stories, budget, disks, input, output);

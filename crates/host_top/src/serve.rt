@@ -11,14 +11,14 @@ ghost use Rattle.host_top.specs.DoorServed.{AreAllShut, AtDoor, CrewRejoins, Hos
 ghost use Rattle.host_top.specs.DoorServed.{WorkersServe};
 ghost use Rattle.host_top.specs.Calls.{DisksStand};
 ghost use Rattle.host_top.specs.Files.{KeepsDisks, KeepsFiles};
-ghost use Rattle.host_top.specs.Folder.{FitsNames, IsSameBack, UsesFolder};
+ghost use Rattle.host_top.specs.Folder.{IsSameBack, UsesFolder};
 ghost use Rattle.host_top.specs.LinksServed.{DoorsBy, ServesOver};
 ghost use Rattle.host_top.specs.Rejoining.{AreAllHeld, HaveSeen, IsHeldByOne, JoinsAll};
 ghost use Rattle.host_top.specs.Rejoining.{SeeNoMore, SplitsFrom};
 ghost use Rattle.host_top.specs.Speech.{door_call};
 ghost use Rattle.turn_cell.specs.History.{Each};
 
-use crate::folder::{Back, Disks, names_in};
+use crate::folder::{Back, Disks};
 use crate::lending::{put_folder_back, take_folder};
 use crate::opening::open_host;
 use crate::outside::Outside;
@@ -186,7 +186,6 @@ where
         stories.now budget serving.workers disks.journal disks.snaps.items result.1 input input
         (K.sink output.old) (K.sink output.new) result.0 }
     ensures kept { IsSameBack D.Disk disks.journal disks.snaps.items result.1 }
-    ensures fits { FitsNames 64 result.1 }
     ensures doors { DoorsBy (door_call serving) (O.outside outside.old) (O.outside outside.new)
         result.0 }
     ensures files { KeepsFiles (O.outside outside.old) (O.outside outside.new) }
@@ -234,11 +233,8 @@ pub fn serve<'i, R: Threads + Wait + Sync, O: Outside, K: Sink>(
         (O.outside outside.new) → ¬ (result ≡ Status.DiskFault) }
     ensures files { KeepsFiles (O.outside outside.old) (O.outside outside.new) }
 {
-    let Ok(names) = names_in(alloc, folder) else {
-        return Status::NoMemory;
-    };
-    let disks = match take_folder(alloc, &names, outside) {
-        Ok(disks) => disks,
+    let (names, disks) = match take_folder(alloc, folder, outside) {
+        Ok(taken) => taken,
         Err(why) => return Status::of_fetch(why),
     };
     let (status, back) = serve_over(rt, alloc, stories, budget, disks, serving, outside, output);

@@ -1,14 +1,19 @@
-use Rattle.std.proofs.Common.{arith, refl, sym, subst, ap, ◌∙◌, ◌≡◌, ◌+◌, ◌∷◌, [], ℕ, List, Some}
-use Rattle.std.proofs.Common.{map, string_bytes, length, slice_get}
-use Rattle.std.proofs.lemmas.List.{length-append}
+use Rattle.std.proofs.Common.{arith, refl, rules, sym, subst, ap, ◌∙◌, ◌≡◌, [], ℕ, List}
+use Rattle.std.proofs.Common.{Some, map, string_bytes, length, slice_get}
 use Rattle.host_top.specs.Borrowed.{Borrowed, lent_as}
-use Rattle.host_top.proofs.LoansLemmas.{doors_none, doors_then, files_then}
-use Rattle.host_top.proofs.LendingLemmas.{cause_failed, named_at, none_lent, puts_later, take_more}
-use Rattle.host_top.proofs.LendingLemmas.{each_at, failed_so, next_loan, take_not}
 use Rattle.host_top.specs.Files.{is_out}
+use Rattle.host_top.proofs.BorrowLemmas.{lent_one}
+use Rattle.host_top.proofs.CallsLemmas.{fails_by_cause, no_failure, none_still}
+use Rattle.host_top.proofs.LoansLemmas.{doors_none, doors_then, files_then, lent_nothing}
+use Rattle.host_top.proofs.LendingLemmas.{cause_failed, each_at, named_at, next_loan, none_lent}
+use Rattle.host_top.proofs.LendingLemmas.{puts_later, take_more, take_not}
 use Rattle.host_top.proofs.lending.take_all.Given.{Over}
 use Rattle.host_top.proofs.lending.take_all.Goals.{After-deref}
 use Rattle.host_top.proofs.lending.take_all.Goals as goal
+
+pub returns-in_default-clause-err : goal.returns-in_default-clause-err
+returns-in_default-clause-err g c =
+    ([], tt, (λ other away. tt), lent_nothing g.O.Disk.Disk _ _ (λ other. (refl, refl)))
 
 -- the name of a turn
 named : (g : Over) (c : After-deref g)
@@ -21,10 +26,11 @@ named g c = subst (λ (n : ℕ). slice_get (map string_bytes c.args.names.now) n
 
 pub loop-name-init : goal.loop-name-init
 loop-name-init g c = record {
-  many = ap length c.new-disks.ensures.items;
+  many = ap length c.in-Ok.ensures.items;
+  room = omega (arith, c.in-Ok.ensures.capacity);
   borrowed =
       none_lent _ (g.O.Outside.outside c.args.outside.now) (map string_bytes c.args.names.now)
-      c.new-disks.result.items c.new-disks.ensures.items;
+      c.in-Ok.disks.items c.in-Ok.ensures.items;
   count = refl;
   listed = λ none. none;
   files = record { file = refl; faults = refl };
@@ -33,70 +39,57 @@ loop-name-init g c = record {
 
 pub put_all_back-requires-clause-lent : goal.put_all_back-requires-clause-lent
 put_all_back-requires-clause-lent g c = λ lifetimes within.
-    let turn = (goal.at.put_all_back-requires-clause-lent g c).After-deref in
-    let e = rw c.in-Err.is at c.take_one.ensures.err in
     (take_not g.O.Disk.Disk (g.O.Outside.outside c.args.outside.now)
-    (g.O.Outside.outside c.loop-name.outside) (g.O.Outside.outside c.take_one.new.outside)
-    (map string_bytes c.args.names.now) c.loop-name.disks.items c.take_one.new.disks.items
-    c.deref.result.now c.requires.names (named g turn) c.loop-name.invariant.borrowed e).0
+    (g.O.Outside.outside c.loop-name.outside) (g.O.Outside.outside c.disk.new.self)
+    (map string_bytes c.args.names.now) c.loop-name.disks.items c.requires.names
+    c.loop-name.invariant.borrowed c.in-Err.ensures.err).0
 
 pub returns-in-Err-clause-err : goal.returns-in-Err-clause-err
-returns-in-Err-clause-err g c = let turn = (goal.at.returns-in-Err-clause-err g c).After-deref in
-    let e = rw c.in-Err.is at c.take_one.ensures.err in
+returns-in-Err-clause-err g c =
     (take_not g.O.Disk.Disk (g.O.Outside.outside c.args.outside.now)
-    (g.O.Outside.outside c.loop-name.outside) (g.O.Outside.outside c.take_one.new.outside)
-    (map string_bytes c.args.names.now) c.loop-name.disks.items c.take_one.new.disks.items
-    c.deref.result.now c.requires.names (named g turn) c.loop-name.invariant.borrowed e).1
+    (g.O.Outside.outside c.loop-name.outside) (g.O.Outside.outside c.disk.new.self)
+    (map string_bytes c.args.names.now) c.loop-name.disks.items c.requires.names
+    c.loop-name.invariant.borrowed c.in-Err.ensures.err).1
     (g.O.Outside.outside c.put_all_back.new.outside) c.put_all_back.ensures.back
 
 pub returns-in-Err-clause-cause : goal.returns-in-Err-clause-cause
 returns-in-Err-clause-cause g c =
     cause_failed c.in-Err.why (g.O.Outside.outside c.args.outside.now)
-    (g.O.Outside.outside c.loop-name.outside) (g.O.Outside.outside c.take_one.new.outside)
+    (g.O.Outside.outside c.loop-name.outside) (g.O.Outside.outside c.disk.new.self)
     (g.O.Outside.outside c.put_all_back.new.outside)
-    c.loop-name.invariant.count (rw c.in-Err.is at c.take_one.ensures.cause)
+    c.loop-name.invariant.count c.in-Err.ensures.cause
     (puts_later _ _ _ _ _ c.put_all_back.ensures.back)
 
 pub returns-in-Err-clause-later : goal.returns-in-Err-clause-later
 returns-in-Err-clause-later g c =
-    let back =
-    puts_later g.O.Disk.Disk.faults (map string_bytes c.args.names.now)
-    c.take_one.new.disks.items (g.O.Outside.outside c.take_one.new.outside)
-    (g.O.Outside.outside c.put_all_back.new.outside)
-    c.put_all_back.ensures.back in
-    omega (arith, back, c.take_one.ensures.later, c.loop-name.invariant.count)
+    let back = puts_later _ _ _ _ _ c.put_all_back.ensures.back in
+    omega (arith, back, c.in-Err.ensures.later, c.loop-name.invariant.count)
 
 pub returns-in-Err-clause-unlisted : goal.returns-in-Err-clause-unlisted
-returns-in-Err-clause-unlisted g c = λ none each failed.
-    let turn = (goal.at.returns-in-Err-clause-unlisted g c).After-deref in
-    (rw c.in-Err.is at c.take_one.ensures.unlisted) (c.loop-name.invariant.listed none)
-    (ap is_out (next_loan g.O.Disk.Disk (g.O.Outside.outside c.args.outside.now)
-    (g.O.Outside.outside c.loop-name.outside) (map string_bytes c.args.names.now)
-    c.loop-name.disks.items c.deref.result.now c.requires.names (named g turn)
+returns-in-Err-clause-unlisted g c = λ none each.
+    let at = named g (goal.at.returns-in-Err-clause-unlisted g c).After-deref in
+    no_failure g.row.O-Disk.Denot _ _
+    (fails_by_cause _ _ _ _ (c.loop-name.invariant.listed none) c.in-Err.ensures.listed
+    ∙ ap is_out (next_loan g.O.Disk.Disk _ _ _ _ _ c.requires.names at
     c.loop-name.invariant.borrowed)
-    ∙ each_at _ (map string_bytes c.args.names.now) (length c.loop-name.disks.items)
-    c.deref.result.now each (named g turn))
-    (failed_so c.in-Err.why failed)
+    ∙ each_at _ _ _ _ each at) (λ e. search (rules))
 
 pub loop-name-preserved : goal.loop-name-preserved
-loop-name-preserved g c = let turn = (goal.at.loop-name-preserved g c).After-deref in
-    let ns : List (List ℕ) = map string_bytes c.args.names.now in
-    let old : List g.row.O-Disk.Denot = c.loop-name.disks.items in
-    let e = rw c.in-Ok.is at c.take_one.ensures.ok in
+loop-name-preserved g c =
+    let at = named g (goal.at.loop-name-preserved g c).After-deref in
     record {
-      many =
-          ap length e.1 ∙ length-append old (e.0 ∷ [])
-          ∙ ap (λ (n : ℕ). n + 1) c.loop-name.invariant.many;
+      many = omega (arith, c.push_reserved.ensures.len, c.loop-name.invariant.many);
+      room = omega (arith, c.push_reserved.ensures.capacity, c.loop-name.invariant.room);
       borrowed =
           subst (λ (l : List g.row.O-Disk.Denot). Borrowed g.O.Disk.Disk
-          (g.O.Outside.outside c.args.outside.now) (g.O.Outside.outside c.take_one.new.outside)
-          (lent_as ns l)) (sym e.1)
-          (take_more g.O.Disk.Disk (g.O.Outside.outside c.args.outside.now)
-          (g.O.Outside.outside c.loop-name.outside) (g.O.Outside.outside c.take_one.new.outside)
-          ns old c.deref.result.now e.0 c.requires.names (named g turn)
-          c.loop-name.invariant.borrowed e.2);
-      count = rw c.in-Ok.is at c.take_one.ensures.count ∙ c.loop-name.invariant.count;
-      listed = λ none. c.take_one.ensures.listed (c.loop-name.invariant.listed none);
-      files = files_then c.loop-name.invariant.files c.take_one.ensures.files;
-      doors = doors_then c.loop-name.invariant.doors c.take_one.ensures.doors;
+          (g.O.Outside.outside c.args.outside.now) (g.O.Outside.outside c.disk.new.self)
+          (lent_as (map string_bytes c.args.names.now) l)) (sym c.push_reserved.ensures.items)
+          (take_more g.O.Disk.Disk _ _ _ _ c.loop-name.disks.items _ c.in-Ok-disk.disk
+          c.requires.names at c.loop-name.invariant.borrowed
+          (lent_one _ _ c.in-Ok-disk.disk _ _ c.in-Ok-disk.ensures.ok c.in-Ok-disk.ensures.given));
+      count = c.in-Ok-disk.ensures.ok.count ∙ c.loop-name.invariant.count;
+      listed = λ none. none_still _ _ _ _ (c.loop-name.invariant.listed none)
+          c.in-Ok-disk.ensures.listed;
+      files = files_then c.loop-name.invariant.files c.disk.ensures.files;
+      doors = doors_then c.loop-name.invariant.doors c.disk.ensures.doors;
     }

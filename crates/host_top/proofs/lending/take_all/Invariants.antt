@@ -1,4 +1,4 @@
-use Rattle.std.proofs.Common.{◌≡◌, length, map, string_bytes}
+use Rattle.std.proofs.Common.{◌≡◌, ◌≤◌, length, map, string_bytes, vec_capacity}
 use Rattle.host_top.specs.Borrowed.{Borrowed, lent_as}
 use Rattle.host_top.specs.Calls.{NoneIsListed}
 use Rattle.host_top.specs.Files.{KeepsDoors, KeepsFiles}
@@ -7,6 +7,7 @@ use Rattle.host_top.proofs.lending.take_all.Given as goal
 abbrev pub invariant-loop-name : goal.invariant-loop-name
 invariant-loop-name g l = record {
   many : length l.disks.items ≡ l.name-index;
+  room : length l.names ≤ vec_capacity l.disks;
   borrowed : Borrowed g.O.Disk.Disk (g.O.Outside.outside l.initial.outside)
       (g.O.Outside.outside l.outside)
       (lent_as (map string_bytes l.names) l.disks.items);

@@ -1,7 +1,5 @@
-use Rattle.std.proofs.Common.{arith}
 use Rattle.host_top.specs.Folder.{AreSame}
-use Rattle.host_top.proofs.ConversedLemmas.{conversed, same_back, same_stores, same_long}
-use Rattle.host_top.proofs.ConversedLemmas.{stores_back}
+use Rattle.host_top.proofs.ConversedLemmas.{conversed, same_back, same_stores, stores_back}
 use Rattle.host_top.proofs.UsedLemmas.{hosted_so}
 use Rattle.host_top.proofs.pipe.pipe_over.Given.{Over}
 use Rattle.host_top.proofs.pipe.pipe_over.Goals.{After-end-journal}
@@ -35,12 +33,4 @@ returns-clause-kept g c = (
   same_back g.D.Disk _ _ c.args.disks.snaps.items _ _ _ _ _ _ _
       c.in-Ok.ensures.ok.2 c.end-journal.ensures.value,
   stores_same g (goal.at.returns-clause-kept g c).After-end-journal,
-)
-
-pub returns-clause-fits : goal.returns-clause-fits
-returns-clause-fits g c = omega (
-  arith,
-  same_long g.D.Disk c.args.disks.snaps.items c.end-journal.result.1.items
-      (stores_same g (goal.at.returns-clause-fits g c).After-end-journal),
-  c.requires.many,
 )

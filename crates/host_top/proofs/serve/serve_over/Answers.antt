@@ -1,6 +1,6 @@
-use Rattle.std.proofs.Common.{arith, rules}
+use Rattle.std.proofs.Common.{rules}
 use Rattle.host_top.specs.Folder.{AreSame}
-use Rattle.host_top.proofs.ConversedLemmas.{same_back, same_stores, same_long, stores_back}
+use Rattle.host_top.proofs.ConversedLemmas.{same_back, same_stores, stores_back}
 use Rattle.host_top.proofs.UsedLemmas.{hosted_so}
 use Rattle.host_top.proofs.CrewLemmas.{lone_held}
 use Rattle.host_top.proofs.DoorLemmas.{host_serves, none_at_seven}
@@ -53,12 +53,4 @@ returns-clause-kept g c = (
   same_back g.D.Disk _ _ c.args.disks.snaps.items _ _ _ _ _ _ _
       c.in-Ok.ensures.ok.2 c.end-journal.ensures.value,
   stores_same g (goal.at.returns-clause-kept g c).After-end-journal,
-)
-
-pub returns-clause-fits : goal.returns-clause-fits
-returns-clause-fits g c = omega (
-  arith,
-  same_long g.D.Disk c.args.disks.snaps.items c.end-journal.result.1.items
-      (stores_same g (goal.at.returns-clause-fits g c).After-end-journal),
-  c.requires.many,
 )
