@@ -45,21 +45,6 @@ use Rattle.session_desk.proofs.MarkLemmas.{woven-by}
 use Rattle.session_desk.proofs.HistoryLemmas.{commands_in-history, history_in-taken}
 use Rattle.session_desk.proofs.HistoryLemmas.{history_in-append}
 
--- the state of a desk with these fields
-abbrev pub state_of :
-    {D : Type 0}
-    → DeskState → List Mark → Pass (Log D) JournalEntry → SavesState D → Snapshots D
-    → Pass (Log D) JournalEntry
-    → SharedState D
-state_of desk marks pass saves store first = record {
-  desk = desk;
-  history = commands_woven marks desk.commands;
-  pass = pass;
-  saves = saves;
-  store = store;
-  rows = rows_of (seen first);
-}
-
 -- ---- without the numbers of passes
 
 pub commands_in-unnumbered : (h : List Entry) → commands_in (map unnumbered h) ≡ commands_in h

@@ -37,7 +37,7 @@ use Rattle.session_desk.specs.Desk.{cold_desk, ran}
 use Rattle.session_desk.specs.Keeping as keeping
 use Rattle.session_desk.specs.Marks.{commands_woven}
 use Rattle.session_desk.specs.Opens.{opens_behind, row_behind}
-use Rattle.session_desk.specs.Shared.{as_opened, desk_tag, IsMarked, IsPassOf, SharedState}
+use Rattle.session_desk.specs.Shared.{as_opened, desk_tag, IsMarked, IsPassOf, SharedState, state_of}
 use Rattle.session_desk.specs.Sound.{AreKeptUp, EndsStore, IsSameStore, IsSoundDesk, IsWhole}
 use Rattle.session_desk.specs.Sound.{KeepsFile, open_rows}
 use Rattle.session_desk.specs.Verdict.{verdict}
@@ -46,7 +46,7 @@ use Rattle.session_desk.proofs.AlikeLemmas.{ready}
 use Rattle.session_desk.proofs.OpensLemmas.{no_rows, row_by}
 use Rattle.session_desk.proofs.FileLemmas.{file-behind, file-kept, file-looked, file-opened}
 use Rattle.session_desk.proofs.FileLemmas.{rows_behind}
-use Rattle.session_desk.proofs.SharedLemmas.{marked-opened, rows-seen, state_of}
+use Rattle.session_desk.proofs.SharedLemmas.{marked-opened, rows-seen}
 use Rattle.session_desk.proofs.KeptUpLemmas.{agreed-behind, kept-behind, is_done}
 
 rows_of-kept : (rows : List Row) → rows_of (rows_kept rows) ≡ rows

@@ -50,25 +50,15 @@ pub struct Desk<'i> {
 }
 
 impl<'i> Model for Desk<'i> {
-    ghost use Rattle.session_desk.specs.Desk.{BeginsAt, DeskState, IsDesk};
+    ghost use Rattle.session_desk.specs.Desk.{BeginsAt, DeskState, desk_of, IsDesk};
 
     ghost Value = { DeskState };
 
-    ghost view = { λ d. record {
-      session = d.session;
-      stories = d.stories.now;
-      budget = d.budget;
-      commands = d.commands.items;
-      held = d.held;
-    } };
+    ghost view = { λ d. desk_of d.session d.stories.now d.budget d.commands.items d.held };
 
-    ghost invariant = { λ d. IsDesk (record {
-      session = d.session;
-      stories = d.stories.now;
-      budget = d.budget;
-      commands = d.commands.items;
-      held = d.held;
-    }) × BeginsAt d.begins d.commands.items };
+    ghost invariant = { λ d.
+        IsDesk (desk_of d.session d.stories.now d.budget d.commands.items d.held)
+        × BeginsAt d.begins d.commands.items };
 }
 
 impl<'i> Desk<'i> {
@@ -208,10 +198,7 @@ impl<'i> Desk<'i> {
         ensures pass { IsPassOf self.old.session pass.new }
         ensures kept { IsOf cell.now pass.new }
     {
-        let Ok(command) = asked(alloc, self.stories, request) else {
-            return Err(Refused::NoMemory);
-        };
-        let Ok(()) = self.commands.reserve(1) else {
+        let Ok(command) = asked(alloc, self.stories, &mut self.commands, request) else {
             return Err(Refused::NoMemory);
         };
         let mut journal = cell.enter(rt, pass);

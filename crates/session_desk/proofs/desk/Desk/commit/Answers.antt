@@ -2,11 +2,12 @@ use Rattle.std.proofs.Common.{◌≡◌, [], ◌∷◌, ◌++◌, refl, Some, Ok
 use Rattle.turn_cell.specs.Passes.{seen, view}
 use Rattle.gate_journal.specs.Log.{rows_of}
 use Rattle.session_desk.specs.declared.verdict.Verdict.TheVariants.{Fresh}
+use Rattle.session_desk.specs.Desk.{desk_of}
 use Rattle.session_desk.specs.Shared.{met_by}
 use Rattle.session_desk.specs.Verdict.{verdict}
 use Rattle.session_desk.proofs.AlikeLemmas.{accepts, ready}
 use Rattle.session_desk.proofs.CommitLemmas.{commits-by, commits-none}
-use Rattle.session_desk.proofs.HeldLemmas.{desk_of, is_desk-committed}
+use Rattle.session_desk.proofs.HeldLemmas.{is_desk-committed}
 use Rattle.session_desk.proofs.JournalLemmas.{may_stand}
 use Rattle.session_desk.proofs.RunLemmas.{to_run}
 use Rattle.session_desk.proofs.SharedLemmas.{appended, has_risen, kept-since, leaves, others}
@@ -32,10 +33,8 @@ write_down-written-requires g c =
     (ready desk c.args.request.now c.in-Ok.command fresh c.in-Ok.ensures.value)
     (accepts desk c.args.request.now fresh).room c.in-Ok.ensures.ranges
     c.self.invariant.0.numbered c.row_count-count.ensures.journal
-    (kept-since desk.session c.enter-journal.result.entries (seen c.args.pass.now)
-    desk.commands c.row_count-count.ensures.journal
-    (others c.args.pass.now desk.session c.enter-journal.result.entries
-    (rw (← c.self.view_is) at c.requires.pass) c.enter-journal.ensures.value)
+    (kept-since _ _ _ _ c.row_count-count.ensures.journal
+    (others _ _ _ (rw (← c.self.view_is) at c.requires.pass) c.enter-journal.ensures.value)
     (rw (← c.self.view_is) at c.requires.rows))
 
 pub leave-requires-clause-value : goal.leave-requires-clause-value
@@ -65,23 +64,9 @@ invariant_of-self-in-Ok-written g c =
 
 pub returns-in_default-clause-value : goal.returns-in_default-clause-value
 returns-in_default-clause-value g c =
-    let desk =
-    desk_of c.self.inside.session c.self.inside.stories.now c.self.inside.budget
-    c.self.inside.commands.items c.self.inside.held in
     rw (← c.self.view_is)
-    (commits-none c.args.request.now desk desk (seen c.args.pass.now)
-    (rw (← c.self.view_is) at c.requires.fresh) refl)
-
-pub returns-in_default-reserve-clause-value : goal.returns-in_default-reserve-clause-value
-returns-in_default-reserve-clause-value g c =
-    let desk =
-    desk_of c.self.inside.session c.self.inside.stories.now c.self.inside.budget
-    c.self.inside.commands.items c.self.inside.held in
-    rw (← c.self.view_is)
-    (commits-none c.args.request.now desk
-    (desk_of c.self.inside.session c.self.inside.stories.now c.self.inside.budget
-    c.reserve.new.self.items c.self.inside.held) (seen c.args.pass.now)
-    (rw (← c.self.view_is) at c.requires.fresh) cc)
+    (commits-none c.args.request.now _ _ (seen c.args.pass.now)
+    (rw (← c.self.view_is) at c.requires.fresh) (search rules))
 
 pub returns-in-Ok-written-clause-value : goal.returns-in-Ok-written-clause-value
 returns-in-Ok-written-clause-value g c =

@@ -5,10 +5,9 @@ use Rattle.session_core.proofs.RepeatLemmas.{some_is}
 use Rattle.session_desk.specs.declared.verdict.Verdict.TheVariants.{Fresh}
 use Rattle.session_desk.specs.Keeping.{snapshot_due}
 use Rattle.session_desk.specs.Marks.{marks_by}
-use Rattle.session_desk.specs.Shared.{GoesOn, met_by, SharedState, unplaced}
+use Rattle.session_desk.specs.Shared.{GoesOn, met_by, SharedState, state_of, unplaced}
 use Rattle.session_desk.specs.Verdict.{verdict}
-use Rattle.session_desk.proofs.SharedLemmas.{answered, history-by, marked-by, rows-seen, state_of}
-use Rattle.session_desk.proofs.SharedLemmas.{tag-by}
+use Rattle.session_desk.proofs.SharedLemmas.{answered, history-by, marked-by, rows-seen, tag-by}
 use Rattle.session_desk.proofs.SharedTurnLemmas.{goes-nowhere}
 use Rattle.session_desk.proofs.SoundLemmas.{whole-committed}
 use Rattle.session_desk.proofs.shared_desk.SharedDesk.commit.Goals as goal

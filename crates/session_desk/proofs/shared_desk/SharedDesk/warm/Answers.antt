@@ -2,10 +2,9 @@ use Rattle.std.proofs.Common.{◌≡◌, true, false, refl}
 use Rattle.session_core.specs.Checks.{is_other_story}
 use Rattle.session_desk.specs.Desk.{game, is_cold}
 use Rattle.session_desk.specs.Marks.{commands_woven}
-use Rattle.session_desk.specs.Shared.{SharedState}
+use Rattle.session_desk.specs.Shared.{SharedState, state_of}
 use Rattle.session_desk.proofs.DeskWarming.{cold_used, has_place, warm_cost, warm_own, warms_held}
 use Rattle.session_desk.proofs.DeskWarming.{whole_cold, whole_warmed}
-use Rattle.session_desk.proofs.SharedLemmas.{state_of}
 use Rattle.session_desk.proofs.StoryLemmas.{warms_some}
 use Rattle.session_desk.proofs.shared_desk.SharedDesk.warm.Goals as goal
 
