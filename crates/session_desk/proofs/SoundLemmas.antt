@@ -53,7 +53,7 @@ rows_of-kept : (rows : List Row) → rows_of (rows_kept rows) ≡ rows
 rows_of-kept [] = refl
 rows_of-kept (r ∷ rows) = ap (λ (x : List Row). r ∷ x) (rows_of-kept rows)
 
-module _ {D : Type 0} (tells : D → Bool) (room label faults reach : D → ℕ) where
+module _ {D : Type 0} {tells : D → Bool} {room label faults reach : D → ℕ} where
   pub same-store : (store : Snapshots D) → IsSameStore tells room label faults reach store store
   same-store store = record {
     same = record { telling = refl; size = refl; name = refl };
@@ -264,18 +264,16 @@ module _ {D : Type 0} (tells : D → Bool) (seen_of : D → List ℕ) (moment : 
   whole-looked may_leave counts_now l place old held saves w looks counts areas
       made slots missed holds =
       whole-rested l place old held saves w
-      (store-kept tells room label faults reach old.store old.saves.store saves.store w.store
-      looks.same counts
+      (store-kept old.store old.saves.store saves.store w.store looks.same counts
       (let asked = looks.asked in omega (arith, asked)) made)
       holds
       (λ sound side area e. (w.own sound).agreed side area
       (sym (areas side
-      (still_tells tells room label faults reach old.store old.saves.store w.store sound.0))
+      (still_tells old.store old.saves.store w.store sound.0))
       ∙ e))
       (λ none place last. rw (slots, missed) (w.kept_up none place last))
       (λ sound. file-looked moment left_since may_leave counts_now old held saves
-      (looks.moments (still_tells tells room label faults reach old.store old.saves.store w.store
-      sound.0)) slots (w.file sound))
+      (looks.moments (still_tells old.store old.saves.store w.store sound.0)) slots (w.file sound))
 
   -- as a snapshot was kept
   pub whole-kept : (l : List Mark) (place : Option ℕ) (old : SharedState D) (saves : SavesState D)
@@ -308,20 +306,18 @@ module _ {D : Type 0} (tells : D → Bool) (seen_of : D → List ℕ) (moment : 
   whole-kept l place old saves w same counts reaches row count world at counted held keeps agrees
       crash newest =
       whole-rested l place old old.desk.held saves w
-      (store-kept tells room label faults reach old.store old.saves.store saves.store w.store
-      same.0 counts reaches same.1)
+      (store-kept old.store old.saves.store saves.store w.store same.0 counts reaches same.1)
       (λ sound. (w.own sound).holds)
       (λ sound. let o = w.own sound in
       agrees old.desk.stories (open_rows old) (game old.desk)
-      (still_tells tells room label faults reach old.store old.saves.store w.store sound.0)
+      (still_tells old.store old.saves.store w.store sound.0)
       (sym w.row ∙ at) (sym counted) (rw held at o.holds) o.agreed)
       (λ none p last. let both = sym last ∙ sym w.row ∙ at in
       let same_row : p ≡ row = cc in
       let before = w.kept_up none p last in
       rw (same_row, sym counted) (keeps (rw (same_row, sym counted) at before)))
       (λ sound. let o = w.own sound in
-      let told = still_tells tells room label faults reach old.store old.saves.store w.store
-      sound.0 in
+      let told = still_tells old.store old.saves.store w.store sound.0 in
       let f = file-kept moment left_since seen_of old saves row count world
       (rows-seen l old.desk old.pass w.marked) (sym w.row ∙ at) counted (rw held at o.holds)
       o.agreed (crash told)
@@ -343,7 +339,7 @@ module _ {D : Type 0} (tells : D → Bool) (seen_of : D → List ℕ) (moment : 
       record {
         marked = marked;
         row = ap (λ (x : List Row). last_row (opens_of x s)) (sym same);
-        store = same-store tells room label faults reach store;
+        store = same-store store;
         own =
             λ sound. record {
               holds = tt;

@@ -32,13 +32,9 @@ invariant_of-self-2 g c =
     let marked : c.note.new.marks.items
     ≡ c.self.inside.marks.items ++ marks_by c.args.by c.commit-done.result = cc in
     rw c.note.ensures.place
-    (whole-committed g.D.Disk.tells g.D.Disk.seen g.D.Disk.moment g.D.Disk.left_since
-    g.D.Disk.room g.D.Disk.label g.D.Disk.faults g.D.Disk.reach c.self.inside.marks.items
-    c.note.new.marks.items c.self.inside.place old c.commit-done.new.self
+    (whole-committed _ _ _ _ _ _ _ _ _ c.note.new.marks.items c.self.inside.place old c.commit-done.new.self
     c.commit-done.new.pass c.args.request.now c.commit-done.result c.self.invariant
-    (marked-by c.self.inside.marks.items c.note.new.marks.items c.args.by c.self.inside.desk
-    c.commit-done.new.self c.self.inside.pass c.commit-done.new.pass c.args.request.now
-    c.commit-done.result c.commit-done.ensures.value marked c.self.invariant.marked
+    (marked-by _ _ c.args.by _ _ _ _ _ _ c.commit-done.ensures.value marked c.self.invariant.marked
     c.commit-done.ensures.pass) c.commit-done.ensures.value fresh idle
     c.missed-missed.ensures.counted)
 
@@ -56,9 +52,7 @@ returns g c =
     ≡ c.self.inside.marks.items ++ marks_by c.args.by done = cc in
     let its =
     answered done c.args.request.now c.args.by old new _ did
-    (history-by c.self.inside.marks.items c.note.new.marks.items c.args.by old.desk new.desk
-    (seen old.pass) (seen new.pass) c.args.request.now done did marked
-    c.self.invariant.marked.counted)
+    (history-by _ _ c.args.by _ _ _ _ _ _ did marked c.self.invariant.marked.counted)
     c.commit-done.ensures.runs c.commit-done.ensures.rose in
     let cell : new.pass.known.place.table_id ≡ old.pass.known.place.table_id =
     c.commit-done.ensures.kept ∙ sym (rw (← c.self.view_is) at c.requires.cell) in
