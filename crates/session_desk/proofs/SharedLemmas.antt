@@ -39,7 +39,6 @@ use Rattle.session_desk.specs.Shared.{HasRisen, unplaced}
 use Rattle.session_desk.specs.Turn.{entries_added, history_in}
 use Rattle.session_desk.proofs.OpensLemmas.{foreign_none, later_numbered, next_numbered}
 use Rattle.snap_store.specs.Store.{Snapshots}
-use Rattle.session_saves.specs.Saves.{SavesState}
 use Rattle.session_desk.proofs.MarkLemmas.{commands_in-woven, count-all, count-by, woven-all}
 use Rattle.session_desk.proofs.MarkLemmas.{woven-by}
 use Rattle.session_desk.proofs.HistoryLemmas.{commands_in-history, history_in-taken}

@@ -37,7 +37,8 @@ use Rattle.session_desk.specs.Desk.{cold_desk, ran}
 use Rattle.session_desk.specs.Keeping as keeping
 use Rattle.session_desk.specs.Marks.{commands_woven}
 use Rattle.session_desk.specs.Opens.{opens_behind, row_behind}
-use Rattle.session_desk.specs.Shared.{as_opened, desk_tag, IsMarked, IsPassOf, SharedState, state_of}
+use Rattle.session_desk.specs.Shared.{as_opened, desk_tag, IsMarked, IsPassOf, SharedState}
+use Rattle.session_desk.specs.Shared.{state_of}
 use Rattle.session_desk.specs.Sound.{AreKeptUp, EndsStore, IsSameStore, IsSoundDesk, IsWhole}
 use Rattle.session_desk.specs.Sound.{KeepsFile, open_rows}
 use Rattle.session_desk.specs.Verdict.{verdict}

@@ -76,8 +76,8 @@ StopLeaves tells moment left_since session command old new =
     (Meanwhile (rows_of old.entries) old.uncertain
     (next_row (rows_of old.entries) session command))
 
--- What a commit of the command that a request asks for leaves of the desk, of what its pass has seen
--- of the journal, and so of the session's history and the places of its OPEN rows.
+-- What a commit of the command that a request asks for leaves of the desk, and of what its pass has
+-- seen of the journal: of the session's history and the places of its OPEN rows too.
 pub record Commits
     (request : Request)
     (done : Result ℕ Refused)

@@ -1,6 +1,6 @@
 //! A desk: one session, kept warm (own).
 
-ghost use Rattle.std.specs.Prelude.{◌≡◌, ◌≤◌, ◌<◌, ◌++◌, [], ◌∷◌, IsTrue, true, false, length};
+ghost use Rattle.std.specs.Prelude.{◌≡◌, ◌≤◌, ◌<◌, [], IsTrue, false, length};
 ghost use Rattle.std.specs.Prelude.{None, Some, IfOk, IfErr, OnOk, OnErr, MatchOption, ⊤};
 ghost use Rattle.turn_cell.specs.Passes.{IsOf, seen};
 ghost use Rattle.gate_journal.specs.Log.{rows_of};
@@ -174,8 +174,8 @@ impl<'i> Desk<'i> {
     }
 
     /// Makes the session accept the command that a fresh request asks for, by a row that is written
-    /// in a turn of the journal's cell; the world is set aside for `run`. The memory is taken before
-    /// the row is written. The answer is the row's place.
+    /// in a turn of the journal's cell; the world is set aside for `run`. The memory is taken
+    /// before the row is written. The answer is the row's place.
     pub fn commit<D: Disk + Drop, R: Wait>(
         &mut self,
         rt: &R,

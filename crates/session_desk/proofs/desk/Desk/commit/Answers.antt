@@ -43,9 +43,8 @@ leave-requires-clause-value g c =
     c.write_down-written.new.journal (Some c.in-Ok.command) (met_by c.write_down-written.result)
     c.enter-journal.ensures.seen (search rules) (search rules)
     c.write_down-written.ensures.kept.1
-    (appended g.D.Disk.faults c.self.inside.session c.enter-journal.result
-    c.write_down-written.new.journal c.in-Ok.command c.write_down-written.result
-    c.write_down-written.ensures.ok c.write_down-written.ensures.err)
+    (appended g.D.Disk.faults _ _ _ _ _ c.write_down-written.ensures.ok
+    c.write_down-written.ensures.err)
 
 pub invariant_of-self-in-Ok-written : goal.invariant_of-self-in-Ok-written
 invariant_of-self-in-Ok-written g c =
@@ -79,11 +78,9 @@ returns-in-Ok-written-clause-value g c =
     (commits-by g.D.Disk.faults c.args.request.now desk
     (desk_of c.self.inside.session c.self.inside.stories.now c.self.inside.budget
     c.take_down.new.commands.items c.take_down.new.held)
-    c.enter-journal.result c.write_down-written.new.journal (seen c.args.pass.now)
-    (seen c.leave.new.pass) c.in-Ok.command (Ok c.in-Ok-written.place) c.in-Ok.ensures.value
-    c.row_count-count.ensures.journal
-    (others c.args.pass.now desk.session c.enter-journal.result.entries
-    (rw (← c.self.view_is) at c.requires.pass) c.enter-journal.ensures.value)
+    c.enter-journal.result c.write_down-written.new.journal _ _ c.in-Ok.command
+    (Ok c.in-Ok-written.place) c.in-Ok.ensures.value c.row_count-count.ensures.journal
+    (others _ _ _ (rw (← c.self.view_is) at c.requires.pass) c.enter-journal.ensures.value)
     c.leave.ensures.seen c.in-Ok-written.ensures.ok tt c.in-Ok-written.ensures.place
     (rw (more, c.take_down.ensures.held) refl) tt)
 
@@ -106,16 +103,12 @@ returns-in-Err-clause-value g c =
     desk_of c.self.inside.session c.self.inside.stories.now c.self.inside.budget
     c.self.inside.commands.items c.self.inside.held in
     rw (← c.self.view_is)
-    (commits-by g.D.Disk.faults c.args.request.now desk
-    _ c.enter-journal.result c.write_down-written.new.journal (seen c.args.pass.now)
-    (seen c.leave.new.pass) c.in-Ok.command (Err c.in-Err.why) c.in-Ok.ensures.value
+    (commits-by g.D.Disk.faults c.args.request.now desk _ c.enter-journal.result
+    c.write_down-written.new.journal _ _ c.in-Ok.command (Err c.in-Err.why) c.in-Ok.ensures.value
     c.row_count-count.ensures.journal
-    (others c.args.pass.now desk.session c.enter-journal.result.entries
-    (rw (← c.self.view_is) at c.requires.pass) c.enter-journal.ensures.value)
-    c.leave.ensures.seen tt c.in-Err.ensures.err tt tt
-    (search rules))
+    (others _ _ _ (rw (← c.self.view_is) at c.requires.pass) c.enter-journal.ensures.value)
+    c.leave.ensures.seen tt c.in-Err.ensures.err tt tt (search rules))
 
 pub returns-in-Err-clause-rose : goal.returns-in-Err-clause-rose
 returns-in-Err-clause-rose g c =
-    has_risen g.D.Disk.faults c.self.inside.session c.in-Ok.command c.enter-journal.result
-    c.write_down-written.new.journal (Err c.in-Err.why) c.in-Err.ensures.err
+    has_risen g.D.Disk.faults _ _ _ _ (Err c.in-Err.why) c.in-Err.ensures.err

@@ -19,7 +19,8 @@ unwrap-place-requires g c =
 pub invariant_of-self : goal.invariant_of-self
 invariant_of-self g c =
     whole_cold _ _ _ _ _ _ _ _ g.D.Disk.may_leave g.met.D.Disk.counts_now _ _ _ c.warm.new.self
-    c.self.invariant c.warm.ensures.kept c.warm.ensures.counts c.warm.ensures.areas c.warm.ensures.slots
+    c.self.invariant c.warm.ensures.kept c.warm.ensures.counts
+    c.warm.ensures.areas c.warm.ensures.slots
 
 pub returns-in_err-world-clause-own : goal.returns-in_err-world-clause-own
 returns-in_err-world-clause-own g c =
@@ -48,10 +49,11 @@ invariant_of-self-2 g c =
     let other : is_other_story old.desk.stories (game old.desk) ≡ false =
     rw (← c.self.view_is) at c.requires.story in
     whole_warmed _ _ _ _ _ _ _ _ g.D.Disk.may_leave g.met.D.Disk.counts_now _ _ old c.hold.new.self
-    c.warm.new.self c.unwrap.result c.self.invariant refl c.hold.ensures c.in_ok-world.ensures.kept c.in_ok-world.ensures.counts
-    c.in_ok-world.ensures.areas c.in_ok-world.ensures.slots
-    (warm_own _ _ _ _ _ _ _ _ _ _ old _ _ _ _ _ c.self.invariant c.unwrap-place.ensures c.stories.ensures
-    c.game.ensures.value c.unwrap.ensures other c.in_ok-world.ensures.value)
+    c.warm.new.self c.unwrap.result c.self.invariant refl c.hold.ensures
+    c.in_ok-world.ensures.kept c.in_ok-world.ensures.counts c.in_ok-world.ensures.areas
+    c.in_ok-world.ensures.slots
+    (warm_own _ _ _ _ _ _ _ _ _ _ old _ _ _ _ _ c.self.invariant c.unwrap-place.ensures
+    c.stories.ensures c.game.ensures.value c.unwrap.ensures other c.in_ok-world.ensures.value)
 
 pub returns : goal.returns
 returns g c =
@@ -69,8 +71,9 @@ returns g c =
           c.game.ensures.value c.unwrap.ensures c.hold.ensures c.in_ok-world.ensures.found;
       own =
           λ sound. rw c.hold.ensures
-          (warm_own _ _ _ _ _ _ _ _ _ _ old _ _ _ _ _ c.self.invariant c.unwrap-place.ensures c.stories.ensures
-          c.game.ensures.value c.unwrap.ensures other c.in_ok-world.ensures.value sound);
+          (warm_own _ _ _ _ _ _ _ _ _ _ old _ _ _ _ _ c.self.invariant c.unwrap-place.ensures
+          c.stories.ensures c.game.ensures.value c.unwrap.ensures other
+          c.in_ok-world.ensures.value sound);
       cost =
           warm_cost _ _ _ _ _ _ _ _ _ _ old c.warm.new.self _ _ _ c.args.steps.now c.warm.new.steps
           c.self.invariant c.unwrap-place.ensures c.stories.ensures c.game.ensures.value other
