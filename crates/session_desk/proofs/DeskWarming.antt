@@ -105,7 +105,7 @@ module _ {D : Type 0} (tells : D → Bool) (seen_of : D → List ℕ) (moment : 
       → HoldsOwnWorld old.desk.stories (game old.desk) (Current world)
   warm_own l place old stories g row o world w at same game_is is other value sound =
       let told =
-      still_tells tells room label faults reach old.store old.saves.store w.store sound.0 in
+      still_tells old.store old.saves.store w.store sound.0 in
       let own =
       sym (value (open_rows old) told (sym w.row ∙ at) (rw (same, game_is) other)
       (rw (same, game_is) (w.own sound).agreed)) ∙ is in
@@ -131,7 +131,7 @@ module _ {D : Type 0} (tells : D → Bool) (seen_of : D → List ℕ) (moment : 
   warm_cost l place old saves stories g row
       before after w at same game_is other cost p sound steady last =
       let told =
-      still_tells tells room label faults reach old.store old.saves.store w.store sound.0 in
+      still_tells old.store old.saves.store w.store sound.0 in
       let both = sym at ∙ w.row ∙ last in
       let is : row ≡ p = cc in
       let taken =
@@ -164,8 +164,8 @@ module _ {D : Type 0} (tells : D → Bool) (seen_of : D → List ℕ) (moment : 
       rw is (subst (λ (h : List Entry).
       Whole l place (record old { desk = warmed old.desk world; history = h; saves = saves }))
       weaves
-      (whole-looked tells seen_of moment left_since room label faults reach may_leave counts_now l
-      place old (Current world) saves w looks counts areas slots.0 slots.1 slots.2 holds))
+      (whole-looked _ _ _ _ _ _ _ _ may_leave counts_now l place old (Current world) saves w looks
+      counts areas slots.0 slots.1 slots.2 holds))
 
   -- where memory ran out
   pub whole_cold : (may_leave : D → List ℕ → Type 0)
@@ -184,6 +184,5 @@ module _ {D : Type 0} (tells : D → Bool) (seen_of : D → List ℕ) (moment : 
       × (saves.last ≡ old.saves.last)
       → Whole l place (record old { saves = saves })
   whole_cold may_leave counts_now l place old saves w looks counts areas slots =
-      whole-looked tells seen_of moment left_since room label faults reach may_leave counts_now l
-      place old old.desk.held saves w looks counts areas slots.0 slots.1 slots.2
-      (λ sound. (w.own sound).holds)
+      whole-looked _ _ _ _ _ _ _ _ may_leave counts_now l place old old.desk.held saves w looks
+      counts areas slots.0 slots.1 slots.2 (λ sound. (w.own sound).holds)

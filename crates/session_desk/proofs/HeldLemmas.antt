@@ -1,5 +1,5 @@
 -- What is held of a game with one command more.
-use Rattle.std.proofs.Common.{◌≡◌, ℕ, ◌==◌, ◌<◌, arith, Bool, true, false, cond, List, [], ◌∷◌}
+use Rattle.std.proofs.Common.{◌≡◌, ◌==◌, ◌<◌, arith, Bool, true, false, cond, List, [], ◌∷◌}
 use Rattle.std.proofs.Common.{◌++◌, length, Option, Some, None, refl, sym, ap, ◌∙◌}
 use Rattle.std.proofs.lemmas.List.{length-append}
 use Rattle.gate_journal.specs.Rows.{is_open}
@@ -17,7 +17,7 @@ use Rattle.session_core.proofs.WorldLemmas.{world_of-joined}
 use Rattle.session_desk.specs.declared.held.Held.{Held}
 use Rattle.session_desk.specs.declared.held.Held.TheVariants.{Nothing, Current, Previous}
 use Rattle.session_desk.specs.Desk.{aside, held_then, world_held, show_at, DeskState, HoldsOwnWorld}
-use Rattle.session_desk.specs.Desk.{IsDesk, IsHeldInUse}
+use Rattle.session_desk.specs.Desk.{desk_of, IsDesk, IsHeldInUse}
 
 -- ---- a world is held while the session is in use
 
@@ -121,16 +121,6 @@ holds-then stories game Nothing h =
     begun-holds stories game (is_in_use game) (world_of stories game) refl
 holds-then stories game (Current w) h = h
 holds-then stories game (Previous w) h = h
-
--- the desk of these fields
-abbrev pub desk_of : ℕ → List Story → ℕ → List Command → Held → DeskState
-desk_of session stories budget commands held = record {
-  session = session;
-  stories = stories;
-  budget = budget;
-  commands = commands;
-  held = held;
-}
 
 -- what holds of every desk holds of one with a command more
 pub is_desk-committed : (desk : DeskState) (c : Command) (commands : List Command) (held : Held)

@@ -25,42 +25,24 @@ use Rattle.session_core.specs.declared.entry.Entry.TheVariants as entries
 use Rattle.session_core.specs.declared.entry.Outcome.{Outcome}
 use Rattle.session_core.specs.declared.entry.Outcome.TheVariants.{Answered, DiskFailed, OutOfMemory}
 use Rattle.session_core.specs.declared.entry.Outcome.TheVariants.{Forgotten}
-use Rattle.session_core.specs.Checks.{command_of}
 use Rattle.session_core.specs.Turning.{commands_in}
-use Rattle.session_core.proofs.RepeatLemmas.{some_is}
 use Rattle.session_desk.specs.declared.refused.Refused.{Refused}
 use Rattle.session_desk.specs.declared.refused.Refused.TheVariants.{DiskFault, NoMemory}
-use Rattle.session_desk.specs.Commit.{Commits, RefusalLeaves}
+use Rattle.session_desk.specs.Commit.{Commits, Extends, RefusalLeaves}
 use Rattle.session_desk.specs.declared.shared_desk.mark.Mark.{Mark}
 use Rattle.session_desk.specs.declared.shared_desk.mark.Mark.TheVariants as marks
 use Rattle.session_desk.specs.Desk.{committed, DeskState, cold_desk}
 use Rattle.session_desk.specs.Marks.{count_commands, marks_by, commands_woven}
-use Rattle.session_desk.specs.Shared.{desk_tag, DeskTag, history_met, IsMarked, IsPassOf}
+use Rattle.session_desk.specs.Shared.{desk_tag, DeskTag, GoesOn, history_met, IsMarked, IsPassOf}
 use Rattle.session_desk.specs.Shared.{LeavesHistory, met_by, SharedState, TakesEntry, unnumbered}
 use Rattle.session_desk.specs.Shared.{HasRisen, unplaced}
 use Rattle.session_desk.specs.Turn.{entries_added, history_in}
 use Rattle.session_desk.proofs.OpensLemmas.{foreign_none, later_numbered, next_numbered}
 use Rattle.snap_store.specs.Store.{Snapshots}
-use Rattle.session_saves.specs.Saves.{SavesState}
 use Rattle.session_desk.proofs.MarkLemmas.{commands_in-woven, count-all, count-by, woven-all}
 use Rattle.session_desk.proofs.MarkLemmas.{woven-by}
 use Rattle.session_desk.proofs.HistoryLemmas.{commands_in-history, history_in-taken}
 use Rattle.session_desk.proofs.HistoryLemmas.{history_in-append}
-
--- the state of a desk with these fields
-abbrev pub state_of :
-    {D : Type 0}
-    → DeskState → List Mark → Pass (Log D) JournalEntry → SavesState D → Snapshots D
-    → Pass (Log D) JournalEntry
-    → SharedState D
-state_of desk marks pass saves store first = record {
-  desk = desk;
-  history = commands_woven marks desk.commands;
-  pass = pass;
-  saves = saves;
-  store = store;
-  rows = rows_of (seen first);
-}
 
 -- ---- without the numbers of passes
 
@@ -114,20 +96,14 @@ kept-since s log seen commands journal on is =
 
 -- ---- what a commit adds
 
-pub appended : {D T : Type 0} (faults : D → ℕ) (request : Request) (desk new_desk : DeskState)
-    (old new : Log D) (c : Command) (done : Result T Refused)
-    → command_of desk.stories request ≡ Some c
-    → OnOk done (Commits request desk old new_desk new)
-    → IfErr done (λ why. RefusalLeaves faults desk.session c old new why)
-    → new.entries
-    ≡ old.entries ++ entries_added (rows_of old.entries) desk.session (Some c) (met_by done)
-appended faults request desk new_desk old new c (Ok x) asked ok err =
-    ok.row
-    ∙ ap (λ (d : Command). old.entries ++ Kept (next_row (rows_of old.entries) desk.session d) ∷ [])
-    (some_is ok.command c (sym ok.asked ∙ asked))
-appended faults request desk new_desk old new c (Err (DiskFault fault)) asked ok err = err.1
-appended faults request desk new_desk old new c (Err NoMemory) asked ok err =
-    err.entries ∙ sym (append-nil old.entries)
+pub appended : {D T : Type 0} (faults : D → ℕ) (s : ℕ) (old new : Log D) (c : Command)
+    (done : Result T Refused)
+    → OnOk done (Extends s c old new)
+    → IfErr done (λ why. RefusalLeaves faults s c old new why)
+    → new.entries ≡ old.entries ++ entries_added (rows_of old.entries) s (Some c) (met_by done)
+appended faults s old new c (Ok x) ok err = ok
+appended faults s old new c (Err (DiskFault fault)) ok err = err.1
+appended faults s old new c (Err NoMemory) ok err = err.entries ∙ sym (append-nil old.entries)
 
 -- at most one entry, of the number of the session and 1
 pub at_most_one : (s : ℕ) (rows : List Row) (accepted : Option Command) (outcome : Outcome)
@@ -215,45 +191,44 @@ rows-seen l desk pass w =
     ∙ w.commands
 
 -- behind a commit
-marked_behind : {D : Type 0} (l m : List Mark) (by : ℕ) (old new : DeskState)
-    (pass next : Pass (Log D) JournalEntry) (c : Command) (outcome : Outcome)
-    → IsMarked l old pass → new.session ≡ old.session → count_commands m ≡ length new.commands
-    → commands_woven m new.commands
-    ≡ history_met (commands_woven l old.commands) by (Some c) outcome
-    → IsPassOf old.session next
-    → history_in (seen next) old.session
-    ≡ history_met (history_in (seen pass) old.session) 0 (Some c) outcome
-    → IsMarked m new next
-marked_behind l m by old new pass next c outcome w same many weaves of adds = record {
-  counted = many;
-  of_session = rw same of;
-  commands = commands_in-woven m new.commands many;
-  entries = ap (map unnumbered) weaves
-      ∙ unnumbered-met (commands_woven l old.commands) by (Some c) outcome
-      ∙ ap (λ (h : List Entry). history_met h 0 (Some c) outcome) w.entries
-      ∙ sym adds
-      ∙ sym (ap (history_in (seen next)) same);
-}
-
 session_by : {T : Type 0} (done : Result T Refused) (old new : DeskState) (c : Command)
     → OnOk done (new ≡ committed old c) → OnErr done (new ≡ old)
     → new.session ≡ old.session
 session_by (Ok x) old new c ok err = ap (λ (d : DeskState). d.session) ok
 session_by (Err why) old new c ok err = ap (λ (d : DeskState). d.session) err
 
-pub marked-by : {D T : Type 0} (l m : List Mark) (by : ℕ) (old new : DeskState)
-    (pass next : Pass (Log D) JournalEntry) (c : Command) (done : Result T Refused)
+pub history-by : (l m : List Mark) (by : ℕ) (old new : DeskState) (seen next : List JournalEntry)
+    (request : Request) (done : Result ℕ Refused)
+    (did : Commits request done old new seen next)
+    → m ≡ l ++ marks_by by done → count_commands l ≡ length old.commands
+    → commands_woven m new.commands
+    ≡ history_met (commands_woven l old.commands) by (Some did.command) (met_by done)
+history-by l m by old new seen next request done did is counted =
+    ap (λ (x : List Mark). commands_woven x new.commands) is
+    ∙ woven-by l done by old new did.command counted did.taken did.left
+
+pub marked-by : {D : Type 0} (l m : List Mark) (by : ℕ) (old new : DeskState)
+    (pass next : Pass (Log D) JournalEntry) (request : Request) (done : Result ℕ Refused)
+    → Commits request done old new (seen pass) (seen next)
     → m ≡ l ++ marks_by by done → IsMarked l old pass
-    → OnOk done (new ≡ committed old c) → OnErr done (new ≡ old)
     → IsPassOf old.session next
-    → history_in (seen next) old.session
-    ≡ history_met (history_in (seen pass) old.session) 0 (Some c) (met_by done)
     → IsMarked m new next
-marked-by l m by old new pass next c done is w ok err of adds =
-    marked_behind l m by old new pass next c (met_by done) w (session_by done old new c ok err)
-    (ap count_commands is ∙ count-by l done by old new c w.counted ok err)
-    (ap (λ (x : List Mark). commands_woven x new.commands) is
-    ∙ woven-by l done by old new c w.counted ok err) of adds
+marked-by l m by old new pass next request done did is w of =
+    let c = did.command in
+    let same = session_by done old new c did.taken did.left in
+    let many : count_commands m ≡ length new.commands =
+    ap count_commands is ∙ count-by l done by old new c w.counted did.taken did.left in
+    record {
+      counted = many;
+      of_session = rw same of;
+      commands = commands_in-woven m new.commands many;
+      entries = ap (map unnumbered)
+          (history-by l m by old new (seen pass) (seen next) request done did is w.counted)
+          ∙ unnumbered-met (commands_woven l old.commands) by (Some c) (met_by done)
+          ∙ ap (λ (h : List Entry). history_met h 0 (Some c) (met_by done)) w.entries
+          ∙ sym did.history
+          ∙ sym (ap (history_in (seen next)) same);
+    }
 
 -- as it is opened
 opened_marked : {D : Type 0} (l : List Mark) (s : ℕ) (stories : List Story) (budget : ℕ)
@@ -293,23 +268,31 @@ marked-opened l desk s stories budget rows pass is has of saw =
 
 -- ---- what a commit gives
 
-pub takes : {D T : Type 0} (done : Result T Refused) (request : Request) (by : ℕ)
-    (old new : SharedState D) (c : Command)
-    → command_of old.desk.stories request ≡ Some c
-    → OnOk done (new.desk ≡ committed old.desk c)
-    → new.history ≡ history_met old.history by (Some c) (met_by done)
-    → OnOk done (TakesEntry request by old new)
-takes (Ok x) request by old new c asked ok entry =
-    record { command = c; asked = asked; taken = ok; entry = entry }
-takes (Err why) request by old new c asked ok entry = tt
-
-pub leaves_history : {T : Type 0} (done : Result T Refused) (by : ℕ) (old new : List Entry)
-    (c : Command)
-    → new ≡ history_met old by (Some c) (met_by done)
-    → IfErr done (LeavesHistory by old new)
-leaves_history (Ok x) by old new c entry = tt
-leaves_history (Err (DiskFault fault)) by old new c entry = entry
-leaves_history (Err NoMemory) by old new c entry = entry
+-- what a commit answers, without the place of the row
+pub answered : {D : Type 0} (done : Result ℕ Refused) (request : Request) (by : ℕ)
+    (old new : SharedState D) (P : Type 0)
+    (did : Commits request done old.desk new.desk (seen old.pass) (seen new.pass))
+    → new.history ≡ history_met old.history by (Some did.command) (met_by done)
+    → OnOk done P → IfErr done HasRisen
+    → OnOk (unplaced done) (TakesEntry request by old new)
+    × OnOk (unplaced done) P
+    × OnErr (unplaced done) (new.desk ≡ old.desk)
+    × IfErr (unplaced done) (LeavesHistory by old.history new.history)
+    × IfErr (unplaced done) HasRisen
+    × GoesOn old.desk.session (Some did.command) (met_by (unplaced done)) (seen old.pass)
+    (seen new.pass)
+answered (Ok place) request by old new P did entry p rose = (
+  record { command = did.command; asked = did.asked; taken = did.taken; entry = entry },
+  p,
+  tt,
+  tt,
+  tt,
+  did.journal,
+)
+answered (Err (DiskFault fault)) request by old new P did entry p rose =
+    (tt, tt, did.left, entry, rose, did.journal)
+answered (Err NoMemory) request by old new P did entry p rose =
+    (tt, tt, did.left, entry, rose, did.journal)
 
 abbrev tag_at : {D : Type 0} → DeskState → TableId → Snapshots D → List Row → DeskTag D
 tag_at desk cell store rows =
@@ -331,21 +314,6 @@ pub tag-by : {D T : Type 0} (done : Result T Refused) (old new : SharedState D) 
 tag-by (Ok x) old new c ok err cell store rows = rw (ok, cell, store, rows) refl
 tag-by (Err why) old new c ok err cell store rows = rw (err, cell, store, rows) refl
 
--- ---- without the place of the row
-
-pub ok_unplaced : (done : Result ℕ Refused) (P : Type 0) → OnOk done P → OnOk (unplaced done) P
-ok_unplaced (Ok place) P p = p
-ok_unplaced (Err why) P p = tt
-
-pub err_unplaced : (done : Result ℕ Refused) (P : Type 0) → OnErr done P → OnErr (unplaced done) P
-err_unplaced (Ok place) P p = tt
-err_unplaced (Err why) P p = p
-
-pub why_unplaced : (done : Result ℕ Refused) (P : Refused → Type 0)
-    → IfErr done P → IfErr (unplaced done) P
-why_unplaced (Ok place) P p = tt
-why_unplaced (Err why) P p = p
-
 pub has_risen : {D : Type 0} (faults : D → ℕ) (session : ℕ) (command : Command) (old new : Log D)
     (done : Result ℕ Refused)
     → IfErr done (λ why. RefusalLeaves faults session command old new why) → IfErr done HasRisen
@@ -353,8 +321,3 @@ has_risen faults session command old new (Ok place) left = tt
 has_risen faults session command old new (Err (DiskFault fault)) left =
     rw (left.0.at_start, left.0.at_end) left.0.rose
 has_risen faults session command old new (Err NoMemory) left = tt
-
-pub met_unplaced : (done : Result ℕ Refused) → met_by done ≡ met_by (unplaced done)
-met_unplaced (Ok place) = refl
-met_unplaced (Err (DiskFault fault)) = refl
-met_unplaced (Err NoMemory) = refl

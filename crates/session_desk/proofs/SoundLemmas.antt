@@ -17,7 +17,6 @@ use Rattle.line_words.specs.declared.request.Request.{Request}
 use Rattle.story_run.specs.declared.story.Story.{Story}
 use Rattle.story_run.specs.World.{WorldState}
 use Rattle.session_core.specs.declared.entry.Entry.{Entry}
-use Rattle.session_core.specs.Checks.{command_of}
 use Rattle.session_core.specs.History.{game_of, world_of}
 use Rattle.snap_store.specs.Store.{IsImageOf, Snapshots, store_area}
 use Rattle.snap_store.specs.declared.side.Side.{Side}
@@ -32,12 +31,14 @@ use Rattle.session_desk.specs.declared.refused.Refused.{Refused}
 use Rattle.session_desk.specs.declared.shared_desk.mark.Mark.{Mark}
 use Rattle.session_desk.specs.declared.shared_desk.mark.Mark.TheVariants as marks
 use Rattle.session_desk.specs.declared.verdict.Verdict.TheVariants.{Fresh}
+use Rattle.session_desk.specs.Commit.{Commits}
 use Rattle.session_desk.specs.Desk.{committed, DeskState, desk_emptied, game, HoldsOwnWorld}
 use Rattle.session_desk.specs.Desk.{cold_desk, ran}
 use Rattle.session_desk.specs.Keeping as keeping
 use Rattle.session_desk.specs.Marks.{commands_woven}
-use Rattle.session_desk.specs.Opens.{opens_behind, OpensBy, row_behind}
+use Rattle.session_desk.specs.Opens.{opens_behind, row_behind}
 use Rattle.session_desk.specs.Shared.{as_opened, desk_tag, IsMarked, IsPassOf, SharedState}
+use Rattle.session_desk.specs.Shared.{state_of}
 use Rattle.session_desk.specs.Sound.{AreKeptUp, EndsStore, IsSameStore, IsSoundDesk, IsWhole}
 use Rattle.session_desk.specs.Sound.{KeepsFile, open_rows}
 use Rattle.session_desk.specs.Verdict.{verdict}
@@ -45,14 +46,15 @@ use Rattle.session_desk.proofs.HeldLemmas.{holds-aside, holds-then}
 use Rattle.session_desk.proofs.AlikeLemmas.{ready}
 use Rattle.session_desk.proofs.OpensLemmas.{no_rows, row_by}
 use Rattle.session_desk.proofs.FileLemmas.{file-behind, file-kept, file-looked, file-opened}
-use Rattle.session_desk.proofs.SharedLemmas.{marked-opened, rows-seen, state_of}
+use Rattle.session_desk.proofs.FileLemmas.{rows_behind}
+use Rattle.session_desk.proofs.SharedLemmas.{marked-opened, rows-seen}
 use Rattle.session_desk.proofs.KeptUpLemmas.{agreed-behind, kept-behind, is_done}
 
 rows_of-kept : (rows : List Row) → rows_of (rows_kept rows) ≡ rows
 rows_of-kept [] = refl
 rows_of-kept (r ∷ rows) = ap (λ (x : List Row). r ∷ x) (rows_of-kept rows)
 
-module _ {D : Type 0} (tells : D → Bool) (room label faults reach : D → ℕ) where
+module _ {D : Type 0} {tells : D → Bool} {room label faults reach : D → ℕ} where
   pub same-store : (store : Snapshots D) → IsSameStore tells room label faults reach store store
   same-store store = record {
     same = record { telling = refl; size = refl; name = refl };
@@ -175,29 +177,28 @@ module _ {D : Type 0} (tells : D → Bool) (seen_of : D → List ℕ) (moment : 
 
   -- behind a commit
   pub whole-committed : (l m : List Mark) (place : Option ℕ) (old : SharedState D)
-      (desk : DeskState) (pass : Pass (Log D) JournalEntry) (request : Request) (c : Command)
+      (desk : DeskState) (pass : Pass (Log D) JournalEntry) (request : Request)
       (done : Result ℕ Refused) → Whole l place old → IsMarked m desk pass
-      → OnOk done (desk ≡ committed old.desk c) → OnErr done (desk ≡ old.desk)
-      → OpensBy old.desk.session c done (seen old.pass) (seen pass)
-      → (more : List Row) × (rows_of (seen pass) ≡ rows_of (seen old.pass) ++ more)
-      → command_of old.desk.stories request ≡ Some c
+      → Commits request done old.desk desk (seen old.pass) (seen pass)
       → verdict old.desk request ≡ Fresh
       → keeping.snapshot_due old ≡ false
       → IsMissCounted old.saves.missed old.saves.last
       → Whole m (row_behind place request done)
       (record old { desk = desk; history = commands_woven m desk.commands; pass = pass })
-  whole-committed l m place old desk pass request c
-      (Ok row) w marked ok err opens behind asked fresh due counted =
+  whole-committed l m place old desk pass request (Ok row) w marked did fresh due counted =
+      let c = did.command in
+      let ok : desk ≡ committed old.desk c = did.taken in
+      let behind = rows_behind _ _ _ _ _ did.journal in
       let places = open_rows old in
       let stories : desk.stories ≡ old.desk.stories = ap (λ (d : DeskState). d.stories) ok in
       let session : desk.session ≡ old.desk.session = ap (λ (d : DeskState). d.session) ok in
       let is : opens_of (rows_of (seen pass)) desk.session ≡ opens_behind places c (Ok row) =
-      ap (λ (s : ℕ). opens_of (rows_of (seen pass)) s) session ∙ opens.opens in
+      ap (λ (s : ℕ). opens_of (rows_of (seen pass)) s) session ∙ did.opens.opens in
       record {
         marked = marked;
         row =
             row_by old.desk.stories old.desk.session (seen old.pass) (seen pass) place request c
-            (Ok row) asked opens w.row
+            (Ok row) did.asked did.opens w.row
             ∙ ap (λ (s : ℕ). last_row (opens_of (rows_of (seen pass)) s)) (sym session);
         store = w.store;
         own = λ sound. let o = w.own (rw ok at sound) in record {
@@ -207,12 +208,12 @@ module _ {D : Type 0} (tells : D → Bool) (seen_of : D → List ℕ) (moment : 
                 is,
                 ok,
               ) (agreed-behind seen_of old.desk.stories places old.desk.commands c row
-              (is_open c) old.saves.store refl opens.before o.agreed);
+              (is_open c) old.saves.store refl did.opens.before o.agreed);
         };
         kept_up =
             λ none. rw (is, ok)
             (kept-behind old.saves places old.desk.commands c row (is_open c) counted refl
-            (is_done old.saves places old.desk c (ready old.desk request c fresh asked) due)
+            (is_done old.saves places old.desk c (ready old.desk request c fresh did.asked) due)
             (w.kept_up (subst (λ (s : ℕ). commands_of old.rows s ≡ []) session none)));
         rows = more_behind old pass w behind;
         file =
@@ -220,12 +221,13 @@ module _ {D : Type 0} (tells : D → Bool) (seen_of : D → List ℕ) (moment : 
             (commands_woven m desk.commands) pass stories session w.rows behind
             (w.file (rw ok at sound));
       }
-  whole-committed l m place old desk pass request c
-      (Err why) w marked ok err opens behind asked fresh due counted =
+  whole-committed l m place old desk pass request (Err why) w marked did fresh due counted =
+      let err : desk ≡ old.desk = did.left in
+      let behind = rows_behind _ _ _ _ _ did.journal in
       let stories : desk.stories ≡ old.desk.stories = ap (λ (d : DeskState). d.stories) err in
       let session : desk.session ≡ old.desk.session = ap (λ (d : DeskState). d.session) err in
       let is : opens_of (rows_of (seen pass)) desk.session ≡ open_rows old =
-      ap (λ (s : ℕ). opens_of (rows_of (seen pass)) s) session ∙ opens.opens in
+      ap (λ (s : ℕ). opens_of (rows_of (seen pass)) s) session ∙ did.opens.opens in
       record {
         marked = marked;
         row = w.row ∙ ap last_row (sym is);
@@ -263,18 +265,16 @@ module _ {D : Type 0} (tells : D → Bool) (seen_of : D → List ℕ) (moment : 
   whole-looked may_leave counts_now l place old held saves w looks counts areas
       made slots missed holds =
       whole-rested l place old held saves w
-      (store-kept tells room label faults reach old.store old.saves.store saves.store w.store
-      looks.same counts
+      (store-kept old.store old.saves.store saves.store w.store looks.same counts
       (let asked = looks.asked in omega (arith, asked)) made)
       holds
       (λ sound side area e. (w.own sound).agreed side area
       (sym (areas side
-      (still_tells tells room label faults reach old.store old.saves.store w.store sound.0))
+      (still_tells old.store old.saves.store w.store sound.0))
       ∙ e))
       (λ none place last. rw (slots, missed) (w.kept_up none place last))
       (λ sound. file-looked moment left_since may_leave counts_now old held saves
-      (looks.moments (still_tells tells room label faults reach old.store old.saves.store w.store
-      sound.0)) slots (w.file sound))
+      (looks.moments (still_tells old.store old.saves.store w.store sound.0)) slots (w.file sound))
 
   -- as a snapshot was kept
   pub whole-kept : (l : List Mark) (place : Option ℕ) (old : SharedState D) (saves : SavesState D)
@@ -307,20 +307,18 @@ module _ {D : Type 0} (tells : D → Bool) (seen_of : D → List ℕ) (moment : 
   whole-kept l place old saves w same counts reaches row count world at counted held keeps agrees
       crash newest =
       whole-rested l place old old.desk.held saves w
-      (store-kept tells room label faults reach old.store old.saves.store saves.store w.store
-      same.0 counts reaches same.1)
+      (store-kept old.store old.saves.store saves.store w.store same.0 counts reaches same.1)
       (λ sound. (w.own sound).holds)
       (λ sound. let o = w.own sound in
       agrees old.desk.stories (open_rows old) (game old.desk)
-      (still_tells tells room label faults reach old.store old.saves.store w.store sound.0)
+      (still_tells old.store old.saves.store w.store sound.0)
       (sym w.row ∙ at) (sym counted) (rw held at o.holds) o.agreed)
       (λ none p last. let both = sym last ∙ sym w.row ∙ at in
       let same_row : p ≡ row = cc in
       let before = w.kept_up none p last in
       rw (same_row, sym counted) (keeps (rw (same_row, sym counted) at before)))
       (λ sound. let o = w.own sound in
-      let told = still_tells tells room label faults reach old.store old.saves.store w.store
-      sound.0 in
+      let told = still_tells old.store old.saves.store w.store sound.0 in
       let f = file-kept moment left_since seen_of old saves row count world
       (rows-seen l old.desk old.pass w.marked) (sym w.row ∙ at) counted (rw held at o.holds)
       o.agreed (crash told)
@@ -342,7 +340,7 @@ module _ {D : Type 0} (tells : D → Bool) (seen_of : D → List ℕ) (moment : 
       record {
         marked = marked;
         row = ap (λ (x : List Row). last_row (opens_of x s)) (sym same);
-        store = same-store tells room label faults reach store;
+        store = same-store store;
         own =
             λ sound. record {
               holds = tt;

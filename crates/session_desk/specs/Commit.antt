@@ -1,13 +1,13 @@
 -- A command that a desk commits to a journal (own).
 use Rattle.std.specs.Prelude.{◌≡◌, ◌⊎◌, ℕ, Bool, IsTrue, List, [], ◌∷◌, ◌++◌}
-use Rattle.std.specs.Prelude.{length, Result, Ok, Err, Some, None}
+use Rattle.std.specs.Prelude.{length, Result, Ok, Err, Some, None, OnErr, OnOk}
 use Rattle.disk_model.specs.Disk.{LeavesOnly}
 use Rattle.gate_journal.specs.Command.{IsCommand}
 use Rattle.gate_journal.specs.Faults.{IsFault}
 use Rattle.gate_journal.specs.Log.{Log, rows_of, next_row, Meanwhile, SameLog}
-use Rattle.gate_journal.specs.Rows.{commands_of}
 use Rattle.gate_journal.specs.declared.command.Command.{Command}
 use Rattle.gate_journal.specs.declared.command.Command.TheVariants as commands
+use Rattle.gate_journal.specs.declared.entry.Entry.{Entry as JournalEntry}
 use Rattle.gate_journal.specs.declared.entry.Entry.TheVariants.{Kept, Faulted}
 use Rattle.line_words.specs.declared.request.Request.{Request}
 use Rattle.line_words.specs.declared.request.Request.TheVariants.{Open, Line, Char, File, Size}
@@ -16,6 +16,9 @@ use Rattle.session_core.specs.Checks.{command_of}
 use Rattle.session_desk.specs.declared.refused.Refused.{Refused}
 use Rattle.session_desk.specs.declared.refused.Refused.TheVariants.{DiskFault, NoMemory}
 use Rattle.session_desk.specs.Desk.{DeskState, committed}
+use Rattle.session_desk.specs.Opens.{OpensBy}
+use Rattle.session_desk.specs.Shared.{GoesOn, history_met, met_by}
+use Rattle.session_desk.specs.Turn.{history_in}
 
 -- a journal may keep what the request asks for, whatever digest its story has: the fields are in
 -- their ranges
@@ -31,29 +34,10 @@ IsInRange (Last s key) = Unit {0}
 IsInRange (Close s key n) = Unit {0}
 IsInRange (Watch s word from) = Unit {0}
 
--- the desk's commands are the journal's rows of its session
-abbrev pub IsKept : {D : Type 0} → DeskState → Log D → Type 0
-IsKept desk log = commands_of (rows_of log.entries) desk.session ≡ desk.commands
-
 -- the journal has the command behind the last row
 abbrev pub Extends : {D : Type 0} → ℕ → Command → Log D → Log D → Type 0
 Extends session command old new =
     new.entries ≡ old.entries ++ Kept (next_row (rows_of old.entries) session command) ∷ []
-
--- the journal and the desk have taken the command that the request asks for
-pub record Commits
-    {D : Type 0}
-    (request : Request)
-    (desk : DeskState)
-    (log : Log D)
-    (new_desk : DeskState)
-    (new_log : Log D) : Type 0 where
-  pub command : Command
-  pub asked : command_of desk.stories request ≡ Some command
-  pub taken : new_desk ≡ committed desk command
-  pub row : Extends desk.session command log new_log
-  -- no gate is uncertain
-  pub certain : new_log.uncertain ≡ None
 
 -- what a refusal leaves of the journal: its disk's fault as an entry, with the row that was asked
 -- for, or all as before
@@ -91,3 +75,20 @@ StopLeaves tells moment left_since session command old new =
     → LeavesOnly moment left_since old.disk new.disk
     (Meanwhile (rows_of old.entries) old.uncertain
     (next_row (rows_of old.entries) session command))
+
+-- What a commit of the command that a request asks for leaves of the desk, and of what its pass has
+-- seen of the journal: of the session's history and the places of its OPEN rows too.
+pub record Commits
+    (request : Request)
+    (done : Result ℕ Refused)
+    (desk new_desk : DeskState)
+    (old new : List JournalEntry) : Type 0 where
+  pub command : Command
+  pub asked : command_of desk.stories request ≡ Some command
+  pub taken : OnOk done (new_desk ≡ committed desk command)
+  pub left : OnErr done (new_desk ≡ desk)
+  pub journal : GoesOn desk.session (Some command) (met_by done) old new
+  pub history :
+      history_in new desk.session
+      ≡ history_met (history_in old desk.session) 0 (Some command) (met_by done)
+  pub opens : OpensBy desk.session command done old new

@@ -48,6 +48,21 @@ pub record SharedState (D : Type 0) : Type 0 where
   pub store : Snapshots D
   pub rows : List Row
 
+-- the state of a desk with these marks, whose pass and store were such as it was opened
+abbrev pub state_of :
+    {D : Type 0}
+    → DeskState → List Mark → Pass (Log D) JournalEntry → SavesState D → Snapshots D
+    → Pass (Log D) JournalEntry
+    → SharedState D
+state_of desk marks pass saves store first = record {
+  desk = desk;
+  history = commands_woven marks desk.commands;
+  pass = pass;
+  saves = saves;
+  store = store;
+  rows = rows_of (seen first);
+}
+
 -- a desk with the rows of its session that holds no world and missed no snapshot
 abbrev pub as_opened :
     {D : Type 0}

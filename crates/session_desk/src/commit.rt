@@ -37,13 +37,21 @@ fn has_digest(command: &Command)
     }
 }
 
-/// The command that the request asks for.
-pub fn asked(alloc: Global, stories: &[Story], request: &Request) -> Result<Command, AllocError>
+/// The command that the request asks for, and the room to take it down.
+pub fn asked(
+    alloc: Global,
+    stories: &[Story],
+    commands: &mut Vec<Command>,
+    request: &Request,
+) -> Result<Command, AllocError>
     requires some { IsSome (command_of stories.now request.now) }
     requires ranges { IsInRange request.now }
     ensures value { IfOk result (λ command. command_of stories.now request.now ≡ Some command) }
     ensures ranges { IfOk result (λ command. IsCommand command) }
+    ensures room { OnOk result (vec_len commands.new < vec_capacity commands.new) }
+    ensures kept { commands.new.items ≡ commands.old.items }
 {
+    commands.reserve(1)?;
     let command = command_of(alloc, stories, request)?.unwrap();
     has_digest(&command);
     Ok(command)

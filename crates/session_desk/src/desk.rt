@@ -1,14 +1,11 @@
 //! A desk: one session, kept warm (own).
 
-ghost use Rattle.std.specs.Prelude.{◌≡◌, ◌≤◌, ◌<◌, ◌+◌, ◌++◌, [], ◌∷◌, IsTrue, true, false};
-ghost use Rattle.std.specs.Prelude.{length, max, None, Some};
-ghost use Rattle.std.specs.Prelude.{IfOk, IfErr, OnOk, OnErr, MatchOption, MatchResult, ⊤};
-ghost use Rattle.disk_model.specs.Disk.{SameDisk};
+ghost use Rattle.std.specs.Prelude.{◌≡◌, ◌≤◌, ◌<◌, [], IsTrue, false, length};
+ghost use Rattle.std.specs.Prelude.{None, Some, IfOk, IfErr, OnOk, OnErr, MatchOption, ⊤};
+ghost use Rattle.turn_cell.specs.Passes.{IsOf, seen};
 ghost use Rattle.gate_journal.specs.Log.{rows_of};
-ghost use Rattle.gate_journal.specs.Rows.{commands_of, journal_bytes};
-ghost use Rattle.gate_journal.specs.declared.command.Command.{Command};
+ghost use Rattle.gate_journal.specs.Rows.{commands_of};
 ghost use Rattle.session_core.specs.History.{is_in_use, last_of};
-ghost use Rattle.session_core.specs.Checks.{command_of};
 ghost use Rattle.session_core.specs.Answer.{shown_number};
 ghost use Rattle.session_saves.specs.Game.{inputs_of};
 ghost use Rattle.session_desk.specs.Desk.{desk_emptied, game, is_cold, is_to_run, last_show};
@@ -16,8 +13,8 @@ ghost use Rattle.session_desk.specs.Desk.{cold_desk, ran, warmed, world_now};
 ghost use Rattle.session_desk.specs.Verdict.{verdict};
 ghost use Rattle.session_desk.specs.declared.held.Held.TheVariants.{Current};
 ghost use Rattle.session_desk.specs.declared.verdict.Verdict.TheVariants.{Fresh, Cold};
-ghost use Rattle.session_desk.specs.Commit.{Commits, IsInRange, IsKept, RefusalLeaves, LeavesGate};
-ghost use Rattle.session_desk.specs.Commit.{StopLeaves, WhereBegun};
+ghost use Rattle.session_desk.specs.Commit.{Commits, IsInRange};
+ghost use Rattle.session_desk.specs.Shared.{HasRisen, IsPassOf};
 
 use crate::check::{in_no_world, in_world};
 use crate::commit::{asked, take_down, write_down};
@@ -34,7 +31,9 @@ use session_saves::inputs_of;
 use std::alloc::{AllocError, Global};
 use std::marker::Model;
 use std::mem;
+use std::sync::Wait;
 use story_run::{Story, World};
+use turn_cell::{Cell, Pass};
 
 /// One session, with the commands that it accepted and, where it is warm, a world. It is cold where
 /// the session is in use and its world isn't held.
@@ -51,25 +50,15 @@ pub struct Desk<'i> {
 }
 
 impl<'i> Model for Desk<'i> {
-    ghost use Rattle.session_desk.specs.Desk.{BeginsAt, DeskState, IsDesk};
+    ghost use Rattle.session_desk.specs.Desk.{BeginsAt, DeskState, desk_of, IsDesk};
 
     ghost Value = { DeskState };
 
-    ghost view = { λ d. record {
-      session = d.session;
-      stories = d.stories.now;
-      budget = d.budget;
-      commands = d.commands.items;
-      held = d.held;
-    } };
+    ghost view = { λ d. desk_of d.session d.stories.now d.budget d.commands.items d.held };
 
-    ghost invariant = { λ d. IsDesk (record {
-      session = d.session;
-      stories = d.stories.now;
-      budget = d.budget;
-      commands = d.commands.items;
-      held = d.held;
-    }) × BeginsAt d.begins d.commands.items };
+    ghost invariant = { λ d.
+        IsDesk (desk_of d.session d.stories.now d.budget d.commands.items d.held)
+        × BeginsAt d.begins d.commands.items };
 }
 
 impl<'i> Desk<'i> {
@@ -184,56 +173,40 @@ impl<'i> Desk<'i> {
         self.held = Held::Current(world);
     }
 
-    /// Makes the session accept the command that a fresh request asks for, by a row in the journal;
-    /// the world is set aside for `run`. The memory is taken before the row is written. The answer
-    /// is the row's place.
-    pub fn commit<D: Disk>(
+    /// Makes the session accept the command that a fresh request asks for, by a row that is written
+    /// in a turn of the journal's cell; the world is set aside for `run`. The memory is taken
+    /// before the row is written. The answer is the row's place.
+    pub fn commit<D: Disk + Drop, R: Wait>(
         &mut self,
+        rt: &R,
         alloc: Global,
-        journal: &mut Journal<D>,
+        pass: &mut Pass<Journal<D>>,
+        cell: &Cell<Journal<D>>,
         request: &Request,
     ) -> Result<u64, Refused>
+        requires cell { IsOf cell.now pass.old }
+        requires pass { IsPassOf self.old.session pass.old }
+        requires rows { commands_of (rows_of (seen pass.old)) self.old.session
+            ≡ self.old.commands }
         requires fresh { verdict self.old request.now ≡ Fresh }
         requires ranges { IsInRange request.now }
-        requires rows { IsKept self.old journal.old }
-
-        ensures ok { OnOk result
-            (Commits request.now self.old journal.old self.new journal.new) }
-        ensures place { IfOk result (λ place.
-            place ≡ length (journal_bytes (rows_of journal.old.entries))) }
+        ensures value { Commits request.now result self.old self.new (seen pass.old)
+            (seen pass.new) }
         ensures runs { OnOk result
             (IsTrue (is_to_run self.new.held (last_of (game self.new)))) }
-        ensures err { OnErr result (self.new ≡ self.old) }
-        ensures cause { (command : Command)
-            → command_of self.old.stories request.now ≡ Some command
-            → IfErr result (λ why.
-            RefusalLeaves D.faults self.old.session command journal.old journal.new why) }
-        ensures rows { IsKept self.new journal.new }
-        ensures kept { SameDisk D.tells D.room D.label journal.old.disk journal.new.disk
-            × (journal.new.opening ≡ journal.old.opening) }
-        ensures crash { (command : Command)
-            → command_of self.old.stories request.now ≡ Some command
-            → WhereBegun result (StopLeaves D.tells D.moment D.left_since self.old.session command
-            journal.old journal.new) }
-        ensures gate { (command : Command)
-            → command_of self.old.stories request.now ≡ Some command
-            → IfErr result (λ why.
-            LeavesGate self.old.session command journal.old journal.new why) }
-        ensures counts { OnOk result
-            (D.faults journal.new.disk ≡ D.faults journal.old.disk) }
-        ensures reach { D.reach journal.new.disk
-            ≤ max (D.reach journal.old.disk)
-            (length (journal_bytes (rows_of journal.old.entries)) + 4110) }
+        ensures rose { IfErr result HasRisen }
+        ensures pass { IsPassOf self.old.session pass.new }
+        ensures kept { IsOf cell.now pass.new }
     {
-        let Ok(command) = asked(alloc, self.stories, request) else {
+        let Ok(command) = asked(alloc, self.stories, &mut self.commands, request) else {
             return Err(Refused::NoMemory);
         };
-        let Ok(()) = self.commands.reserve(1) else {
-            return Err(Refused::NoMemory);
-        };
+        let mut journal = cell.enter(rt, pass);
         // with the count comes what holds of every journal
         let _count = journal.row_count();
-        match write_down(alloc, journal, self.session, &command) {
+        let written = write_down(alloc, &mut journal, self.session, &command);
+        cell.leave(pass, journal);
+        match written {
             Ok(place) => {
                 take_down(
                     &mut self.commands,

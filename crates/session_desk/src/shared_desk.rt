@@ -64,34 +64,16 @@ pub struct SharedDesk<'i, D: Disk> {
 }
 
 impl<'i, D: Disk> Model for SharedDesk<'i, D> {
-    ghost use Rattle.gate_journal.specs.Log.{rows_of};
-    ghost use Rattle.turn_cell.specs.Passes.{seen};
-    ghost use Rattle.session_desk.specs.Marks.{commands_woven};
-    ghost use Rattle.session_desk.specs.Shared.{SharedState};
+    ghost use Rattle.session_desk.specs.Shared.{SharedState, state_of};
     ghost use Rattle.session_desk.specs.Sound.{IsWhole};
 
     ghost Value = { SharedState D };
 
-    ghost view = { λ d. record {
-      desk = d.desk;
-      history = commands_woven d.marks.items d.desk.commands;
-      pass = d.pass;
-      saves = d.saves;
-      store = d.store.value;
-      rows = rows_of (seen d.first.value);
-    } };
+    ghost view = { λ d. state_of d.desk d.marks.items d.pass d.saves d.store.value d.first.value };
 
     ghost invariant = { λ d. IsWhole D.tells D.seen D.moment D.left_since
-        D.room D.label D.faults D.reach
-        d.marks.items d.place
-        (record {
-          desk = d.desk;
-          history = commands_woven d.marks.items d.desk.commands;
-          pass = d.pass;
-          saves = d.saves;
-          store = d.store.value;
-          rows = rows_of (seen d.first.value);
-        }) };
+        D.room D.label D.faults D.reach d.marks.items d.place
+        (state_of d.desk d.marks.items d.pass d.saves d.store.value d.first.value) };
 }
 
 impl<'i, D: Disk> Told for SharedDesk<'i, D> {

@@ -3,113 +3,60 @@
 ghost use Rattle.std.specs.Prelude.{◌≡◌, ◌<◌, ◌++◌, IsTrue, IfErr, OnOk, OnErr, Some, false};
 ghost use Rattle.std.specs.Prelude.{vec_len, vec_capacity};
 ghost use Rattle.turn_cell.specs.Passes.{IsOf, seen};
-ghost use Rattle.gate_journal.specs.Log.{rows_of};
-ghost use Rattle.gate_journal.specs.Rows.{commands_of};
 ghost use Rattle.gate_journal.specs.declared.command.Command.{Command};
 ghost use Rattle.session_core.specs.Checks.{command_of};
 ghost use Rattle.session_core.specs.History.{last_of};
 ghost use Rattle.session_desk.specs.Commit.{IsInRange};
-ghost use Rattle.session_desk.specs.Desk.{committed, game, is_to_run};
+ghost use Rattle.session_desk.specs.Desk.{game, is_to_run};
 ghost use Rattle.session_desk.specs.Keeping.{snapshot_due};
 ghost use Rattle.session_desk.specs.Marks.{marks_by};
-ghost use Rattle.session_desk.specs.Opens.{OpensBy, row_behind};
-ghost use Rattle.session_desk.specs.Shared.{desk_tag, GoesOn, HasRisen, IsPassOf, LeavesHistory};
-ghost use Rattle.session_desk.specs.Shared.{met_by, TakesEntry, history_met, unplaced};
-ghost use Rattle.session_desk.specs.Turn.{history_in};
+ghost use Rattle.session_desk.specs.Opens.{row_behind};
+ghost use Rattle.session_desk.specs.Shared.{desk_tag, GoesOn, HasRisen, LeavesHistory, met_by};
+ghost use Rattle.session_desk.specs.Shared.{TakesEntry, unplaced};
 ghost use Rattle.session_desk.specs.Verdict.{verdict};
 ghost use Rattle.session_desk.specs.declared.verdict.Verdict.TheVariants.{Fresh};
 
 use super::SharedDesk;
 use super::mark::Mark;
-use crate::desk::Desk;
 use crate::refused::Refused;
 use disk_model::Disk;
-use gate_journal::{DiskFault, Journal};
+use gate_journal::Journal;
 use line_words::Request;
 use std::alloc::Global;
 use std::sync::Wait;
-use turn_cell::{Cell, Pass};
+use turn_cell::Cell;
 
-/// Commits the command in a turn of the journal's cell; the answer is the row's place.
-fn commit_in_turn<D: Disk + Drop, R: Wait>(
-    rt: &R,
-    alloc: Global,
-    desk: &mut Desk<'_>,
-    pass: &mut Pass<Journal<D>>,
-    cell: &Cell<Journal<D>>,
+/// Takes down what a commit gave, who made the entry and the place of an OPEN row; the answer is
+/// without that place.
+fn note(
+    marks: &mut Vec<Mark>,
+    place: &mut Option<u64>,
+    by: u64,
     request: &Request,
-) -> Result<u64, Refused>
-    requires cell { IsOf cell.now pass.old }
-    requires pass { IsPassOf desk.old.session pass.old }
-    requires rows { commands_of (rows_of (seen pass.old)) desk.old.session ≡ desk.old.commands }
-    requires fresh { verdict desk.old request.now ≡ Fresh }
-    requires ranges { IsInRange request.now }
-    ensures ok { (command : Command) → command_of desk.old.stories request.now ≡ Some command
-        → OnOk result (desk.new ≡ committed desk.old command) }
-    ensures runs { OnOk result (IsTrue (is_to_run desk.new.held (last_of (game desk.new)))) }
-    ensures err { OnErr result (desk.new ≡ desk.old) }
-    ensures rose { IfErr result HasRisen }
-    ensures journal { (command : Command)
-        → command_of desk.old.stories request.now ≡ Some command
-        → GoesOn desk.old.session (Some command) (met_by result) (seen pass.old) (seen pass.new) }
-    ensures history { (command : Command)
-        → command_of desk.old.stories request.now ≡ Some command
-        → history_in (seen pass.new) desk.old.session
-        ≡ history_met (history_in (seen pass.old) desk.old.session) 0 (Some command)
-        (met_by result) }
-    ensures opens { (command : Command)
-        → command_of desk.old.stories request.now ≡ Some command
-        → OpensBy desk.old.session command result (seen pass.old) (seen pass.new) }
-    ensures pass { IsPassOf desk.old.session pass.new }
-    ensures kept { IsOf cell.now pass.new }
-{
-    let mut journal = cell.enter(rt, pass);
-    // with the count comes what holds of every journal
-    let _count = journal.row_count();
-    let done = desk.commit(alloc, &mut journal, request);
-    cell.leave(pass, journal);
-    done
-}
-
-/// Takes down who made the entry of a commit.
-fn note(marks: &mut Vec<Mark>, by: u64, done: &Result<u64, Refused>)
+    done: Result<u64, Refused>,
+) -> Result<(), Refused>
     requires room { vec_len marks.old < vec_capacity marks.old }
-    ensures { marks.new.items ≡ marks.old.items ++ marks_by by done.now }
-{
-    match done {
-        Ok(_) => marks.push_reserved(Mark::Accepted { by }),
-        Err(Refused::DiskFault(DiskFault { from, to })) => marks.push_reserved(Mark::Faulted {
-            by,
-            from: *from,
-            to: *to,
-        }),
-        Err(Refused::NoMemory) => {}
-    }
-}
-
-/// The place of the last OPEN row behind a commit.
-fn row_behind(place: Option<u64>, request: &Request, done: &Result<u64, Refused>) -> Option<u64>
-    ensures { result ≡ row_behind place request.now done.now }
+    ensures value { result ≡ unplaced done }
+    ensures marks { marks.new.items ≡ marks.old.items ++ marks_by by done }
+    ensures place { place.new ≡ row_behind place.old request.now done }
 {
     match done {
         Ok(row) => {
+            marks.push_reserved(Mark::Accepted { by });
             if matches!(request, Request::Open { .. }) {
-                Some(*row)
-            } else {
-                place
+                *place = Some(row);
             }
+            Ok(())
         }
-        Err(_) => place,
-    }
-}
-
-/// What a commit gave, without the place of the row.
-fn unplaced(done: &Result<u64, Refused>) -> Result<(), Refused>
-    ensures { result ≡ unplaced done.now }
-{
-    match done {
-        Ok(_) => Ok(()),
-        Err(why) => Err(*why),
+        Err(Refused::DiskFault(fault)) => {
+            marks.push_reserved(Mark::Faulted {
+                by,
+                from: fault.from,
+                to: fault.to,
+            });
+            Err(Refused::DiskFault(fault))
+        }
+        Err(Refused::NoMemory) => Err(Refused::NoMemory),
     }
 }
 
@@ -148,9 +95,9 @@ impl<'i, D: Disk + Drop> SharedDesk<'i, D> {
         };
         // with the counts comes what holds of all snapshots
         let _missed = self.saves.missed();
-        let done = commit_in_turn(rt, alloc, &mut self.desk, &mut self.pass, journal, request);
-        note(&mut self.marks, by, &done);
-        self.place = row_behind(self.place, request, &done);
-        unplaced(&done)
+        let done = self
+            .desk
+            .commit(rt, alloc, &mut self.pass, journal, request);
+        note(&mut self.marks, &mut self.place, by, request, done)
     }
 }

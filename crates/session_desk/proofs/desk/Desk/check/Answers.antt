@@ -1,7 +1,7 @@
 use Rattle.std.proofs.Common.{◌≡◌, Some}
 use Rattle.session_core.specs.History.{game_of}
 use Rattle.session_core.specs.Answer.{first_refusal, plain_checks}
-use Rattle.session_desk.proofs.HeldLemmas.{desk_of}
+use Rattle.session_desk.specs.Desk.{desk_of}
 use Rattle.session_desk.proofs.VerdictLemmas.{plain-told}
 use Rattle.session_desk.proofs.desk.Desk.check.Goals as goal
 
