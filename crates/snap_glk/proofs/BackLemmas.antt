@@ -1,7 +1,7 @@
 -- A Glk state that is told and made again, and fields that are made and told again.
-use Rattle.std.proofs.Common.{◌≡◌, ◌∙◌, ℕ, true, refl, ap, Option, Some, None, option_map}
+use Rattle.std.proofs.Common.{◌≡◌, ◌∙◌, ℕ, refl, ap, Option, Some, None, option_map}
 use Rattle.std.specs.List.{AllByRecursion}
-use Rattle.glk_numbers.specs.Numbered.{ascends}
+use Rattle.glk_numbers.proofs.EachLemmas.{each-by-number}
 use Rattle.glk_windows.specs.Tree as tree
 use Rattle.glk_windows.specs.Valid as windows
 use Rattle.glk_windows.specs.declared.window.Window as window
@@ -11,13 +11,12 @@ use Rattle.glk_dispatch.specs.Links.{stream_end, stream_ends, window_link}
 use Rattle.glk_dispatch.specs.Links.{owner, owner_in, live_stream}
 use Rattle.glk_dispatch.specs.Valid.{IsValidGlk}
 use Rattle.glk_dispatch.specs.declared.glk.Glk.{Glk}
-use Rattle.glk_dispatch.proofs.CloseLemmas.{to-ascends}
 use Rattle.glk_dispatch.proofs.EchoLemmas.{streams-ascend}
 use Rattle.glk_dispatch.proofs.EntryLemmas.{entries_follow, streams_follow}
 use Rattle.snap_glk.specs.Laws.{GivesBackGlk, StandsBetweenTurns, TakesFieldsBack}
 use Rattle.snap_glk.specs.Made.{file_made, fileref_made, stream_made}
 use Rattle.snap_glk.specs.Told.{file_told, fileref_told, glk_fields, stream_told}
-use Rattle.snap_glk.proofs.ListLemmas.{IsFound, all-found, all-weaker, map-back}
+use Rattle.snap_glk.proofs.ListLemmas.{map-back}
 use Rattle.snap_glk.proofs.StreamLemmas.{IsTold, Owns, stream-again, streams-back, window-found}
 use Rattle.snap_glk.proofs.WindowLemmas.{inputs-back, windows-again, windows-back, windows-begun}
 
@@ -29,29 +28,21 @@ is-found None n k e = absurd cc
 is-found (Some v) n k e = (v, refl)
 
 module _ (g : Glk) (v : IsValidGlk g) where
-  window-order : ascends tree.window_number 0 g.windows.next g.windows.slots ≡ true
-  unfolding windows.IsOrdered
-  window-order = to-ascends g.windows.slots 0 g.windows.next v.parts.windows.ordered
-
-  stream-order : ascends streams.stream_number 0 g.streams.next g.streams.streams ≡ true
-  stream-order = streams-ascend g v.parts
-
   is-told : (s : stream.Stream) → streams.stream_at g.streams s.number ≡ Some s
       → IsTold (glk_fields g).windows s
+  unfolding windows.IsOrdered
   is-told s f n t =
       let owned : owner (stream_ends g s.number) ≡ Some n =
       ap (λ o. owner (option_map stream_end o)) f ∙ ap owner_in t in
       let there = is-found (tree.window_at g.windows.slots n) n s.number
       (v.linked.windows s.number n owned) in
-      let own = all-weaker (IsFound tree.window_number 0 g.windows.slots) (Owns s.number n)
-      (λ w h. streams_follow g s n w v f t h.1) g.windows.slots
-      (all-found tree.window_number g.windows.slots 0 g.windows.next window-order) in
+      let own = each-by-number tree.window_number (Owns s.number n) g.windows.slots 0
+      g.windows.next v.parts.windows.ordered.1 (λ w h. streams_follow g s n w v f t h) in
       window-found g.windows.slots g.requests s.number n there.0 (entries_follow g v) own there.1
 
   are-told : AllByRecursion (IsTold (glk_fields g).windows) g.streams.streams
-  are-told = all-weaker (IsFound streams.stream_number 0 g.streams.streams)
-      (IsTold (glk_fields g).windows) (λ s h. is-told s h.1) g.streams.streams
-      (all-found streams.stream_number g.streams.streams 0 g.streams.next stream-order)
+  are-told = each-by-number streams.stream_number (IsTold (glk_fields g).windows)
+      g.streams.streams 0 g.streams.next (streams-ascend g v.parts) is-told
 
 pub gives-back : GivesBackGlk
 gives-back g v e =

@@ -1,9 +1,8 @@
 -- Windows and their entries for input, told and made again.
-use Rattle.std.proofs.Common.{◌≡◌, ◌∙◌, ℕ, ◌*◌, ◌==◌, ◌&&◌, true, List, [], ◌∷◌, map, length}
-use Rattle.std.proofs.Common.{refl, ap, arith, Option, Some, None}
+use Rattle.std.proofs.Common.{◌≡◌, ◌∙◌, ℕ, ◌==◌, true, List, [], ◌∷◌, map}
+use Rattle.std.proofs.Common.{refl, ap, Option, Some, None}
 use Rattle.std.specs.List.{zip}
-use Rattle.std.proofs.lemmas.Bool.{and_parts}
-use Rattle.std.proofs.lemmas.Bool.Decides.{nat_tests}
+use Rattle.std.proofs.lemmas.Bool.{and_parts, eqb-true}
 use Rattle.glk_windows.specs.Output.{content_kept, window_kept}
 use Rattle.glk_windows.specs.Tree as tree
 use Rattle.glk_windows.specs.Valid as windows
@@ -32,10 +31,10 @@ content-back a (holds.Pair p) k s = refl
 content-back a holds.Blank k s = refl
 content-back a (holds.Buffer b) k s = k
 content-back a (holds.Grid g) k s =
-    let p = and_parts (g.w == a.w) (g.h == a.h && length g.cells == g.h * g.w) s in
-    let q = and_parts (g.h == a.h) (length g.cells == g.h * g.w) p.1 in
-    let w : g.w ≡ a.w = grind (arith, nat_tests, p.0) in
-    let h : g.h ≡ a.h = grind (arith, nat_tests, q.0) in
+    let p = and_parts (g.w == a.w) _ s in
+    let q = and_parts (g.h == a.h) _ p.1 in
+    let w = eqb-true g.w a.w p.0 in
+    let h = eqb-true g.h a.h q.0 in
     rw (← w, ← h) refl
 
 window-back : (w : window.Window) (i : WindowInput) → window_kept w ≡ w
@@ -61,7 +60,7 @@ windows-back [] [] n k s = refl
 windows-back [] (i ∷ is) n k s = absurd cc
 windows-back (w ∷ ws) [] n k s = absurd cc
 windows-back (w ∷ ws) (i ∷ is) n k s =
-    let p = and_parts (windows.is_sound_window w) (windows.are_sound_windows ws) s in
+    let p = and_parts (windows.is_sound_window w) _ s in
     let q = firsts (window_kept w) w (map window_kept ws) ws k in
     let m =
     numbers i.win w.number (map requests.input_window_number is) (map tree.window_number ws) n in
