@@ -7,6 +7,7 @@ use Rattle.std.specs.List.{AllByRecursion}
 use Rattle.std.specs.Fmt.{decimal}
 use Rattle.std.specs.Str.{all_scalars}
 use Rattle.std.proofs.lemmas.Bool.Decides.{nat_tests}
+use Rattle.std.proofs.lemmas.Bool.{and_parts}
 use Rattle.std.proofs.lemmas.Fmt.{length-decimal-le}
 use Rattle.std.proofs.lemmas.List.Elements.{All-from_recursion}
 use Rattle.rand_core.specs.Steps.{first_words}
@@ -16,7 +17,7 @@ use Rattle.story_text.specs.Text.{are_allowed, IsText}
 use Rattle.line_words.specs.declared.request.Request.{Request}
 use Rattle.line_words.specs.Spelling.{print_request, IsRequest}
 use Rattle.line_words.specs.Request.{request_of}
-use Rattle.line_words.proofs.WordLaws.{all_digits, digits-decimal, both}
+use Rattle.line_words.proofs.WordLaws.{all_digits, digits-decimal}
 use Rattle.line_words.proofs.RequestLaws.{prints, request_again}
 use Rattle.story_make.specs.Script.{generator, letters, opening_request, typed_line}
 use Rattle.story_make.specs.Script.{Place, script_start, place_after_turn, requests_from}
@@ -147,7 +148,7 @@ NoLf-append (x ∷ xs) ys a b = (a.0, NoLf-append xs ys a.1 b)
 digits_no_lf : (ds : List ℕ) → all_digits ds ≡ true → NoLf ds
 digits_no_lf [] h = tt
 digits_no_lf (b ∷ bs) h =
-    let p = both _ (all_digits bs) h in (grind (arith, nat_tests, p.0), digits_no_lf bs p.1)
+    let p = and_parts _ (all_digits bs) h in (grind (arith, nat_tests, p.0), digits_no_lf bs p.1)
 
 decimal_no_lf : (n : ℕ) → n < 2 ^ 64 → NoLf (decimal n)
 decimal_no_lf n h = digits_no_lf (decimal n) (digits-decimal n h)
