@@ -3,7 +3,7 @@
 ghost use Rattle.std.specs.Prelude.{◌≡◌, ◌≤◌, ◌<◌, ◌+◌, ◌++◌, [], ◌∷◌, IsTrue, true, false};
 ghost use Rattle.std.specs.Prelude.{length, max, None, Some};
 ghost use Rattle.std.specs.Prelude.{IfOk, IfErr, OnOk, OnErr, MatchOption, MatchResult, ⊤};
-ghost use Rattle.disk_model.specs.Disk.{SameDisk};
+ghost use Rattle.disk_model.specs.Work.{SameDisk};
 ghost use Rattle.gate_journal.specs.Log.{rows_of};
 ghost use Rattle.gate_journal.specs.Rows.{commands_of, journal_bytes};
 ghost use Rattle.gate_journal.specs.declared.command.Command.{Command};
@@ -209,11 +209,11 @@ impl<'i> Desk<'i> {
             → IfErr result (λ why.
             RefusalLeaves D.faults self.old.session command journal.old journal.new why) }
         ensures rows { IsKept self.new journal.new }
-        ensures kept { SameDisk D.tells D.room D.label journal.old.disk journal.new.disk
+        ensures kept { SameDisk D.Disk journal.old.disk journal.new.disk
             × (journal.new.opening ≡ journal.old.opening) }
         ensures crash { (command : Command)
             → command_of self.old.stories request.now ≡ Some command
-            → WhereBegun result (StopLeaves D.tells D.moment D.left_since self.old.session command
+            → WhereBegun result (StopLeaves D.Disk self.old.session command
             journal.old journal.new) }
         ensures gate { (command : Command)
             → command_of self.old.stories request.now ≡ Some command

@@ -44,8 +44,7 @@ invariant_of-self-2 g c =
     c.commit_in_turn-done.new.desk c.self.inside.pass c.commit_in_turn-done.new.pass
     f.0 c.commit_in_turn-done.result marked c.self.invariant.marked ok err
     c.commit_in_turn-done.ensures.pass (c.commit_in_turn-done.ensures.history f.0 f.1) in
-    rw c.row_behind-self-inside.ensures (whole-committed g.D.Disk.tells g.D.Disk.seen g.D.Disk.moment g.D.Disk.left_since
-    g.D.Disk.room g.D.Disk.label g.D.Disk.faults g.D.Disk.reach c.self.inside.marks.items
+    rw c.row_behind-self-inside.ensures (whole-committed g.D.Disk c.self.inside.marks.items
     c.note.new.marks.items c.self.inside.place old c.commit_in_turn-done.new.desk
     c.commit_in_turn-done.new.pass c.args.request.now f.0 c.commit_in_turn-done.result
     c.self.invariant m ok err (c.commit_in_turn-done.ensures.opens f.0 f.1)

@@ -13,8 +13,6 @@ returns g c =
         entries = c.self.invariant.marked.entries;
       };
       store =
-          ends_store g.D.Disk.tells g.D.Disk.seen g.D.Disk.moment g.D.Disk.left_since g.D.Disk.room g.D.Disk.label g.D.Disk.faults
-          g.D.Disk.reach g.D.Disk.may_leave c.self.inside.marks.items c.self.inside.place _
-          c.self.invariant
+          ends_store g.D.Disk c.self.inside.marks.items c.self.inside.place _ c.self.invariant
           (rw c.into_store-store.ensures.value at c.is_made-made.ensures.images);
     })

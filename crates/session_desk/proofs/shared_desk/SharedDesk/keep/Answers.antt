@@ -3,8 +3,7 @@ use Rattle.session_desk.proofs.shared_desk.SharedDesk.keep.Goals as goal
 
 pub invariant_of-self : goal.invariant_of-self
 invariant_of-self g c =
-    whole-kept g.D.Disk.tells g.D.Disk.seen g.D.Disk.moment g.D.Disk.left_since g.D.Disk.room g.D.Disk.label g.D.Disk.faults
-    g.D.Disk.reach c.self.inside.marks.items c.self.inside.place _
+    whole-kept g.D.Disk c.self.inside.marks.items c.self.inside.place _
     c.keep.new.self c.self.invariant c.keep.ensures.kept c.keep.ensures.counts
     c.keep.ensures.reach c.in-Some.place c.inputs.result c.in-Some-world.world.now
     c.in-Some.is c.inputs.ensures c.in-Some-world.ensures c.keep.ensures.kept_up
