@@ -2,7 +2,7 @@
 use Rattle.std.proofs.Common.{◌≡◌, ℕ, zero, suc, List, [], ◌∷◌, ◌++◌, length, arith, refl, sym, ap}
 use Rattle.std.proofs.Common.{◌∙◌, subst, Option, None, Some, IsTrue, slice_get, false}
 use Rattle.std.specs.Str.{bytes_eq}
-use Rattle.disk_model.specs.Disk.{SameDisk}
+use Rattle.disk_model.specs.Work.{SameDisk}
 use Rattle.turn_cell.specs.History.{Each}
 use Rattle.turn_cell.proofs.HistoryLemmas.{each_map, nil_right}
 use Rattle.host_top.specs.Borrowed.{AreDifferentNames, AreAsGiven, AreNamed, Borrowed, CountsFaults}
@@ -33,8 +33,8 @@ module _ {D : Type 0} (disks : DiskWords D) where
 
   pub folder_taken : (name : List ℕ) (ns : List (List ℕ)) (given : D) (givens : List D)
       (a b c : OutsideState D) → Each (λ n. bytes_eq name n ≡ false) ns
-      → Lends disks.label disks.faults name given a b
-      → (IsTrue (disks.tells given) → IsLentFrom disks.seen disks.may_leave (a.disk name) given)
+      → Lends disks name given a b
+      → (IsTrue (disks.tells given) → IsLentFrom disks (a.disk name) given)
       → Borrowed disks b c (lent_as ns givens)
       → Borrowed disks a c (folder_back name ns given givens back.Nothing)
   folder_taken name ns given givens a b c apart lends lent more =
@@ -45,8 +45,8 @@ module _ {D : Type 0} (disks : DiskWords D) where
   pub journal_alone : (name first : List ℕ) (ns : List (List ℕ)) (given : D)
       (a b c e : OutsideState D) (ls : List (Lending D)) → first ≡ name
       → Each (λ n. bytes_eq name n ≡ false) ns
-      → Lends disks.label disks.faults name given a b
-      → (IsTrue (disks.tells given) → IsLentFrom disks.seen disks.may_leave (a.disk name) given)
+      → Lends disks name given a b
+      → (IsTrue (disks.tells given) → IsLentFrom disks (a.disk name) given)
       → AreAsGiven ls → AreNamed ns ls → Borrowed disks b c ls
       → TakesDiskBack disks.faults first given c e
       → (ks : List (Lending D)) × AreAsGiven ks × AreNamed (name ∷ ns) ks × Borrowed disks a e ks
@@ -66,7 +66,7 @@ module _ {D : Type 0} (disks : DiskWords D) where
   -- the journal's disk may be put back
   pub journal_lent : (name first : List ℕ) (ns : List (List ℕ)) (given : D) (a b c : OutsideState D)
       (ls : List (Lending D)) → first ≡ name → Each (λ n. bytes_eq name n ≡ false) ns
-      → Lends disks.label disks.faults name given a b → AreNamed ns ls → Borrowed disks b c ls
+      → Lends disks name given a b → AreNamed ns ls → Borrowed disks b c ls
       → IsLent (c.loan first) (disks.label given)
   journal_lent name first ns given a b c ls again apart lends named more =
       let loan : c.loan name ≡ Some (loan_by disks
@@ -79,15 +79,14 @@ module _ {D : Type 0} (disks : DiskWords D) where
   -- ---- put back
 
   same_at : (gs bs : List D) (i : ℕ) (d : D) → AreSame disks gs bs → slice_get bs i ≡ Some d
-      → (g : D) × (slice_get gs i ≡ Some g) × SameDisk disks.tells disks.room disks.label g d
+      → (g : D) × (slice_get gs i ≡ Some g) × SameDisk disks g d
   same_at [] [] i d same there = cc
   same_at [] (b ∷ bs) i d same there = absurd same
   same_at (g ∷ gs) [] i d same there = absurd same
   same_at (g ∷ gs) (b ∷ bs) zero d same there = (
     g,
     refl,
-    subst (λ (x : D). SameDisk disks.tells disks.room disks.label g x)
-        (same_item b d there) same.0,
+    subst (λ (x : D). SameDisk disks g x) (same_item b d there) same.0,
   )
   same_at (g ∷ gs) (b ∷ bs) (suc i) d same there = same_at gs bs i d same.1 there
 
@@ -166,8 +165,7 @@ module _ {D : Type 0} (disks : DiskWords D) where
       (rest : List (Lending D)) (d : D) → Handled a b (front ++ l ∷ rest) → l.back ≡ None
       → Each (IsOther l.name) front → Each (IsOther l.name) rest
       → TakesDiskBack disks.faults l.name d b c
-      → SameDisk disks.tells disks.room disks.label l.given d
-      → Handled a c (front ++ record l { back = Some d } ∷ rest)
+      → SameDisk disks l.given d → Handled a c (front ++ record l { back = Some d } ∷ rest)
   handled_one a b c front l rest d is out before behind takes same =
       let here = each_last (IsLending disks a b) front (l ∷ rest) is.0.each in (
         one_back disks a b c front l rest d is.0 before behind takes same,

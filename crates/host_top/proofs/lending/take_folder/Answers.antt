@@ -62,4 +62,4 @@ returns-in-Err-clause-unlisted g c = λ none out failed.
     let refused = rw c.deref-2.ensures.value at c.in-Err.ensures.unlisted in
     let lends = rw c.deref.ensures at c.in_ok-journal.ensures.ok in
     refused (none_still _ _ _ _ none c.in_ok-journal.ensures.listed)
-    (stores_in _ _ _ _ _ _ _ lends c.requires.journal out) (failed_so c.in-Err.why failed)
+    (stores_in _ _ _ _ _ _ lends c.requires.journal out) (failed_so c.in-Err.why failed)
