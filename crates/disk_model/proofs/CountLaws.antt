@@ -1,12 +1,13 @@
 -- Laws of device calls that are counted: one, and one piece of work after another.
-use Rattle.std.proofs.Common.{◌≡◌, ◌⊎◌, inl, inr, ℕ, ◌+◌, ◌-◌, ◌<◌, ◌≤◌, Bool, true, false, arith, refl, ◌∙◌}
+use Rattle.std.proofs.Common.{◌≡◌, ◌⊎◌, inl, inr, ℕ, ◌+◌, ◌-◌, ◌<◌, ◌≤◌, true, false, arith, refl, ◌∙◌}
 use Rattle.std.specs.Prelude.{IsTrue, Result, Ok, Err}
 use Rattle.std.proofs.lemmas.Bool.{cases_lt}
 use Rattle.disk_model.specs.Work.{GoodCalls, FailedCall, MakesCalls}
+use Rattle.disk_model.specs.declared.disk.Disk.{Ghosts as DiskWords}
 
-module _ {D : Type 0} {fails_at : D → ℕ → Bool} {moment : D → ℕ} where
+module _ {D : Type 0} {disks : DiskWords D} where
   -- no call
-  pub good_none : (d : D) → GoodCalls fails_at moment 0 d d
+  pub good_none : (d : D) → GoodCalls disks 0 d d
   good_none d = record {
     clock = omega arith;
     unlisted = λ k lt. absurd (omega (arith, lt));
@@ -15,23 +16,25 @@ module _ {D : Type 0} {fails_at : D → ℕ → Bool} {moment : D → ℕ} where
 
   -- the same moments, said of the disk before
   moved :
-      {old mid : D} {n j : ℕ} (k : ℕ) → GoodCalls fails_at moment n old mid → j ≡ n + k
-      → IsTrue (fails_at old (moment old + j)) → IsTrue (fails_at mid (moment mid + k))
+      {old mid : D} {n j : ℕ} (k : ℕ) → GoodCalls disks n old mid → j ≡ n + k
+      → IsTrue (disks.fails_at old (disks.moment old + j))
+      → IsTrue (disks.fails_at mid (disks.moment mid + k))
   moved {old} {mid} {n} {j} k good is told =
-      let same : moment mid + k ≡ moment old + j = omega (arith, good.clock, is) in
+      let same : disks.moment mid + k ≡ disks.moment old + j = omega (arith, good.clock, is) in
       rw (same, good.list) told
 
   pub moved_back :
-      {old mid : D} {n j : ℕ} (k : ℕ) → GoodCalls fails_at moment n old mid → j ≡ n + k
-      → IsTrue (fails_at mid (moment mid + k)) → IsTrue (fails_at old (moment old + j))
+      {old mid : D} {n j : ℕ} (k : ℕ) → GoodCalls disks n old mid → j ≡ n + k
+      → IsTrue (disks.fails_at mid (disks.moment mid + k))
+      → IsTrue (disks.fails_at old (disks.moment old + j))
   moved_back {old} {mid} {n} {j} k good is told =
-      let same : moment mid + k ≡ moment old + j = omega (arith, good.clock, is) in
+      let same : disks.moment mid + k ≡ disks.moment old + j = omega (arith, good.clock, is) in
       rw (same, good.list) at told
 
   none_in_front :
-      {old mid : D} {n m : ℕ} → GoodCalls fails_at moment n old mid
-      → ((k : ℕ) → k < m → IsTrue (fails_at mid (moment mid + k)) → ⊥)
-      → (k : ℕ) → k < n + m → IsTrue (fails_at old (moment old + k)) → ⊥
+      {old mid : D} {n m : ℕ} → GoodCalls disks n old mid
+      → ((k : ℕ) → k < m → IsTrue (disks.fails_at mid (disks.moment mid + k)) → ⊥)
+      → (k : ℕ) → k < n + m → IsTrue (disks.fails_at old (disks.moment old + k)) → ⊥
   none_in_front {old} {mid} {n} {m} good none k lt told = elim (cases_lt k n) [
     | inl first ↦ good.unlisted k first told
     | inr later ↦
@@ -40,8 +43,8 @@ module _ {D : Type 0} {fails_at : D → ℕ → Bool} {moment : D → ℕ} where
 
   -- good ones behind good ones
   pub good_then :
-      {old mid new : D} (n m : ℕ) → GoodCalls fails_at moment n old mid
-      → GoodCalls fails_at moment m mid new → GoodCalls fails_at moment (n + m) old new
+      {old mid new : D} (n m : ℕ) → GoodCalls disks n old mid
+      → GoodCalls disks m mid new → GoodCalls disks (n + m) old new
   good_then n m first second = record {
     clock = omega (arith, first.clock, second.clock);
     unlisted = none_in_front first second.unlisted;
@@ -50,12 +53,13 @@ module _ {D : Type 0} {fails_at : D → ℕ → Bool} {moment : D → ℕ} where
 
   -- one call that was good
   pub good_one :
-      {old new : D} → (IsTrue (fails_at old (moment old)) → ⊥) → moment new ≡ moment old + 1
-      → fails_at new ≡ fails_at old → GoodCalls fails_at moment 1 old new
+      {old new : D} → (IsTrue (disks.fails_at old (disks.moment old)) → ⊥)
+      → disks.moment new ≡ disks.moment old + 1
+      → disks.fails_at new ≡ disks.fails_at old → GoodCalls disks 1 old new
   good_one {old} none clock list = record {
     clock = clock;
     unlisted = λ k lt told.
-        let here : moment old + k ≡ moment old = omega (arith, lt) in
+        let here : disks.moment old + k ≡ disks.moment old = omega (arith, lt) in
         none (rw here at told);
     list = list;
   }
@@ -63,26 +67,25 @@ module _ {D : Type 0} {fails_at : D → ℕ → Bool} {moment : D → ℕ} where
   -- as its answer says
   pub answered :
       {E F : Type 0} {old new : D} → (E → ⊥)
-      → (IsTrue (fails_at old (moment old)) → E)
-      → (moment new ≡ moment old + 1) ⊎ (E × F)
-      → fails_at new ≡ fails_at old → GoodCalls fails_at moment 1 old new
+      → (IsTrue (disks.fails_at old (disks.moment old)) → E)
+      → (disks.moment new ≡ disks.moment old + 1) ⊎ (E × F)
+      → disks.fails_at new ≡ disks.fails_at old → GoodCalls disks 1 old new
   answered never err (inl clock) list = good_one (λ told. never (err told)) clock list
   answered never err (inr found) list = absurd (never found.0)
 
   -- as it answered Ok, which is no error
   pub answered_ok :
-      {F : Type 0} {old new : D} → (IsTrue (fails_at old (moment old)) → false ≡ true)
-      → (moment new ≡ moment old + 1) ⊎ ((false ≡ true) × F)
-      → fails_at new ≡ fails_at old → GoodCalls fails_at moment 1 old new
+      {F : Type 0} {old new : D} → (IsTrue (disks.fails_at old (disks.moment old)) → false ≡ true)
+      → (disks.moment new ≡ disks.moment old + 1) ⊎ ((false ≡ true) × F)
+      → disks.fails_at new ≡ disks.fails_at old → GoodCalls disks 1 old new
   answered_ok err clock list = answered (λ is_err. absurd (cc)) err clock list
 
-module _ {D : Type 0} {fails_at : D → ℕ → Bool} {moment room : D → ℕ} where
+module _ {D : Type 0} {disks : DiskWords D} where
   -- one that failed behind good ones
   pub failed_then :
-      {old mid new : D} (n k end far : ℕ) → GoodCalls fails_at moment n old mid
-      → room mid ≡ room old → end ≤ far
-      → FailedCall fails_at moment room end k mid new
-      → FailedCall fails_at moment room far (n + k) old new
+      {old mid new : D} (n k end far : ℕ) → GoodCalls disks n old mid
+      → disks.room mid ≡ disks.room old → end ≤ far → FailedCall disks end k mid new
+      → FailedCall disks far (n + k) old new
   failed_then {old} {mid} {new} n k end far good same le fault = record {
     unlisted = none_in_front good fault.unlisted;
     failed = go fault.failed;
@@ -90,25 +93,24 @@ module _ {D : Type 0} {fails_at : D → ℕ → Bool} {moment room : D → ℕ} 
   }
     where
       why :
-          IsTrue (fails_at mid (moment mid + k)) ⊎ (room mid < end)
-          → IsTrue (fails_at old (moment old + (n + k))) ⊎ (room old < far)
+          IsTrue (disks.fails_at mid (disks.moment mid + k)) ⊎ (disks.room mid < end)
+          → IsTrue (disks.fails_at old (disks.moment old + (n + k))) ⊎ (disks.room old < far)
       why (inl listed) = inl (moved_back k good refl listed)
       why (inr full) = inr (omega (arith, full, same, le))
 
       go :
-          (moment new ≡ moment mid + k)
-          ⊎ ((moment new ≡ moment mid + k + 1)
-          × (IsTrue (fails_at mid (moment mid + k)) ⊎ (room mid < end)))
-          → (moment new ≡ moment old + (n + k))
-          ⊎ ((moment new ≡ moment old + (n + k) + 1)
-          × (IsTrue (fails_at old (moment old + (n + k))) ⊎ (room old < far)))
+          (disks.moment new ≡ disks.moment mid + k) ⊎ ((disks.moment new ≡ disks.moment mid + k + 1)
+          × (IsTrue (disks.fails_at mid (disks.moment mid + k)) ⊎ (disks.room mid < end)))
+          → (disks.moment new ≡ disks.moment old + (n + k))
+          ⊎ ((disks.moment new ≡ disks.moment old + (n + k) + 1)
+          × (IsTrue (disks.fails_at old (disks.moment old + (n + k))) ⊎ (disks.room old < far)))
       go (inl none) = inl (omega (arith, none, good.clock))
       go (inr counted) = inr (omega (arith, counted.0, good.clock), why counted.1)
 
   -- with an end that is farther
   pub failed_farther :
-      {old new : D} {k end far : ℕ} → end ≤ far → FailedCall fails_at moment room end k old new
-      → FailedCall fails_at moment room far k old new
+      {old new : D} {k end far : ℕ} → end ≤ far → FailedCall disks end k old new
+      → FailedCall disks far k old new
   failed_farther {old} {new} {k} {end} {far} le fault = record {
     unlisted = fault.unlisted;
     failed = go fault.failed;
@@ -116,20 +118,19 @@ module _ {D : Type 0} {fails_at : D → ℕ → Bool} {moment room : D → ℕ} 
   }
     where
       go :
-          (moment new ≡ moment old + k)
-          ⊎ ((moment new ≡ moment old + k + 1)
-          × (IsTrue (fails_at old (moment old + k)) ⊎ (room old < end)))
-          → (moment new ≡ moment old + k)
-          ⊎ ((moment new ≡ moment old + k + 1)
-          × (IsTrue (fails_at old (moment old + k)) ⊎ (room old < far)))
+          (disks.moment new ≡ disks.moment old + k) ⊎ ((disks.moment new ≡ disks.moment old + k + 1)
+          × (IsTrue (disks.fails_at old (disks.moment old + k)) ⊎ (disks.room old < end)))
+          → (disks.moment new ≡ disks.moment old + k)
+          ⊎ ((disks.moment new ≡ disks.moment old + k + 1)
+          × (IsTrue (disks.fails_at old (disks.moment old + k)) ⊎ (disks.room old < far)))
       go (inl none) = inl none
       go (inr (clock, inl listed)) = inr (clock, inl listed)
       go (inr (clock, inr full)) = inr (clock, inr (omega (arith, full, le)))
 
   -- within the room, one that failed was to fail or found no memory
   pub failed_within :
-      {old new : D} {k end : ℕ} → end ≤ room old → FailedCall fails_at moment room end k old new
-      → FailedCall fails_at moment room 0 k old new
+      {old new : D} {k end : ℕ} → end ≤ disks.room old → FailedCall disks end k old new
+      → FailedCall disks 0 k old new
   failed_within {old} {new} {k} {end} le fault = record {
     unlisted = fault.unlisted;
     failed = go fault.failed;
@@ -137,12 +138,11 @@ module _ {D : Type 0} {fails_at : D → ℕ → Bool} {moment room : D → ℕ} 
   }
     where
       go :
-          (moment new ≡ moment old + k)
-          ⊎ ((moment new ≡ moment old + k + 1)
-          × (IsTrue (fails_at old (moment old + k)) ⊎ (room old < end)))
-          → (moment new ≡ moment old + k)
-          ⊎ ((moment new ≡ moment old + k + 1)
-          × (IsTrue (fails_at old (moment old + k)) ⊎ (room old < 0)))
+          (disks.moment new ≡ disks.moment old + k) ⊎ ((disks.moment new ≡ disks.moment old + k + 1)
+          × (IsTrue (disks.fails_at old (disks.moment old + k)) ⊎ (disks.room old < end)))
+          → (disks.moment new ≡ disks.moment old + k)
+          ⊎ ((disks.moment new ≡ disks.moment old + k + 1)
+          × (IsTrue (disks.fails_at old (disks.moment old + k)) ⊎ (disks.room old < 0)))
       go (inl none) = inl none
       go (inr (clock, inl listed)) = inr (clock, inl listed)
       go (inr (clock, inr full)) = absurd (omega (arith, full, le))
@@ -150,11 +150,11 @@ module _ {D : Type 0} {fails_at : D → ℕ → Bool} {moment room : D → ℕ} 
   -- Where this is the first that was to fail, it is the one that failed, or none up to it found
   -- memory.
   pub first_listed :
-      {old new : D} {k end : ℕ} (j : ℕ) → end ≤ room old
-      → ((i : ℕ) → i < j → IsTrue (fails_at old (moment old + i)) → ⊥)
-      → IsTrue (fails_at old (moment old + j)) → FailedCall fails_at moment room end k old new
-      → ((k ≡ j) × (moment new ≡ moment old + j + 1))
-      ⊎ ((moment new ≡ moment old + k) × (k ≤ j))
+      {old new : D} {k end : ℕ} (j : ℕ) → end ≤ disks.room old
+      → ((i : ℕ) → i < j → IsTrue (disks.fails_at old (disks.moment old + i)) → ⊥)
+      → IsTrue (disks.fails_at old (disks.moment old + j)) → FailedCall disks end k old new
+      → ((k ≡ j) × (disks.moment new ≡ disks.moment old + j + 1))
+      ⊎ ((disks.moment new ≡ disks.moment old + k) × (k ≤ j))
   first_listed {old} {new} {k} {end} j le none listed fault = elim (cases_lt j k) [
     | inl past ↦ absurd (fault.unlisted j past listed)
     | inr upto ↦ go upto fault.failed
@@ -162,11 +162,11 @@ module _ {D : Type 0} {fails_at : D → ℕ → Bool} {moment room : D → ℕ} 
     where
       go :
           k ≤ j
-          → (moment new ≡ moment old + k)
-          ⊎ ((moment new ≡ moment old + k + 1)
-          × (IsTrue (fails_at old (moment old + k)) ⊎ (room old < end)))
-          → ((k ≡ j) × (moment new ≡ moment old + j + 1))
-          ⊎ ((moment new ≡ moment old + k) × (k ≤ j))
+          → (disks.moment new ≡ disks.moment old + k)
+          ⊎ ((disks.moment new ≡ disks.moment old + k + 1)
+          × (IsTrue (disks.fails_at old (disks.moment old + k)) ⊎ (disks.room old < end)))
+          → ((k ≡ j) × (disks.moment new ≡ disks.moment old + j + 1))
+          ⊎ ((disks.moment new ≡ disks.moment old + k) × (k ≤ j))
       go upto (inl found) = inr (found, upto)
       go upto (inr (clock, inr full)) = absurd (omega (arith, full, le))
       go upto (inr (clock, inl told)) = elim (cases_lt k j) [
@@ -179,9 +179,9 @@ module _ {D : Type 0} {fails_at : D → ℕ → Bool} {moment room : D → ℕ} 
   -- one call that failed
   pub failed_one :
       {old new : D} (end : ℕ)
-      → (moment new ≡ moment old)
-      ⊎ ((moment new ≡ moment old + 1) × (IsTrue (fails_at old (moment old)) ⊎ (room old < end)))
-      → fails_at new ≡ fails_at old → FailedCall fails_at moment room end 0 old new
+      → (disks.moment new ≡ disks.moment old) ⊎ ((disks.moment new ≡ disks.moment old + 1)
+      × (IsTrue (disks.fails_at old (disks.moment old)) ⊎ (disks.room old < end)))
+      → disks.fails_at new ≡ disks.fails_at old → FailedCall disks end 0 old new
   failed_one {old} {new} end why list = record {
     unlisted = λ j lt. absurd (omega (arith, lt));
     failed = go why;
@@ -189,57 +189,54 @@ module _ {D : Type 0} {fails_at : D → ℕ → Bool} {moment room : D → ℕ} 
   }
     where
       go :
-          (moment new ≡ moment old)
-          ⊎ ((moment new ≡ moment old + 1) × (IsTrue (fails_at old (moment old)) ⊎ (room old < end)))
-          → (moment new ≡ moment old + 0)
-          ⊎ ((moment new ≡ moment old + 0 + 1)
-          × (IsTrue (fails_at old (moment old + 0)) ⊎ (room old < end)))
+          (disks.moment new ≡ disks.moment old) ⊎ ((disks.moment new ≡ disks.moment old + 1) ×
+          (IsTrue (disks.fails_at old (disks.moment old)) ⊎ (disks.room old < end)))
+          → (disks.moment new ≡ disks.moment old + 0)
+          ⊎ ((disks.moment new ≡ disks.moment old + 0 + 1)
+          × (IsTrue (disks.fails_at old (disks.moment old + 0)) ⊎ (disks.room old < end)))
       go (inl none) = inl (omega (arith, none))
       go (inr (clock, inl listed)) =
-          let here : moment old + 0 ≡ moment old = omega arith in
+          let here : disks.moment old + 0 ≡ disks.moment old = omega arith in
           inr (omega (arith, clock), inl (rw here listed))
       go (inr (clock, inr full)) = inr (omega (arith, clock), inr full)
 
   -- as its answer says
   pub refused :
-      {E F : Type 0} {old new : D} (end : ℕ) → (F → moment new ≡ moment old)
-      → F ⊎ IsTrue (fails_at old (moment old)) ⊎ (room old < end)
-      → (moment new ≡ moment old + 1) ⊎ (E × F)
-      → fails_at new ≡ fails_at old → FailedCall fails_at moment room end 0 old new
+      {E F : Type 0} {old new : D} (end : ℕ) → (F → disks.moment new ≡ disks.moment old)
+      → F ⊎ IsTrue (disks.fails_at old (disks.moment old)) ⊎ (disks.room old < end)
+      → (disks.moment new ≡ disks.moment old + 1) ⊎ (E × F)
+      → disks.fails_at new ≡ disks.fails_at old → FailedCall disks end 0 old new
   refused end none (inl found) clock list = failed_one end (inl (none found)) list
   refused end none (inr why) (inl counted) list = failed_one end (inr (counted, why)) list
   refused end none (inr why) (inr found) list = failed_one end (inl (none found.1)) list
 
 -- one of the first n calls since then failed
 abbrev pub FailsAmong :
-    {D : Type 0} → (D → ℕ → Bool) → (D → ℕ) → (D → ℕ) → ℕ → ℕ → D → D → Type 0
-FailsAmong fails_at moment room end n old new =
-    (k : ℕ) × (k < n) × FailedCall fails_at moment room end k old new
+    {D : Type 0} → DiskWords D → ℕ → ℕ → D → D → Type 0
+FailsAmong disks end n old new =
+    (k : ℕ) × (k < n) × FailedCall disks end k old new
 
-module _ {D : Type 0} {fails_at : D → ℕ → Bool} {moment room : D → ℕ} where
+module _ {D : Type 0} {disks : DiskWords D} where
   -- it is one of more calls, with an end that is farther
   pub among_more :
       {old new : D} (n m end far : ℕ) → n ≤ m → end ≤ far
-      → FailsAmong fails_at moment room end n old new
-      → FailsAmong fails_at moment room far m old new
+      → FailsAmong disks end n old new → FailsAmong disks far m old new
   among_more n m end far few le fails =
       (fails.0, omega (arith, fails.1, few), failed_farther le fails.2)
 
   -- and one of the calls behind good ones
   pub among_then :
-      {old mid new : D} (n m end far : ℕ) → GoodCalls fails_at moment n old mid
-      → room mid ≡ room old → end ≤ far → FailsAmong fails_at moment room end m mid new
-      → FailsAmong fails_at moment room far (n + m) old new
+      {old mid new : D} (n m end far : ℕ) → GoodCalls disks n old mid
+      → disks.room mid ≡ disks.room old → end ≤ far → FailsAmong disks end m mid new
+      → FailsAmong disks far (n + m) old new
   among_then n m end far good same le fails =
       (n + fails.0, omega (arith, fails.1), failed_then n fails.0 end far good same le fails.2)
 
 -- a piece of work behind calls that were good
 pub calls_then :
-    {D T E : Type 0} {fails_at : D → ℕ → Bool} {moment : D → ℕ} (room : D → ℕ) {old mid : D}
-    (new : D) (result : Result T E) (n m end far : ℕ) → GoodCalls fails_at moment n old mid
-    → room mid ≡ room old → end ≤ far
-    → MakesCalls fails_at moment room end m result mid new
-    → MakesCalls fails_at moment room far (n + m) result old new
-calls_then room new (Ok x) n m end far good same le calls = good_then n m good calls
-calls_then room new (Err e) n m end far good same le calls =
+    {D T E : Type 0} (disks : DiskWords D) {old mid : D} (new : D) (result : Result T E)
+    (n m end far : ℕ) → GoodCalls disks n old mid → disks.room mid ≡ disks.room old → end ≤ far
+    → MakesCalls disks end m result mid new → MakesCalls disks far (n + m) result old new
+calls_then disks new (Ok x) n m end far good same le calls = good_then n m good calls
+calls_then disks new (Err e) n m end far good same le calls =
     among_then n m end far good same le calls

@@ -1,5 +1,5 @@
 -- What the calls of a disk do to its bytes, and what a stop may leave of them (own).
-use Rattle.std.specs.Prelude.{◌≡◌, ◌⊎◌, ℕ, ◌+◌, ◌-◌, ◌^◌, ◌<◌, ◌≤◌, min, max, Bool, IsTrue, List}
+use Rattle.std.specs.Prelude.{◌≡◌, ◌⊎◌, ℕ, ◌+◌, ◌-◌, ◌^◌, ◌<◌, ◌≤◌, min, max, Bool, List}
 use Rattle.std.specs.Prelude.{◌++◌, length, take, drop, replicate, slice_index, Result, MatchResult}
 
 -- the file has these bytes at this place
@@ -44,13 +44,6 @@ Only file images = (c : List ℕ) → images c → c ≡ file
 abbrev pub AfterWrite : ℕ → ℕ → (List ℕ → Type 0) → List ℕ → Type 0
 AfterWrite at n old c = (d : List ℕ) × old d × Torn at n d c
 
--- where the disk tells: each image that a stop may leave now has P
-abbrev pub EachImage :
-    {D : Type 0} → (D → Bool) → (D → List ℕ → Type 0) → D → (List ℕ → Type 0)
-    → Type 0
-EachImage tells may_leave disk P =
-    IsTrue (tells disk) → (c : List ℕ) → may_leave disk c → P c
-
 -- time goes on: an image of a moment since t was one before, or is one now
 pub record Elapses
     (before now : ℕ)
@@ -60,22 +53,6 @@ pub record Elapses
   pub nothing_else : (t : ℕ) (c : List ℕ) → t ≤ before → since t c
       → past t c ⊎ may_leave c
   pub keeps : (t : ℕ) (c : List ℕ) → t ≤ before → past t c → since t c
-
--- each image of a moment since the old disk has P
-pub record LeavesOnly
-    {D : Type 0}
-    (moment : D → ℕ)
-    (left_since : D → ℕ → List ℕ → Type 0)
-    (old new : D)
-    (P : List ℕ → Type 0) : Type 0 where
-  pub later : moment old ≤ moment new
-  pub each : (c : List ℕ) → left_since new (moment old) c → P c
-  -- for a run that began earlier
-  pub before :
-      (t : ℕ) (c : List ℕ) → t ≤ moment old → left_since new t c
-      → left_since old t c ⊎ P c
-  pub keeps : (t : ℕ) (c : List ℕ) → t ≤ moment old → left_since old t c
-      → left_since new t c
 
 -- the count rose, or stands at the end of a u64
 abbrev pub Rose : ℕ → ℕ → Type 0
@@ -100,23 +77,8 @@ pub record FindsNoMemory
   pub none_lost : NoneNew (may_leave new) (may_leave old)
 
 -- what no call changes
-pub record SameDisk
+pub record KeepsWords
     {D : Type 0} (tells : D → Bool) (room label : D → ℕ) (old new : D) : Type 0 where
   pub telling : tells new ≡ tells old
   pub size : room new ≡ room old
   pub name : label new ≡ label old
-
--- nothing was written: no image is new, now or at any moment since
-pub record OnlyLooks
-    {D : Type 0}
-    (tells : D → Bool)
-    (may_leave : D → List ℕ → Type 0)
-    (moment : D → ℕ)
-    (left_since : D → ℕ → List ℕ → Type 0)
-    (reach room label : D → ℕ)
-    (old new : D) : Type 0 where
-  pub images : IsTrue (tells old) → NoneNew (may_leave old) (may_leave new)
-  pub moments :
-      IsTrue (tells old) → LeavesOnly moment left_since old new (may_leave old)
-  pub asked : reach new ≡ reach old
-  pub same : SameDisk tells room label old new

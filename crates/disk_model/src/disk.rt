@@ -3,7 +3,7 @@
 ghost use Rattle.std.specs.Prelude.{◌≡◌, ◌⊎◌, ◌+◌, ◌<◌, ◌≤◌, ◌^◌, ℕ, Bool, List, length, max};
 ghost use Rattle.std.specs.Prelude.{IsTrue, IsOk, IsErr, IfOk, OnOk, OnErr, is_ok};
 ghost use Rattle.disk_model.specs.Disk.{ReadsFile, file_written, Torn, Follows, NoneNew, Only};
-ghost use Rattle.disk_model.specs.Disk.{Elapses, CountsErrors, SameDisk, FindsNoMemory};
+ghost use Rattle.disk_model.specs.Disk.{Elapses, CountsErrors, KeepsWords, FindsNoMemory};
 ghost use Rattle.disk_model.specs.DiskState.{Asked, Looked, Wrote, Synced};
 
 /// The call failed, and was counted.
@@ -75,7 +75,7 @@ pub trait Disk {
             → (moment self.new ≡ moment self.old + 1)
             ⊎ (IsErr result × FindsNoMemory seen may_leave moment self.old self.new) }
         ensures reach { reach self.new ≡ reach self.old }
-        ensures kept { SameDisk tells room label self.old self.new }
+        ensures kept { KeepsWords tells room label self.old self.new }
         ensures whole { makes self.old Looked (is_ok result) self.new };
 
     /// Fills `into` with the bytes from this place on, and with zeros past the end.
@@ -102,7 +102,7 @@ pub trait Disk {
             → (moment self.new ≡ moment self.old + 1)
             ⊎ (IsErr result × FindsNoMemory seen may_leave moment self.old self.new) }
         ensures reach { reach self.new ≡ reach self.old }
-        ensures kept { SameDisk tells room label self.old self.new }
+        ensures kept { KeepsWords tells room label self.old self.new }
         ensures whole { makes self.old Looked (is_ok result) self.new };
 
     /// Puts the piece at this place, with zeros where that leaves a gap past the old end.
@@ -133,7 +133,7 @@ pub trait Disk {
             → (moment self.new ≡ moment self.old + 1)
             ⊎ (IsErr result × FindsNoMemory seen may_leave moment self.old self.new) }
         ensures reach { reach self.new ≡ max (reach self.old) (place + length piece.now) }
-        ensures kept { SameDisk tells room label self.old self.new }
+        ensures kept { KeepsWords tells room label self.old self.new }
         ensures whole { makes self.old (Wrote place piece.now) (is_ok result) self.new };
 
     /// After one that answers Ok a stop leaves what a read gives, and nothing else.
@@ -159,7 +159,7 @@ pub trait Disk {
             → (moment self.new ≡ moment self.old + 1)
             ⊎ (IsErr result × FindsNoMemory seen may_leave moment self.old self.new) }
         ensures reach { reach self.new ≡ reach self.old }
-        ensures kept { SameDisk tells room label self.old self.new }
+        ensures kept { KeepsWords tells room label self.old self.new }
         ensures whole { makes self.old Synced (is_ok result) self.new };
 
     /// The count of calls that failed.

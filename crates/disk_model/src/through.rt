@@ -1,9 +1,9 @@
 //! A write that is durable before it answers.
 
 ghost use Rattle.std.specs.Prelude.{◌≡◌, ◌+◌, ◌≤◌, IsTrue, IsOk, OnOk, length, max};
-ghost use Rattle.disk_model.specs.Disk.{file_written, Only, LeavesOnly, CountsErrors, SameDisk};
+ghost use Rattle.disk_model.specs.Disk.{file_written, Only, CountsErrors};
 ghost use Rattle.disk_model.specs.Disk.{AfterWrite};
-ghost use Rattle.disk_model.specs.Work.{MakesCalls};
+ghost use Rattle.disk_model.specs.Work.{LeavesOnly, SameDisk, MakesCalls};
 
 use crate::{Disk, Failed};
 
@@ -18,13 +18,12 @@ pub fn write_through<D: Disk>(disk: &mut D, place: u64, piece: &[u8]) -> Result<
     ensures steady { IsTrue (D.steady disk.old) → IsTrue (D.steady disk.new) }
     ensures cause { CountsErrors result (D.faults disk.old) (D.faults disk.new) }
     ensures crash { IsTrue (D.tells disk.old)
-        → LeavesOnly D.moment D.left_since disk.old disk.new
+        → LeavesOnly D.Disk disk.old disk.new
         (AfterWrite place (length piece.now) (D.may_leave disk.old)) }
     ensures reach { D.reach disk.new ≡ max (D.reach disk.old) (place + length piece.now) }
-    ensures kept { SameDisk D.tells D.room D.label disk.old disk.new }
+    ensures kept { SameDisk D.Disk disk.old disk.new }
     ensures calls { IsTrue (D.tells disk.old)
-        → MakesCalls D.fails_at D.moment D.room (place + length piece.now) 2
-        result disk.old disk.new }
+        → MakesCalls D.Disk (place + length piece.now) 2 result disk.old disk.new }
 {
     disk.write_at(place, piece)?;
     disk.sync()?;

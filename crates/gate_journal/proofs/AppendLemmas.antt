@@ -3,8 +3,9 @@
 use Rattle.std.proofs.Common.{◌≡◌, ◌⊎◌, ℕ, ◌+◌, ◌<◌, ◌≤◌, Bool, List, [], ◌∷◌, ◌++◌, length}
 use Rattle.std.proofs.Common.{refl, sym, ◌∙◌, ap, arith}
 use Rattle.std.specs.Prelude.{IsTrue, Option, Some, None, IfSome, Result, Ok}
-use Rattle.disk_model.specs.Work.{Triple}
-use Rattle.disk_model.specs.Disk.{LeavesOnly, EachImage, Rose, Holds}
+use Rattle.disk_model.specs.Work.{LeavesOnly, EachImage, Triple}
+use Rattle.disk_model.specs.Disk.{Rose, Holds}
+use Rattle.disk_model.specs.declared.disk.Disk.{Ghosts as DiskWords}
 use Rattle.gate_journal.specs.declared.command.Command.{Command}
 use Rattle.gate_journal.specs.declared.row.Row.{Row}
 use Rattle.gate_journal.specs.declared.entry.Entry.{Entry}
@@ -28,14 +29,12 @@ faulted_rows {D = D} {log = log} q from to is pushed =
     ∙ append-nil (rows_of log.entries)
     ∙ ap (λ (l : Log D). rows_of l.entries) is
 
-module _
-    {D : Type 0} {tells : D → Bool} {may_leave : D → List ℕ → Type 0} {room faults : D → ℕ}
-    {log old : Log D} {end : ℕ} (is : log ≡ old)
-    (sound : IsSoundJournal tells may_leave room faults log end) where
+module _ {D : Type 0} {disks : DiskWords D} {log old : Log D} {end : ℕ} (is : log ≡ old)
+    (sound : IsSoundJournal disks log end) where
   -- what the images of each journal spell, and that they may be opened
   pub images_spell : (disk : D)
       → log.disk ≡ disk
-      → EachImage tells may_leave disk (MaySpell (rows_of old.entries) old.uncertain)
+      → EachImage disks disk (MaySpell (rows_of old.entries) old.uncertain)
   images_spell disk same =
       rw (← same, ← is) (λ told c now.
       stands_well (rows_of log.entries) log.uncertain c sound.journal sound.next
@@ -43,7 +42,7 @@ module _
 
   pub images_open : (disk : D)
       → log.disk ≡ disk
-      → EachImage tells may_leave disk (MayOpen (rows_of old.entries))
+      → EachImage disks disk (MayOpen (rows_of old.entries))
   images_open disk same =
       rw (← same, ← is) (λ told c now.
       stands_closed (rows_of log.entries) log.uncertain c sound.next (sound.images told c now))
@@ -51,7 +50,7 @@ module _
   -- what stands in them, by name
   pub images_stand : (disk : D)
       → log.disk ≡ disk
-      → EachImage tells may_leave disk (StandsInImage (rows_of old.entries) old.uncertain)
+      → EachImage disks disk (StandsInImage (rows_of old.entries) old.uncertain)
   images_stand disk same = rw (← same, ← is) sound.images
 
   pub uncertain_next : IfSome old.uncertain (IsNext (rows_of old.entries))
@@ -62,10 +61,9 @@ abbrev row_at : ℕ → ℕ → Command → Row
 row_at end session command =
     record { place = end; session = session; by = session + 1; command = command }
 
-module _
-    {D : Type 0} {tells : D → Bool} {may_leave : D → List ℕ → Type 0} {room faults : D → ℕ}
-    {log old : Log D} {end session : ℕ} {command : Command} (is : log ≡ old)
-    (sound : IsSoundJournal tells may_leave room faults log end)
+module _ {D : Type 0} {disks : DiskWords D} {log old : Log D} {end session : ℕ}
+    {command : Command} (is : log ≡ old)
+    (sound : IsSoundJournal disks log end)
     (stands : MayStand (rows_of old.entries) session command) where
   abbrev rows : List Row
   rows = rows_of log.entries
@@ -84,35 +82,33 @@ module _
   row_is made = made ∙ ap (λ (k : ℕ). row_at k session command) sound.ends
 
   -- what the repair says, and the writing of the row
-  abbrev Repairs : {T E : Type 0} → (D → ℕ) → (D → ℕ → List ℕ → Type 0) → Result T E → D → Type 0
-  Repairs moment left_since result mid =
+  abbrev Repairs : {T E : Type 0} → Result T E → D → Type 0
+  Repairs result mid =
       (l : List Row) → end ≡ length (journal_bytes l)
-      → Triple tells may_leave moment left_since result log.disk mid (StandsInImage l log.uncertain)
+      → Triple disks result log.disk mid (StandsInImage l log.uncertain)
       (StandsInImage l log.uncertain) (StandsInImage l None)
 
   abbrev Writes :
-      {T E : Type 0} → (D → ℕ) → (D → ℕ → List ℕ → Type 0) → List ℕ → Result T E → D → D → Type 0
-  Writes moment left_since past result mid new =
+      {T E : Type 0} → List ℕ → Result T E → D → D → Type 0
+  Writes past result mid new =
       (front : List ℕ) → length front ≡ end
-      → Triple tells may_leave moment left_since result mid new (IsShut front)
+      → Triple disks result mid new (IsShut front)
       (λ c. IsShut front c ⊎ IsUnsure front past c) (λ c. Holds c 0 (front ++ 1 ∷ past))
 
   abbrev After : D → D → (List ℕ → List ℕ → Type 0) → Type 0
   After mid new P =
-      (front : List ℕ) → length front ≡ end → EachImage tells may_leave mid (IsShut front)
-      → EachImage tells may_leave new (P front)
+      (front : List ℕ) → length front ≡ end → EachImage disks mid (IsShut front)
+      → EachImage disks new (P front)
 
   -- meanwhile, until the repair ends
   pub crash_repair :
-      {T E : Type 0} {result : Result T E} {moment : D → ℕ}
-      {left_since : D → ℕ → List ℕ → Type 0} {mid : D}
-      → Repairs moment left_since result mid → IsTrue (tells old.disk)
-      → LeavesOnly moment left_since old.disk mid
+      {T E : Type 0} {result : Result T E} {mid : D}
+      → Repairs result mid → IsTrue (disks.tells old.disk) → LeavesOnly disks old.disk mid
       (Meanwhile (rows_of old.entries) old.uncertain
       (next_row (rows_of old.entries) session command))
-  crash_repair {moment = moment} {left_since = left_since} {mid = mid} crash =
+  crash_repair {mid = mid} crash =
       rw (← is) (λ told.
-      settled moment left_since rows log.uncertain r sound.journal next sound.next log.disk mid
+      settled disks rows log.uncertain r sound.journal next sound.next log.disk mid
       ((crash rows sound.ends).meanwhile told (sound.images told)))
 
   -- the entries with the row's fault
@@ -136,10 +132,11 @@ module _
   -- the journal is sound with a fault more, which came after this much was done
   abbrev Faults : D → D → List Entry → Option Row → Row → ℕ → ℕ → List D → Bool → Type 0
   Faults mid new entries uncertain q from to steps ready =
-      entries ≡ log.entries ++ Faulted q from to ∷ [] → room new ≡ room log.disk
-      → from ≡ faults log.disk → to ≡ faults new → faults mid ≡ faults log.disk
-      → (faults mid ≤ faults new) × Rose (faults mid) (faults new)
-      → IsSoundJournal tells may_leave room faults
+      entries ≡ log.entries ++ Faulted q from to ∷ [] → disks.room new ≡ disks.room log.disk
+      → from ≡ disks.faults log.disk → to ≡ disks.faults new
+      → disks.faults mid ≡ disks.faults log.disk
+      → (disks.faults mid ≤ disks.faults new) × Rose (disks.faults mid) (disks.faults new)
+      → IsSoundJournal disks
       (record log {
         disk = new;
         entries = entries;
@@ -153,11 +150,11 @@ module _
       {mid new : D} {entries : List Entry} {uncertain : Option Row} {from to : ℕ} {steps : List D}
       {ready : Bool} (q : Row) (known : Option Row)
       → uncertain ≡ known → IfSome known (IsNext rows)
-      → EachImage tells may_leave new (StandsInImage rows known)
+      → EachImage disks new (StandsInImage rows known)
       → Faults mid new entries uncertain q from to steps ready
   faulted {new = new} {entries = entries} {from = from} {to = to} {steps = steps} {ready = ready} q
       known so next_one images pushed size is_from is_to none_yet counts =
-      rw so (sound_faulted tells may_leave room faults log end new entries known q from to steps
+      rw so (sound_faulted disks log end new entries known q from to steps
       ready sound pushed size is_from is_to (omega (arith, is_from, is_to, none_yet, counts.0))
       (omega (arith, is_from, is_to, none_yet, counts.1)) next_one images)
 
@@ -165,17 +162,15 @@ module _
   pub sound_unrepaired :
       {new : D} {entries : List Entry} {uncertain : Option Row} {from to : ℕ} {steps : List D}
       {ready : Bool} (q : Row)
-      → uncertain ≡ log.uncertain → EachImage tells may_leave new (StandsInImage rows log.uncertain)
+      → uncertain ≡ log.uncertain → EachImage disks new (StandsInImage rows log.uncertain)
       → Faults log.disk new entries uncertain q from to steps ready
   sound_unrepaired q so images = faulted {mid = log.disk} q log.uncertain so sound.next images
 
   -- where the repair ended Ok
-  module _
-      {T E : Type 0} {value : T} {moment : D → ℕ} {left_since : D → ℕ → List ℕ → Type 0} {mid : D}
-      (repairs : Repairs {E = E} moment left_since (Ok value) mid)
-      (same : tells mid ≡ tells log.disk) where
+  module _ {T E : Type 0} {value : T} {mid : D} (repairs : Repairs {E = E} (Ok value) mid)
+      (same : disks.tells mid ≡ disks.tells log.disk) where
     -- it leaves a closed gate
-    shut : EachImage tells may_leave mid (IsShut (journal_bytes rows))
+    shut : EachImage disks mid (IsShut (journal_bytes rows))
     shut told =
         let told_then = rw same at told in
         (repairs rows sound.ends).ended told_then (sound.images told_then)
@@ -195,15 +190,14 @@ module _
       -- meanwhile, until the row's writing ends
       pub crash_row :
           {S F : Type 0} {result : Result S F} {new : D}
-          → Writes moment left_since past result mid new → IsTrue (tells old.disk)
-          → LeavesOnly moment left_since old.disk new
+          → Writes past result mid new → IsTrue (disks.tells old.disk)
+          → LeavesOnly disks old.disk new
           (Meanwhile (rows_of old.entries) old.uncertain
           (next_row (rows_of old.entries) session command))
       crash_row {new = new} writes =
           rw (← is) (λ told.
           let told_then = rw (← same) at told in
-          appended moment left_since rows log.uncertain r sound.journal next sound.next log.disk
-          mid new past
+          appended disks rows log.uncertain r sound.journal next sound.next log.disk mid new past
           (bytes ∙ ap (λ (x : Row). row_body x ++ 0 ∷ []) (row_is made))
           ((repairs rows sound.ends).meanwhile told (sound.images told))
           ((writes (journal_bytes rows) (sym sound.ends)).meanwhile told_then (shut told_then)))
@@ -222,11 +216,12 @@ module _
       pub sound_row :
           {S F : Type 0} {wrote : S} {new : D} {entries : List Entry} {uncertain : Option Row}
           {steps : List D} {ready : Bool} {later : ℕ}
-          → uncertain ≡ None → Writes {E = F} moment left_since past (Ok wrote) mid new
-          → tells new ≡ tells mid
-          → entries ≡ log.entries ++ Kept q ∷ [] → room new ≡ room log.disk
-          → faults log.disk ≤ faults new → later ≡ end + length past → later < room new
-          → IsSoundJournal tells may_leave room faults
+          → uncertain ≡ None → Writes {E = F} past (Ok wrote) mid new
+          → disks.tells new ≡ disks.tells mid
+          → entries ≡ log.entries ++ Kept q ∷ [] → disks.room new ≡ disks.room log.disk
+          → disks.faults log.disk ≤ disks.faults new → later ≡ end + length past
+          → later < disks.room new
+          → IsSoundJournal disks
           (record log {
             disk = new;
             entries = entries;
@@ -237,7 +232,7 @@ module _
       sound_row {new = new} {entries = entries} {steps = steps} {ready = ready} {later = later} none
           writes same_then pushed size le is_later within =
           rw none
-          (sound_kept tells may_leave room faults log end later new entries q steps ready sound
+          (sound_kept disks log end later new entries q steps ready sound
           pushed size le (is_later ∙ ap (λ (l : List ℕ). end + length l) bytes) within
           (rw (row_is made) next)
           (λ told c now. let told_then = rw same_then at told in

@@ -4,7 +4,8 @@ use Rattle.std.proofs.Common.{take, drop, refl, sym, subst, ap, ◌∙◌, arith
 use Rattle.std.proofs.Common.{Option, Some, None}
 use Rattle.std.specs.Prelude.{IfSome}
 use Rattle.std.proofs.lemmas.List.{take-append-drop}
-use Rattle.disk_model.specs.Disk.{LeavesOnly}
+use Rattle.disk_model.specs.Work.{LeavesOnly}
+use Rattle.disk_model.specs.declared.disk.Disk.{Ghosts as DiskWords}
 use Rattle.disk_model.proofs.Moments.{weaker, and_then}
 use Rattle.gate_journal.specs.declared.row.Row.{Row}
 use Rattle.gate_journal.specs.declared.entry.Entry.{Entry}
@@ -92,24 +93,24 @@ among_later before later e c among = record {
       (append_assoc before (e ∷ []) among.since) among.stands;
 }
 
-module _ {D : Type 0} (moment : D → ℕ) (left_since : D → ℕ → List ℕ → Type 0) where
+module _ {D : Type 0} (disks : DiskWords D) where
   -- one entry more behind the others
   pub one_turn_more :
       (before : List Entry) (start mid end : D) (entries : List Entry) (steps : List D) (e : Entry)
       (all : List Entry) → before ++ entries ≡ all
-      → InTurn moment left_since before start entries steps mid
-      → LeavesOnly moment left_since mid end (StandsBehind all (Some (row_in e)))
-      → LeavesOnly moment left_since end end (StandsBehind (all ++ e ∷ []) None)
-      → InTurn moment left_since before start (entries ++ e ∷ []) (steps ++ end ∷ []) end
+      → InTurn disks before start entries steps mid
+      → LeavesOnly disks mid end (StandsBehind all (Some (row_in e)))
+      → LeavesOnly disks end end (StandsBehind (all ++ e ∷ []) None)
+      → InTurn disks before start (entries ++ e ∷ []) (steps ++ end ∷ []) end
   one_turn_more before start mid end [] [] e all is turns append still =
       let same : all ≡ before = sym is ∙ append-nil before in (
-        and_then moment left_since start mid end (StandsBehind before (Some (row_in e)))
-            (weaker moment left_since start mid (StandsBehind before None)
+        and_then disks start mid end (StandsBehind before (Some (row_in e)))
+            (weaker disks start mid (StandsBehind before None)
             (StandsBehind before (Some (row_in e))) turns (stands_too before (row_in e)))
             (subst (λ (es : List Entry).
-            LeavesOnly moment left_since mid end (StandsBehind es (Some (row_in e)))) same append),
+            LeavesOnly disks mid end (StandsBehind es (Some (row_in e)))) same append),
         subst (λ (es : List Entry).
-            LeavesOnly moment left_since end end (StandsBehind (es ++ e ∷ []) None)) same still,
+            LeavesOnly disks end end (StandsBehind (es ++ e ∷ []) None)) same still,
       )
   one_turn_more before start mid end [] (d ∷ steps) e all is turns append still = absurd turns
   one_turn_more before start mid end (x ∷ entries) [] e all is turns append still = absurd turns
@@ -122,7 +123,7 @@ module _ {D : Type 0} (moment : D → ℕ) (left_since : D → ℕ → List ℕ 
   -- time goes on
   later :
       (before : List Entry) (start end : D) (entries : List Entry) (steps : List D)
-      → InTurn moment left_since before start entries steps end → moment start ≤ moment end
+      → InTurn disks before start entries steps end → disks.moment start ≤ disks.moment end
   later before start end [] [] turns = turns.later
   later before start end [] (d ∷ steps) turns = absurd turns
   later before start end (e ∷ entries) [] turns = absurd turns
@@ -132,8 +133,9 @@ module _ {D : Type 0} (moment : D → ℕ) (left_since : D → ℕ → List ℕ 
   -- an image of a moment since t was one before the start, or stands among the entries
   since :
       (before : List Entry) (start end : D) (entries : List Entry) (steps : List D)
-      → InTurn moment left_since before start entries steps end → (t : ℕ) (c : List ℕ)
-      → t ≤ moment start → left_since end t c → left_since start t c ⊎ StandsAmong before entries c
+      → InTurn disks before start entries steps end → (t : ℕ) (c : List ℕ)
+      → t ≤ disks.moment start → disks.left_since end t c
+      → disks.left_since start t c ⊎ StandsAmong before entries c
   since before start end [] [] turns t c le left =
       ⊎_elim (λ had. inl had) (λ stands. inr (among_none before c stands)) (turns.before t c le left)
   since before start end [] (d ∷ steps) turns t c le left = absurd turns
@@ -147,16 +149,17 @@ module _ {D : Type 0} (moment : D → ℕ) (left_since : D → ℕ → List ℕ 
       (since (before ++ e ∷ []) d end entries steps turns.1 t c (omega (arith, le, turns.0.later))
       left)
 
-  pub stops_in_turn : StopsInTurn moment left_since
+  pub stops_in_turn : StopsInTurn disks
   stops_in_turn before start end [] [] turns c left = among_none before c (turns.each c left)
   stops_in_turn before start end [] (d ∷ steps) turns c left = absurd turns
   stops_in_turn before start end (e ∷ entries) [] turns c left = absurd turns
   stops_in_turn before start end (e ∷ entries) (d ∷ steps) turns c left =
       ⊎_elim (λ had. among_first before entries e c (turns.0.each c had))
       (λ among. among_later before entries e c among)
-      (since (before ++ e ∷ []) d end entries steps turns.1 (moment start) c turns.0.later left)
+      (since (before ++ e ∷ []) d end entries steps turns.1 (disks.moment start) c turns.0.later
+      left)
 
-  pub kept_from_then : KeptFromThen moment left_since
+  pub kept_from_then : KeptFromThen disks
   kept_from_then before start end [] e later [] d steps many turns c left =
       subst (λ (es : List Entry). StandsAmong (es ++ e ∷ []) later c) (sym (append-nil before))
       (stops_in_turn (before ++ e ∷ []) d end later steps turns.1 c left)

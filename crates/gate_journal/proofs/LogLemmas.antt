@@ -1,10 +1,11 @@
 -- One entry more, and what the images of a journal spell.
 use Rattle.std.proofs.Common.{◌≡◌, ◌⊎◌, inl, inr, ℕ, ◌+◌, ◌≤◌, List, [], ◌∷◌, ◌++◌}
 use Rattle.std.proofs.Common.{length, get_or, refl, sym, ap, arith, length-append}
-use Rattle.std.specs.Prelude.{Bool, false, Option, Some, None, IfSome, is_none, Result}
+use Rattle.std.specs.Prelude.{false, Option, Some, None, IfSome, is_none, Result}
 use Rattle.disk_model.specs.Work.{Triple}
 use Rattle.std.proofs.lemmas.Bool.{cases_eq}
 use Rattle.disk_model.specs.Disk.{Rose}
+use Rattle.disk_model.specs.declared.disk.Disk.{Ghosts as DiskWords}
 use Rattle.gate_journal.specs.declared.row.Row.{Row}
 use Rattle.gate_journal.specs.declared.entry.Entry.{Entry}
 use Rattle.gate_journal.specs.declared.entry.Entry.TheVariants.{Kept, Faulted}
@@ -110,15 +111,13 @@ stands_closed rows (Some r) c next stands =
 
 -- the repair of a gate that is uncertain, said of the rows
 pub repaired :
-    {D T E : Type 0} {tells : D → Bool} {may_leave : D → List ℕ → Type 0} {moment : D → ℕ}
-    {left_since : D → ℕ → List ℕ → Type 0} {result : Result T E} {old new : D} (end : ℕ)
+    {D T E : Type 0} {disks : DiskWords D} {result : Result T E} {old new : D} (end : ℕ)
     (uncertain : Option Row) (rows : List Row)
     → is_none uncertain ≡ false
     → end ≡ length (journal_bytes rows)
     → ((front past : List ℕ) → length front ≡ end
-    → Triple tells may_leave moment left_since result old new (IsUnsure front past)
-    (IsUnsure front past) (IsShut front))
-    → Triple tells may_leave moment left_since result old new (StandsInImage rows uncertain)
+    → Triple disks result old new (IsUnsure front past) (IsUnsure front past) (IsShut front))
+    → Triple disks result old new (StandsInImage rows uncertain)
     (StandsInImage rows uncertain) (StandsInImage rows None)
 repaired end None rows some ends triple = absurd (cc)
 repaired end (Some r) rows some ends triple =

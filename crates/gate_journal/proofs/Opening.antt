@@ -7,7 +7,9 @@ use Rattle.gate_journal.specs.declared.fault.JournalFault.TheVariants.{NotJourna
 use Rattle.gate_journal.specs.declared.fault.JournalFault.TheVariants.{DiskFault as on_disk}
 use Rattle.gate_journal.specs.Faults.{RefusesBytes, IsDiskFault}
 use Rattle.std.proofs.lemmas.Bool.{cases_eq, cases_Bool, eq-eqb, eqb-true}
-use Rattle.disk_model.specs.Disk.{Elapses, Holds, LeavesOnly, Torn, file_written}
+use Rattle.disk_model.specs.Disk.{Elapses, Holds, Torn, file_written}
+use Rattle.disk_model.specs.Work.{LeavesOnly}
+use Rattle.disk_model.specs.declared.disk.Disk.{Ghosts as DiskWords}
 use Rattle.disk_model.proofs.Moments.{started, goes_on, weaker, and_then}
 use Rattle.disk_model.proofs.Torn.{holds_kept, holds_both, torn_written, holds_written}
 use Rattle.disk_model.proofs.Torn.{written_below, written_within}
@@ -24,27 +26,25 @@ use Rattle.gate_journal.proofs.RowLemmas.{spells_not_open, opens, journal_push}
 use Rattle.gate_journal.proofs.VersionLemmas.{are_front, header_torn, version_of, version_torn}
 use Rattle.gate_journal.proofs.Steps.{unsure_torn, unsure_written}
 
-module _ {D : Type 0} {moment : D → ℕ} {left_since : D → ℕ → List ℕ → Type 0} where
+module _ {D : Type 0} {disks : DiskWords D} where
   -- one call, before and after which a stop leaves what has the fact
   pub one_call :
       {old new : D} {P may_leave : List ℕ → Type 0}
-      → ((c : List ℕ) → left_since old (moment old) c → P c)
-      → Elapses (moment old) (moment new) (left_since old) (left_since new) may_leave
+      → ((c : List ℕ) → disks.left_since old (disks.moment old) c → P c)
+      → Elapses (disks.moment old) (disks.moment new) (disks.left_since old) (disks.left_since new)
+      may_leave
       → ((c : List ℕ) → may_leave c → P c)
-      → LeavesOnly moment left_since old new P
+      → LeavesOnly disks old new P
   one_call {old} {new} {P} {may_leave} first time =
-      goes_on moment left_since old old new P may_leave (started moment left_since old P first) time
+      goes_on disks old old new P may_leave (started disks old P first) time
 
   -- and more calls, with a fact from which it follows
   pub and_more :
       {old mid new : D} {P Q : List ℕ → Type 0}
-      → LeavesOnly moment left_since old mid P
-      → LeavesOnly moment left_since mid new Q
-      → ((c : List ℕ) → Q c → P c)
-      → LeavesOnly moment left_since old new P
+      → LeavesOnly disks old mid P → LeavesOnly disks mid new Q → ((c : List ℕ) → Q c → P c)
+      → LeavesOnly disks old new P
   and_more {old} {mid} {new} {P} {Q} first second so =
-      and_then moment left_since old mid new P first
-      (weaker moment left_since mid new Q P second so)
+      and_then disks old mid new P first (weaker disks mid new Q P second so)
 
 -- a write of a place behind the header leaves the version
 version_kept : (s f : List ℕ) (at : ℕ)
@@ -196,22 +196,20 @@ opens_again rows s c all (inr (r, next, unsure)) goes =
     inr (r, next, migrating rows (Some r) s c all next unsure goes)
 
 -- both said of a disk while it is opened, of which one image reads as these bytes
-module _
-    {D : Type 0} {moment : D → ℕ} {left_since : D → ℕ → List ℕ → Type 0} {given now : D}
-    {may_leave : List ℕ → Type 0} {s : List ℕ} (reads : may_leave s) (rows : List Row)
-    (all : IsJournal rows)
-    (leaves : LeavesOnly moment left_since given now (λ c. may_leave c ⊎ IsMigrating s c)) where
+module _ {D : Type 0} {disks : DiskWords D} {given now : D} {may_leave : List ℕ → Type 0}
+    {s : List ℕ} (reads : may_leave s) (rows : List Row) (all : IsJournal rows)
+    (leaves : LeavesOnly disks given now (λ c. may_leave c ⊎ IsMigrating s c)) where
   pub keeps_standing : (u : Option Row) → IfSome u (IsNext rows)
       → ((c : List ℕ) → may_leave c → StandsInEither rows u c)
-      → LeavesOnly moment left_since given now (StandsInEither rows u)
+      → LeavesOnly disks given now (StandsInEither rows u)
   keeps_standing u next each =
-      weaker moment left_since given now _ (StandsInEither rows u) leaves
+      weaker disks given now _ (StandsInEither rows u) leaves
       (λ c. ⊎_elim (each c) (migrating rows u s c all next (each s reads)))
 
   pub keeps_open : ((c : List ℕ) → may_leave c → MayOpen rows c)
-      → LeavesOnly moment left_since given now (MayOpen rows)
+      → LeavesOnly disks given now (MayOpen rows)
   keeps_open each =
-      weaker moment left_since given now _ (MayOpen rows) leaves
+      weaker disks given now _ (MayOpen rows) leaves
       (λ c. ⊎_elim (each c) (opens_again rows s c all (each s reads)))
 
 -- the gate is closed

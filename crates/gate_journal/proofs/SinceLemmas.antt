@@ -5,7 +5,8 @@ use Rattle.std.proofs.Common.{arith, append_assoc, length-append, Option, Some, 
 use Rattle.std.specs.Prelude.{IsTrue, IfSome}
 use Rattle.std.proofs.Math.Seq.{take-length, drop-length}
 use Rattle.std.proofs.lemmas.List.{take-append-le, take-append-drop, drop-append-le}
-use Rattle.disk_model.specs.Disk.{EachImage, LeavesOnly, SameDisk}
+use Rattle.disk_model.specs.Work.{EachImage, LeavesOnly, SameDisk}
+use Rattle.disk_model.specs.declared.disk.Disk.{Ghosts as DiskWords}
 use Rattle.disk_model.proofs.Moments.{started, weaker}
 use Rattle.gate_journal.proofs.Opening.{and_more}
 use Rattle.turn_cell.specs.History.{Each}
@@ -119,20 +120,17 @@ faulted_again (Some q) entries r from to unsure = record {
 
 -- one piece of work on a disk after another
 pub same_then :
-    {D : Type 0} {tells : D → Bool} {room label : D → ℕ} {a b c : D}
-    → SameDisk tells room label a b → SameDisk tells room label b c
-    → SameDisk tells room label a c
-same_then p q = record {
+    {D : Type 0} (disks : DiskWords D) {a b c : D} → SameDisk disks a b → SameDisk disks b c
+    → SameDisk disks a c
+same_then disks p q = record {
   telling = q.telling ∙ p.telling;
   size = q.size ∙ p.size;
   name = q.name ∙ p.name;
 }
 
-module _
-    {D : Type 0} {tells : D → Bool} {may_leave : D → List ℕ → Type 0}
-    {room label reach moment : D → ℕ} {left_since : D → ℕ → List ℕ → Type 0}
-    {log old : Log D} {session : ℕ} {command : Command} (is : log ≡ old)
-    (since : IsSinceOpened tells may_leave room label reach moment left_since log)
+module _ {D : Type 0} {disks : DiskWords D} {log old : Log D} {session : ℕ}
+    {command : Command} (is : log ≡ old)
+    (since : IsSinceOpened disks log)
     (stands : MayStand (rows_of old.entries) session command) where
   abbrev rows : List Row
   rows = rows_of log.entries
@@ -174,18 +172,19 @@ module _
 
   -- one entry more, of the row that was asked for, after the calls of an append
   pub since_more :
-      {disk : D} {entries : List Entry} {steps : List D} {ready : Bool} {faults : D → ℕ} {end : ℕ}
+      {disk : D} {entries : List Entry} {steps : List D} {ready : Bool} {end : ℕ}
       (uncertain : Option Row) (e : Entry)
       → entries ≡ log.entries ++ e ∷ [] → row_in e ≡ next_row rows session command
       → steps ≡ log.steps ++ disk ∷ []
       → IfSome uncertain (λ q. EndsInFaultOf q (drop log.opening.found entries))
-      → SameDisk tells room label log.disk disk
-      → (IsTrue (tells old.disk) → LeavesOnly moment left_since old.disk disk
+      → SameDisk disks log.disk disk
+      → (IsTrue (disks.tells old.disk) → LeavesOnly disks old.disk disk
       (Meanwhile (rows_of old.entries) old.uncertain
       (next_row (rows_of old.entries) session command)))
-      → reach disk ≤ max (reach log.disk) (length (journal_bytes (rows_of log.entries)) + 4110)
-      → ((c : List ℕ) → left_since disk (moment disk) c → may_leave disk c)
-      → IsSoundJournal tells may_leave room faults
+      → disks.reach disk ≤ max (disks.reach log.disk)
+      (length (journal_bytes (rows_of log.entries)) + 4110)
+      → ((c : List ℕ) → disks.left_since disk (disks.moment disk) c → disks.may_leave disk c)
+      → IsSoundJournal disks
       (record log {
         disk = disk;
         entries = entries;
@@ -193,7 +192,7 @@ module _
         steps = steps;
         ready = ready;
       }) end
-      → IsSinceOpened tells may_leave room label reach moment left_since
+      → IsSinceOpened disks
       (record log {
         disk = disk;
         entries = entries;
@@ -203,7 +202,7 @@ module _
       })
   since_more {disk = disk} {entries = entries} {steps = steps} uncertain e pushed made stepped unsure
       same leaves asked only_now sound = record {
-        same = same_then since.same same;
+        same = same_then disks since.same same;
         many = omega (arith, since.many, ap length pushed, length-append log.entries (e ∷ []));
         numbers = rw pushed (each_append IsOfSession log.entries (e ∷ []) since.numbers (
           (omega (arith, numbered), omega (arith, numbered, stands.below)),
@@ -224,7 +223,7 @@ module _
           ∙ take-append-le log.opening.found log.entries (e ∷ []) since.many
 
       here :
-          IsTrue (tells log.disk) → LeavesOnly moment left_since log.disk disk
+          IsTrue (disks.tells log.disk) → LeavesOnly disks log.disk disk
           (Meanwhile rows log.uncertain (next_row rows session command))
       here = rw is leaves
 
@@ -244,7 +243,8 @@ module _
         opens = opens;
       }
 
-      stands_now : IsTrue (tells disk) → (c : List ℕ) → left_since disk (moment disk) c
+      stands_now : IsTrue (disks.tells disk) → (c : List ℕ)
+          → disks.left_since disk (disks.moment disk) c
           → StandsBehind (log.entries ++ e ∷ []) None c
       stands_now told c left =
           subst (λ (es : List Entry). StandsBehind es None c) pushed (record {
@@ -259,20 +259,17 @@ module _
           })
 
       turns :
-          IsTrue (tells disk)
-          → InTurn moment left_since (take log.opening.found entries) log.start
+          IsTrue (disks.tells disk) → InTurn disks (take log.opening.found entries) log.start
           (drop log.opening.found entries) steps disk
       turns told =
-          let told_then : IsTrue (tells log.disk) = rw same.telling at told in
+          let told_then : IsTrue (disks.tells log.disk) = rw same.telling at told in
           rw (taken, dropped entries e pushed, stepped)
-          (one_turn_more moment left_since (take log.opening.found log.entries) log.start log.disk
+          (one_turn_more disks (take log.opening.found log.entries) log.start log.disk
           disk (drop log.opening.found log.entries) log.steps e log.entries
           (take-append-drop log.opening.found log.entries) (since.in_turn told_then)
-          (weaker moment left_since log.disk disk
-          (Meanwhile rows log.uncertain (next_row rows session command))
+          (weaker disks log.disk disk (Meanwhile rows log.uncertain (next_row rows session command))
           (StandsBehind log.entries (Some (row_in e))) (here told_then) asks)
-          (started moment left_since disk (StandsBehind (log.entries ++ e ∷ []) None)
-          (stands_now told)))
+          (started disks disk (StandsBehind (log.entries ++ e ∷ []) None) (stands_now told)))
 
       grows : rows_of entries ≡ rows ++ rows_of (e ∷ [])
       grows = ap rows_of pushed ∙ rows_of-append log.entries (e ∷ [])
@@ -285,9 +282,8 @@ module _
 
       images :
           (start : List Row) → IsJournal start
-          → EachImage tells may_leave log.opening.disk (MayOpen start)
-          → IsTrue (tells log.opening.disk)
-          → LeavesOnly moment left_since log.opening.disk disk
+          → EachImage disks log.opening.disk (MayOpen start) → IsTrue (disks.tells log.opening.disk)
+          → LeavesOnly disks log.opening.disk disk
           (λ c. MayOpen start c ⊎ IsBetween (found_in entries) (rows_of entries) c)
       images start journal may told =
           let P : List ℕ → Type 0
@@ -295,7 +291,7 @@ module _
           in
           let told_now = rw (← since.same.telling) at told in
           and_more
-          (weaker moment left_since log.opening.disk log.disk
+          (weaker disks log.opening.disk log.disk
           (λ c. MayOpen start c ⊎ IsBetween (found_in log.entries) rows c) P
           (since.meanwhile start journal may told)
           (λ c. ⊎_elim (λ opens. inl opens)
@@ -329,18 +325,17 @@ module _
 
 -- of a journal that was just opened
 pub since_begun :
-    {D : Type 0} {tells : D → Bool} {may_leave : D → List ℕ → Type 0}
-    {room label reach moment : D → ℕ} {left_since : D → ℕ → List ℕ → Type 0} {given now : D}
-    {start : D} {entries : List Entry} {steps : List D} {ready : Bool} (found : ℕ)
+    {D : Type 0} {disks : DiskWords D} {given now : D} {start : D} {entries : List Entry}
+    {steps : List D} {ready : Bool} (found : ℕ)
     → found ≡ length entries → entries ≡ rows_kept (rows_of entries) → IsJournal (rows_of entries)
-    → SameDisk tells room label given now
-    → ((start : List Row) → IsJournal start → EachImage tells may_leave given (MayOpen start)
-    → IsTrue (tells given) → LeavesOnly moment left_since given now (MayOpen start))
-    → reach now ≤ max (reach given) (length (journal_bytes (rows_of entries)) + 1)
-    → EachImage tells may_leave now (IsShut (journal_bytes (rows_of entries)))
-    → ((c : List ℕ) → left_since now (moment now) c → may_leave now c)
+    → SameDisk disks given now
+    → ((start : List Row) → IsJournal start → EachImage disks given (MayOpen start)
+    → IsTrue (disks.tells given) → LeavesOnly disks given now (MayOpen start))
+    → disks.reach now ≤ max (disks.reach given) (length (journal_bytes (rows_of entries)) + 1)
+    → EachImage disks now (IsShut (journal_bytes (rows_of entries)))
+    → ((c : List ℕ) → disks.left_since now (disks.moment now) c → disks.may_leave now c)
     → start ≡ now → steps ≡ []
-    → IsSinceOpened tells may_leave room label reach moment left_since (record {
+    → IsSinceOpened disks (record {
       disk = now;
       entries = entries;
       uncertain = None;
@@ -349,22 +344,21 @@ pub since_begun :
       steps = steps;
       ready = ready;
     })
-since_begun {D} {tells} {may_leave} {room} {label} {reach} {moment} {left_since} {given} {now}
-    {start} {entries} {steps} found many fresh journal same crash asked shut only_now is_start
-    no_steps = record {
+since_begun {D} {disks} {given} {now} {start} {entries} {steps} found many fresh journal same crash
+    asked shut only_now is_start no_steps = record {
       same = same;
       many = omega (arith, many);
       numbers = rw fresh (numbers_of [] (rows_of entries) journal);
       unsure = tt;
       meanwhile = λ start is_journal may told.
-          weaker moment left_since given now (MayOpen start)
+          weaker disks given now (MayOpen start)
           (λ c. MayOpen start c ⊎ IsBetween (rows_of (take found entries)) (rows_of entries) c)
           (crash start is_journal may told) (λ c opens. inl opens);
       in_turn = λ told. begins told;
       reaches = omega (arith, asked);
     }
   where
-    stands : IsTrue (tells now) → (c : List ℕ) → left_since now (moment now) c
+    stands : IsTrue (disks.tells now) → (c : List ℕ) → disks.left_since now (disks.moment now) c
         → StandsBehind entries None c
     stands told c left = record {
       one_more = None;
@@ -374,11 +368,11 @@ since_begun {D} {tells} {may_leave} {room} {label} {reach} {moment} {left_since}
     }
 
     begins :
-        IsTrue (tells now)
-        → InTurn moment left_since (take found entries) start (drop found entries) steps now
+        IsTrue (disks.tells now)
+        → InTurn disks (take found entries) start (drop found entries) steps now
     begins told =
         rw (is_start, no_steps, many, take-length entries, drop-length entries)
-        (started moment left_since now (StandsBehind entries None) (stands told))
+        (started disks now (StandsBehind entries None) (stands told))
 
     numbers_of :
         (before rows : List Row) → EachNext before rows → Each IsOfSession (rows_kept rows)
@@ -390,14 +384,9 @@ since_begun {D} {tells} {may_leave} {room} {label} {reach} {moment} {left_since}
 
 -- room is no part of what holds
 pub reserved :
-    {D : Type 0} {tells : D → Bool} {may_leave : D → List ℕ → Type 0}
-    {room faults label reach moment : D → ℕ} {left_since : D → ℕ → List ℕ → Type 0} {log : Log D}
-    {entries : List Entry} {steps : List D} {end : ℕ} {ready : Bool}
-    → entries ≡ log.entries → steps ≡ log.steps
-    → IsSoundJournal tells may_leave room faults log end
-    × IsSinceOpened tells may_leave room label reach moment left_since log
-    → IsSoundJournal tells may_leave room faults
+    {D : Type 0} {disks : DiskWords D} {log : Log D} {entries : List Entry} {steps : List D}
+    {end : ℕ} {ready : Bool} → entries ≡ log.entries → steps ≡ log.steps
+    → IsSoundJournal disks log end × IsSinceOpened disks log → IsSoundJournal disks
     (record log { entries = entries; steps = steps; ready = ready }) end
-    × IsSinceOpened tells may_leave room label reach moment left_since
-    (record log { entries = entries; steps = steps; ready = ready })
+    × IsSinceOpened disks (record log { entries = entries; steps = steps; ready = ready })
 reserved same as_many (sound, since) = rw (same, as_many) assumption

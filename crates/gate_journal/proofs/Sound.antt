@@ -2,7 +2,9 @@
 use Rattle.std.proofs.Common.{◌≡◌, ◌⊎◌, inl, inr, ℕ, ◌+◌, ◌<◌, ◌≤◌, Bool, List, [], ◌∷◌}
 use Rattle.std.proofs.Common.{◌++◌, length, sym, ◌∙◌, ap, arith}
 use Rattle.std.specs.Prelude.{Option, None, Some, IfSome}
-use Rattle.disk_model.specs.Disk.{LeavesOnly, Rose, Holds, EachImage}
+use Rattle.disk_model.specs.Disk.{Rose, Holds}
+use Rattle.disk_model.specs.Work.{LeavesOnly, EachImage}
+use Rattle.disk_model.specs.declared.disk.Disk.{Ghosts as DiskWords}
 use Rattle.disk_model.proofs.Moments.{weaker, and_then}
 use Rattle.gate_journal.specs.declared.row.Row.{Row}
 use Rattle.gate_journal.specs.declared.entry.Entry.{Entry}
@@ -16,18 +18,15 @@ use Rattle.gate_journal.proofs.SinceLemmas.{rows_of-append}
 use Rattle.gate_journal.proofs.LogLemmas.{rises-kept, rises-faulted, closed_shut, closed_unsure}
 use Rattle.gate_journal.proofs.LogLemmas.{stands_well, stands_closed, end_push}
 
-module _ {D : Type 0} (tells : D → Bool) (may_leave : D → List ℕ → Type 0)
-    (room faults : D → ℕ) where
+module _ {D : Type 0} (disks : DiskWords D) where
   -- after a fault
   pub sound_faulted : (log : Log D) (end : ℕ) (disk : D) (entries : List Entry)
       (uncertain : Option Row) (r : Row) (from to : ℕ) (steps : List D) (ready : Bool)
-      → IsSoundJournal tells may_leave room faults log end
-      → entries ≡ log.entries ++ Faulted r from to ∷ []
-      → room disk ≡ room log.disk → from ≡ faults log.disk
-      → to ≡ faults disk → from ≤ to → Rose from to
+      → IsSoundJournal disks log end → entries ≡ log.entries ++ Faulted r from to ∷ []
+      → disks.room disk ≡ disks.room log.disk → from ≡ disks.faults log.disk
+      → to ≡ disks.faults disk → from ≤ to → Rose from to
       → IfSome uncertain (IsNext (rows_of log.entries))
-      → EachImage tells may_leave disk (StandsInImage (rows_of log.entries) uncertain)
-      → IsSoundJournal tells may_leave room faults
+      → EachImage disks disk (StandsInImage (rows_of log.entries) uncertain) → IsSoundJournal disks
       (record log {
         disk = disk;
         entries = entries;
@@ -46,21 +45,20 @@ module _ {D : Type 0} (tells : D → Bool) (may_leave : D → List ℕ → Type 
         next = rw (← same) next;
         images = rw (← same) images;
         counts =
-            rw (pushed, ← is_to) (rises-faulted log.entries r from to (faults log.opening.disk)
+            rw (pushed, ← is_to) (rises-faulted log.entries r from to
+            (disks.faults log.opening.disk)
             (rw is_from sound.counts) le rose);
       }
 
   -- after a row
   pub sound_kept : (log : Log D) (end later : ℕ) (disk : D) (entries : List Entry)
       (r : Row) (steps : List D) (ready : Bool)
-      → IsSoundJournal tells may_leave room faults log end
-      → entries ≡ log.entries ++ Kept r ∷ []
-      → room disk ≡ room log.disk → faults log.disk ≤ faults disk
+      → IsSoundJournal disks log end → entries ≡ log.entries ++ Kept r ∷ []
+      → disks.room disk ≡ disks.room log.disk → disks.faults log.disk ≤ disks.faults disk
       → later ≡ end + length (row_body r ++ 0 ∷ [])
-      → later < room disk
-      → IsNext (rows_of log.entries) r
-      → EachImage tells may_leave disk (IsShut (journal_bytes (rows_of log.entries ++ r ∷ [])))
-      → IsSoundJournal tells may_leave room faults
+      → later < disks.room disk → IsNext (rows_of log.entries) r
+      → EachImage disks disk (IsShut (journal_bytes (rows_of log.entries ++ r ∷ [])))
+      → IsSoundJournal disks
       (record log {
         disk = disk;
         entries = entries;
@@ -79,19 +77,19 @@ module _ {D : Type 0} (tells : D → Bool) (may_leave : D → List ℕ → Type 
         next = tt;
         images = rw (← same) images;
         counts =
-            rw pushed (rises-kept log.entries r (faults log.opening.disk) (faults log.disk)
-            (faults disk) sound.counts le);
+            rw pushed (rises-kept log.entries r (disks.faults log.opening.disk)
+            (disks.faults log.disk)
+            (disks.faults disk) sound.counts le);
       }
 
-module _ {D : Type 0} (moment : D → ℕ) (left_since : D → ℕ → List ℕ → Type 0) (rows : List Row)
-    (uncertain : Option Row) (r : Row) (all : IsJournal rows) (next : IsNext rows r)
+module _ {D : Type 0} (disks : DiskWords D) (rows : List Row) (uncertain : Option Row)
+    (r : Row) (all : IsJournal rows) (next : IsNext rows r)
     (stood : IfSome uncertain (IsNext rows)) where
   pub settled : (old new : D)
-      → LeavesOnly moment left_since old new (StandsInImage rows uncertain)
-      → LeavesOnly moment left_since old new (Meanwhile rows uncertain r)
+      → LeavesOnly disks old new (StandsInImage rows uncertain)
+      → LeavesOnly disks old new (Meanwhile rows uncertain r)
   settled old new leaves =
-      weaker moment left_since old new (StandsInImage rows uncertain)
-      (Meanwhile rows uncertain r) leaves
+      weaker disks old new (StandsInImage rows uncertain) (Meanwhile rows uncertain r) leaves
       (λ c stands. (
         inl (stands_well rows uncertain c all stood stands),
         stands_closed rows uncertain c stood stands,
@@ -99,13 +97,12 @@ module _ {D : Type 0} (moment : D → ℕ) (left_since : D → ℕ → List ℕ 
 
   pub appended : (old mid new : D) (past : List ℕ)
       → past ≡ row_body r ++ 0 ∷ []
-      → LeavesOnly moment left_since old mid (StandsInImage rows uncertain)
-      → LeavesOnly moment left_since mid new
+      → LeavesOnly disks old mid (StandsInImage rows uncertain) → LeavesOnly disks mid new
       (λ c. IsShut (journal_bytes rows) c ⊎ IsUnsure (journal_bytes rows) past c)
-      → LeavesOnly moment left_since old new (Meanwhile rows uncertain r)
+      → LeavesOnly disks old new (Meanwhile rows uncertain r)
   appended old mid new past is first second =
-      and_then moment left_since old mid new (Meanwhile rows uncertain r) (settled old mid first)
-      (weaker moment left_since mid new
+      and_then disks old mid new (Meanwhile rows uncertain r) (settled old mid first)
+      (weaker disks mid new
       (λ c. IsShut (journal_bytes rows) c ⊎ IsUnsure (journal_bytes rows) past c)
       (Meanwhile rows uncertain r) second each)
     where

@@ -1,8 +1,9 @@
 -- Which device call of an append failed, and how that leaves the gate.
-use Rattle.std.proofs.Common.{◌≡◌, ℕ, zero, suc, ◌+◌, ◌<◌, ◌≤◌, Bool, List, [], ◌∷◌, ◌++◌, length}
+use Rattle.std.proofs.Common.{◌≡◌, ℕ, zero, suc, ◌+◌, ◌<◌, ◌≤◌, List, [], ◌∷◌, ◌++◌, length}
 use Rattle.std.proofs.Common.{refl, sym, ◌∙◌, ap, subst, arith, length-append}
 use Rattle.std.specs.Prelude.{IsTrue, Option, Some, None, slice_get, is_none, false}
 use Rattle.disk_model.specs.Work.{GoodCalls, FailedCall}
+use Rattle.disk_model.specs.declared.disk.Disk.{Ghosts as DiskWords}
 use Rattle.disk_model.proofs.CountLaws.{good_then, failed_then, failed_farther}
 use Rattle.gate_journal.specs.declared.command.Command.{Command}
 use Rattle.gate_journal.specs.declared.row.Row.{Row}
@@ -45,21 +46,18 @@ left_gate (Some u) r (suc (suc k)) lt = absurd (omega (arith, lt))
 
 -- what an append says of the call that failed
 abbrev Stage :
-    {D : Type 0} → (D → Bool) → (D → ℕ → Bool) → (D → ℕ) → (D → ℕ) → ℕ → Command → Log D → D
-    → Option Row → Type 0
-Stage tells fails_at moment room session command log new left =
-    IsTrue (tells log.disk)
-    → (k : ℕ) × FailedCall fails_at moment room
+    {D : Type 0} → DiskWords D → ℕ → Command → Log D → D → Option Row → Type 0
+Stage disks session command log new left =
+    IsTrue (disks.tells log.disk) → (k : ℕ) × FailedCall disks
     (row_end (next_row (rows_of log.entries) session command)) k log.disk new
     × (slice_get (gates_left log.uncertain (next_row (rows_of log.entries) session command)) k
     ≡ Some left)
 
 -- and of all of them
 abbrev Calls :
-    {D : Type 0} → (D → Bool) → (D → ℕ → Bool) → (D → ℕ) → ℕ → Command → Log D → D → Type 0
-Calls tells fails_at moment session command log new =
-    IsTrue (tells log.disk)
-    → GoodCalls fails_at moment
+    {D : Type 0} → DiskWords D → ℕ → Command → Log D → D → Type 0
+Calls disks session command log new =
+    IsTrue (disks.tells log.disk) → GoodCalls disks
     (length (gates_left log.uncertain (next_row (rows_of log.entries) session command)))
     log.disk new
 
@@ -87,17 +85,15 @@ reach_is {q = q} rows session command ends made bytes =
     ap (λ (x : Row). length (row_body x)) made in
     omega (arith, ends, ap length bytes, length-append (row_body q) (0 ∷ []), size)
 
-module _
-    {D : Type 0} (tells : D → Bool) (fails_at : D → ℕ → Bool) (moment room : D → ℕ)
-    {log old : Log D} {end : ℕ} (session : ℕ) (command : Command) (is : log ≡ old)
+module _ {D : Type 0} (disks : DiskWords D) {log old : Log D} {end : ℕ} (session : ℕ)
+    (command : Command) (is : log ≡ old)
     (ends : end ≡ length (journal_bytes (rows_of log.entries))) where
   -- a call of the repair failed
   pub stage_repair :
       {new : D} {left : Option Row}
-      → (IsTrue (tells log.disk)
-      → (k : ℕ) × (k < repair_calls log.uncertain)
-      × FailedCall fails_at moment room (end + 1) k log.disk new)
-      → left ≡ log.uncertain → Stage tells fails_at moment room session command old new left
+      → (IsTrue (disks.tells log.disk) → (k : ℕ) × (k < repair_calls log.uncertain)
+      × FailedCall disks (end + 1) k log.disk new)
+      → left ≡ log.uncertain → Stage disks session command old new left
   stage_repair {left = left} failed so =
       rw (← is) (λ told.
       let at = failed told in
@@ -109,19 +105,18 @@ module _
 
   module _
       {mid : D}
-      (repairs : IsTrue (tells log.disk)
-      → GoodCalls fails_at moment (repair_calls log.uncertain) log.disk mid)
-      (same : tells mid ≡ tells log.disk) (size : room mid ≡ room log.disk) {q : Row}
-      {past : List ℕ}
+      (repairs : IsTrue (disks.tells log.disk)
+      → GoodCalls disks (repair_calls log.uncertain) log.disk mid)
+      (same : disks.tells mid ≡ disks.tells log.disk)
+      (size : disks.room mid ≡ disks.room log.disk) {q : Row} {past : List ℕ}
       (made : q ≡ record { place = end; session = session; by = session + 1; command = command })
       (bytes : past ≡ row_body q ++ 0 ∷ []) where
     -- a call of the row
     pub stage_row :
         {new : D} {left : Option Row}
-        → (IsTrue (tells mid)
-        → (k : ℕ) × (k < 2)
-        × FailedCall fails_at moment room (end + 1 + length past) k mid new)
-        → left ≡ None → Stage tells fails_at moment room session command old new left
+        → (IsTrue (disks.tells mid) → (k : ℕ) × (k < 2)
+        × FailedCall disks (end + 1 + length past) k mid new)
+        → left ≡ None → Stage disks session command old new left
     stage_row {left = left} failed so =
         let rows = rows_of log.entries in
         let r = next_row rows session command in
@@ -137,10 +132,9 @@ module _
     -- a call of its gate
     pub stage_gate :
         {new : D} {left : Option Row}
-        → (IsTrue (tells mid)
-        → (k : ℕ) × (k < 2)
-        × FailedCall fails_at moment room (end + 1 + length past) (2 + k) mid new)
-        → left ≡ Some q → Stage tells fails_at moment room session command old new left
+        → (IsTrue (disks.tells mid) → (k : ℕ) × (k < 2)
+        × FailedCall disks (end + 1 + length past) (2 + k) mid new)
+        → left ≡ Some q → Stage disks session command old new left
     stage_gate {left = left} failed so =
         let rows = rows_of log.entries in
         let r = next_row rows session command in
@@ -157,10 +151,10 @@ module _
 
     -- none failed
     pub calls_row :
-        {new : D} → (IsTrue (tells mid) → GoodCalls fails_at moment 4 mid new)
-        → Calls tells fails_at moment session command old new
+        {new : D} → (IsTrue (disks.tells mid) → GoodCalls disks 4 mid new)
+        → Calls disks session command old new
     calls_row {new = new} good =
         rw (← is) (λ told.
-        subst (λ (n : ℕ). GoodCalls fails_at moment n log.disk new)
+        subst (λ (n : ℕ). GoodCalls disks n log.disk new)
         (calls_all log.uncertain (next_row (rows_of log.entries) session command))
         (good_then (repair_calls log.uncertain) 4 (repairs told) (good (rw same told))))

@@ -1,6 +1,7 @@
 -- What bytes spell, they spell alone (own).
 use Rattle.std.specs.Prelude.{◌≡◌, ◌⊎◌, ℕ, ◌+◌, ◌<◌, ◌≤◌, List, [], ◌∷◌, ◌++◌}
 use Rattle.std.specs.Prelude.{Option, Some, None, length, slice_index}
+use Rattle.disk_model.specs.declared.disk.Disk.{Ghosts as DiskWords}
 use Rattle.gate_journal.specs.declared.command.Command.{Command}
 use Rattle.gate_journal.specs.declared.row.Row.{Row}
 use Rattle.gate_journal.specs.declared.entry.Entry.{Entry}
@@ -72,17 +73,17 @@ pub record StandsAmong (before later : List Entry) (c : List ℕ) : Type 0 where
   pub stands : StandsBehind (before ++ since) (next_asked after) c
 
 -- so is each image that a stop may leave since the start of entries that came in turn
-abbrev pub StopsInTurn : {D : Type 0} → (D → ℕ) → (D → ℕ → List ℕ → Type 0) → Type 0
-StopsInTurn {D} moment left_since =
+abbrev pub StopsInTurn : {D : Type 0} → DiskWords D → Type 0
+StopsInTurn {D} disks =
     (before : List Entry) (start end : D) (entries : List Entry) (steps : List D)
-    → InTurn moment left_since before start entries steps end
-    → (c : List ℕ) → left_since end (moment start) c → StandsAmong before entries c
+    → InTurn disks before start entries steps end
+    → (c : List ℕ) → disks.left_since end (disks.moment start) c → StandsAmong before entries c
 
 -- and each that it may leave once an entry was taken down stands behind that entry
-abbrev pub KeptFromThen : {D : Type 0} → (D → ℕ) → (D → ℕ → List ℕ → Type 0) → Type 0
-KeptFromThen {D} moment left_since =
+abbrev pub KeptFromThen : {D : Type 0} → DiskWords D → Type 0
+KeptFromThen {D} disks =
     (before : List Entry) (start end : D) (since : List Entry) (e : Entry) (later : List Entry)
     (first : List D) (then : D) (steps : List D) → length since ≡ length first
-    → InTurn moment left_since before start (since ++ e ∷ later) (first ++ then ∷ steps) end
-    → (c : List ℕ) → left_since end (moment then) c
+    → InTurn disks before start (since ++ e ∷ later) (first ++ then ∷ steps) end
+    → (c : List ℕ) → disks.left_since end (disks.moment then) c
     → StandsAmong ((before ++ since) ++ e ∷ []) later c

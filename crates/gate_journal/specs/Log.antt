@@ -2,7 +2,9 @@
 use Rattle.std.specs.Prelude.{◌≡◌, ◌⊎◌, ℕ, ◌+◌, ◌<◌, ◌≤◌, Bool, IsTrue, max, Option, Some, None}
 use Rattle.std.specs.Prelude.{IfSome, List, [], ◌∷◌, ◌++◌, length, map, slice_index, take, drop}
 use Rattle.turn_cell.specs.History.{Each}
-use Rattle.disk_model.specs.Disk.{Holds, Rose, EachImage, LeavesOnly, SameDisk}
+use Rattle.disk_model.specs.Disk.{Holds, Rose}
+use Rattle.disk_model.specs.Work.{EachImage, LeavesOnly, SameDisk}
+use Rattle.disk_model.specs.declared.disk.Disk.{Ghosts as DiskWords}
 use Rattle.gate_journal.specs.Gate.{IsShut, IsUnsure}
 use Rattle.gate_journal.specs.Opening.{MayMigrate, ReachesWrites}
 use Rattle.gate_journal.specs.Rows.{SpellsRows, row_body, journal_bytes, IsJournal, IsNext}
@@ -145,19 +147,13 @@ Meanwhile rows uncertain r c =
 
 -- what holds of each journal, whose closing gate is at this end
 pub record IsSoundJournal
-    {D : Type 0}
-    (tells : D → Bool)
-    (may_leave : D → List ℕ → Type 0)
-    (room faults : D → ℕ)
-    (log : Log D)
-    (end : ℕ) : Type 0 where
+    {D : Type 0} (disks : DiskWords D) (log : Log D) (end : ℕ) : Type 0 where
   pub journal : IsJournal (rows_of log.entries)
   pub ends : end ≡ length (journal_bytes (rows_of log.entries))
-  pub within : end < room log.disk
+  pub within : end < disks.room log.disk
   pub next : IfSome log.uncertain (IsNext (rows_of log.entries))
-  pub images : EachImage tells may_leave log.disk
-      (StandsInImage (rows_of log.entries) log.uncertain)
-  pub counts : Rises (faults log.opening.disk) log.entries (faults log.disk)
+  pub images : EachImage disks log.disk (StandsInImage (rows_of log.entries) log.uncertain)
+  pub counts : Rises (disks.faults log.opening.disk) log.entries (disks.faults log.disk)
 
 -- an image while these bytes are opened: their closing gate, or then their version byte, may be
 -- being written
@@ -207,15 +203,14 @@ pub record StandsBehind (entries : List Entry) (asked : Option Row) (c : List �
 -- between one and the next each image stands behind those by then, while the next one's append goes
 -- on.
 abbrev pub InTurn :
-    {D : Type 0} → (D → ℕ) → (D → ℕ → List ℕ → Type 0) → List Entry → D → List Entry → List D → D
-    → Type 0
-InTurn moment left_since before start [] [] end =
-    LeavesOnly moment left_since start end (StandsBehind before None)
-InTurn moment left_since before start [] (d ∷ steps) end = ⊥
-InTurn moment left_since before start (e ∷ entries) [] end = ⊥
-InTurn moment left_since before start (e ∷ entries) (d ∷ steps) end =
-    LeavesOnly moment left_since start d (StandsBehind before (Some (row_in e)))
-    × InTurn moment left_since (before ++ e ∷ []) d entries steps end
+    {D : Type 0} → DiskWords D → List Entry → D → List Entry → List D → D → Type 0
+InTurn disks before start [] [] end =
+    LeavesOnly disks start end (StandsBehind before None)
+InTurn disks before start [] (d ∷ steps) end = ⊥
+InTurn disks before start (e ∷ entries) [] end = ⊥
+InTurn disks before start (e ∷ entries) (d ∷ steps) end =
+    LeavesOnly disks start d (StandsBehind before (Some (row_in e)))
+    × InTurn disks (before ++ e ∷ []) d entries steps end
 
 -- the entry is of a session below 64
 abbrev pub IsOfSession : Entry → Type 0
@@ -228,27 +223,20 @@ IsOfSession e = (0 < entry_number e) × (entry_number e ≤ 64)
 -- rows found and the first of those written since, or these and one row more. Since the opening had
 -- ended, its entries came in turn.
 pub record IsSinceOpened
-    {D : Type 0}
-    (tells : D → Bool)
-    (may_leave : D → List ℕ → Type 0)
-    (room label reach moment : D → ℕ)
-    (left_since : D → ℕ → List ℕ → Type 0)
-    (log : Log D) : Type 0 where
-  pub same : SameDisk tells room label log.opening.disk log.disk
+    {D : Type 0} (disks : DiskWords D) (log : Log D) : Type 0 where
+  pub same : SameDisk disks log.opening.disk log.disk
   pub many : log.opening.found ≤ length log.entries
   pub numbers : Each IsOfSession log.entries
   pub unsure :
       IfSome log.uncertain (λ r. EndsInFaultOf r (drop log.opening.found log.entries))
   pub meanwhile :
       (start : List Row) → IsJournal start
-      → EachImage tells may_leave log.opening.disk (MayOpen start)
-      → IsTrue (tells log.opening.disk)
-      → LeavesOnly moment left_since log.opening.disk log.disk
+      → EachImage disks log.opening.disk (MayOpen start) → IsTrue (disks.tells log.opening.disk)
+      → LeavesOnly disks log.opening.disk log.disk
       (λ c. MayOpen start c ⊎ IsBetween (rows_found log) (rows_of log.entries) c)
   pub in_turn :
-      IsTrue (tells log.disk)
-      → InTurn moment left_since (take log.opening.found log.entries) log.start
+      IsTrue (disks.tells log.disk) → InTurn disks (take log.opening.found log.entries) log.start
       (drop log.opening.found log.entries) log.steps log.disk
   pub reaches :
-      reach log.disk
-      ≤ max (reach log.opening.disk) (length (journal_bytes (rows_of log.entries)) + 4110)
+      disks.reach log.disk
+      ≤ max (disks.reach log.opening.disk) (length (journal_bytes (rows_of log.entries)) + 4110)

@@ -1,6 +1,8 @@
 -- What a journal is to one who only looks at it (own).
-use Rattle.std.specs.Prelude.{ℕ, Bool, IsTrue, List}
-use Rattle.disk_model.specs.Disk.{NoneNew, OnlyLooks}
+use Rattle.std.specs.Prelude.{IsTrue}
+use Rattle.disk_model.specs.Disk.{NoneNew}
+use Rattle.disk_model.specs.Work.{OnlyLooks}
+use Rattle.disk_model.specs.declared.disk.Disk.{Ghosts as DiskWords}
 use Rattle.gate_journal.specs.declared.row.Row.{Row}
 
 -- the row, with the number 0: no pass made it
@@ -10,12 +12,6 @@ unnumbered r =
 
 -- nothing was written and nothing synced: what a stop may leave is what it might leave before
 pub record LooksAlone
-    {D : Type 0}
-    (tells : D → Bool)
-    (may_leave : D → List ℕ → Type 0)
-    (moment : D → ℕ)
-    (left_since : D → ℕ → List ℕ → Type 0)
-    (reach room label : D → ℕ)
-    (old new : D) : Type 0 where
-  pub looks : OnlyLooks tells may_leave moment left_since reach room label old new
-  pub none_lost : IsTrue (tells old) → NoneNew (may_leave new) (may_leave old)
+    {D : Type 0} (disks : DiskWords D) (old new : D) : Type 0 where
+  pub looks : OnlyLooks disks old new
+  pub none_lost : IsTrue (disks.tells old) → NoneNew (disks.may_leave new) (disks.may_leave old)

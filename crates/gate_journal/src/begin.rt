@@ -2,8 +2,8 @@
 
 ghost use Rattle.std.specs.Prelude.{◌≡◌, ◌≤◌, ◌<◌, ◌⊎◌, ◌++◌, [], ◌∷◌};
 ghost use Rattle.std.specs.Prelude.{IsTrue, OnOk, IfErr, MatchResult, length, max, ℕ};
-ghost use Rattle.disk_model.specs.Disk.{Only, SameDisk, LeavesOnly, AfterWrite, OnlyLooks};
-ghost use Rattle.disk_model.specs.Work.{FailedCall, GoodCalls};
+ghost use Rattle.disk_model.specs.Disk.{Only, AfterWrite};
+ghost use Rattle.disk_model.specs.Work.{SameDisk, LeavesOnly, OnlyLooks, FailedCall, GoodCalls};
 ghost use Rattle.gate_journal.specs.Rows.{journal_header};
 ghost use Rattle.gate_journal.specs.Faults.{HasInitCause};
 ghost use Rattle.gate_journal.specs.declared.fault.InitFault.TheVariants as InitFault;
@@ -29,25 +29,23 @@ pub fn init<D: Disk>(disk: &mut D) -> Result<(), InitFault>
     // is answered.
     ensures looks { (IsTrue (D.tells disk.old) × (0 < length (D.seen disk.old)))
         ⊎ IsTrue (D.fails_at disk.old (D.moment disk.old))
-        → OnlyLooks D.tells D.may_leave D.moment D.left_since D.reach D.room D.label
-        disk.old disk.new }
+        → OnlyLooks D.Disk disk.old disk.new }
     ensures seen { IfErr result (λ e. e ≡ InitFault.NotEmpty
         → IsTrue (D.tells disk.old) → D.seen disk.new ≡ D.seen disk.old) }
     // Where it isn't empty, nothing is written.
     ensures err { IfErr result (λ e. e ≡ InitFault.NotEmpty
         → (D.reach disk.new ≡ D.reach disk.old)
         × (IsTrue (D.tells disk.old)
-        → LeavesOnly D.moment D.left_since disk.old disk.new (D.may_leave disk.old))) }
-    ensures kept { SameDisk D.tells D.room D.label disk.old disk.new }
+        → LeavesOnly D.Disk disk.old disk.new (D.may_leave disk.old))) }
+    ensures kept { SameDisk D.Disk disk.old disk.new }
     ensures reach { D.reach disk.new ≤ max (D.reach disk.old) 17 }
     ensures crash { IsTrue (D.tells disk.old)
-        → LeavesOnly D.moment D.left_since disk.old disk.new
-        (λ c. AfterWrite 0 17 (D.may_leave disk.old) c) }
+        → LeavesOnly D.Disk disk.old disk.new (λ c. AfterWrite 0 17 (D.may_leave disk.old) c) }
     // After Ok three device calls were made, all good; after a fault of the disk which of them failed.
     ensures calls { IsTrue (D.tells disk.old) → MatchResult result
-        (λ _. GoodCalls D.fails_at D.moment 3 disk.old disk.new)
+        (λ _. GoodCalls D.Disk 3 disk.old disk.new)
         (λ e. ¬ (e ≡ InitFault.NotEmpty) → (k : ℕ) × (k < 3)
-        × FailedCall D.fails_at D.moment D.room 17 k disk.old disk.new) }
+        × FailedCall D.Disk 17 k disk.old disk.new) }
 {
     let from = disk.faults();
     let Ok(size) = disk.size() else {

@@ -4,7 +4,7 @@ ghost use Rattle.std.specs.Prelude.{◌≡◌, ◌⊎◌, ◌+◌, ◌<◌, ◌�
 ghost use Rattle.std.specs.Prelude.{◌↔◌, ℕ, List, true, Option, IfSome};
 ghost use Rattle.std.specs.Prelude.{IsTrue, IsOk, IfOk, IfErr, OnOk, OnErr, MatchOption, MatchResult};
 ghost use Rattle.std.specs.Prelude.{Some, None, length, max, slice_get, slice_index};
-ghost use Rattle.disk_model.specs.Disk.{EachImage, LeavesOnly, SameDisk, OnlyLooks};
+ghost use Rattle.disk_model.specs.Work.{EachImage, LeavesOnly, SameDisk, OnlyLooks};
 ghost use Rattle.disk_model.specs.Work.{GoodCalls, FailedCall};
 ghost use Rattle.gate_journal.specs.Rows.{journal_bytes, IsJournal, IsNext, MayStand, SpellsRows};
 ghost use Rattle.gate_journal.specs.Rows.{version_byte};
@@ -61,19 +61,17 @@ impl<D: Disk> Model for Journal<D> {
       ready = is_some j.room && j.history.room && j.steps.room;
     } };
 
-    ghost invariant = { λ j. IsSoundJournal D.tells D.may_leave D.room D.faults
-        (record {
-          disk = j.disk;
-          entries = j.history.list;
-          uncertain = j.uncertain;
-          opening = record { disk = j.opened.value; found = j.found };
-          start = j.start.value;
-          steps = j.steps.list;
-          ready = is_some j.room && j.history.room && j.steps.room;
-        })
+    ghost invariant = { λ j. IsSoundJournal D.Disk (record {
+      disk = j.disk;
+      entries = j.history.list;
+      uncertain = j.uncertain;
+      opening = record { disk = j.opened.value; found = j.found };
+      start = j.start.value;
+      steps = j.steps.list;
+      ready = is_some j.room && j.history.room && j.steps.room;
+    })
         j.end
-        × IsSinceOpened D.tells D.may_leave D.room D.label D.reach D.moment D.left_since
-        (record {
+        × IsSinceOpened D.Disk (record {
           disk = j.disk;
           entries = j.history.list;
           uncertain = j.uncertain;
@@ -126,46 +124,42 @@ impl<D: Disk> Journal<D> {
         // After Ok so many device calls were good; after a fault of the disk one of them failed,
         // behind good ones: it was to fail, or found no memory.
         ensures calls { IsTrue (D.tells disk) → MatchResult result
-            (λ j. GoodCalls D.fails_at D.moment (opening_calls (D.seen disk)
+            (λ j. GoodCalls D.Disk (opening_calls (D.seen disk)
             (length (journal_bytes (rows_of j.entries)))) disk j.disk)
             (λ e. IsDiskFault e.0 → (k : ℕ) × (k < 7)
-            × FailedCall D.fails_at D.moment D.room 0 k disk e.1) }
+            × FailedCall D.Disk 0 k disk e.1) }
 
         ensures steady { IsTrue (D.steady disk) → MatchResult result
             (λ j. IsTrue (D.steady j.disk)) (λ e. IsTrue (D.steady e.1)) }
         ensures kept { MatchResult result
-            (λ j. SameDisk D.tells D.room D.label disk j.disk)
-            (λ e. SameDisk D.tells D.room D.label disk e.1) }
+            (λ j. SameDisk D.Disk disk j.disk)
+            (λ e. SameDisk D.Disk disk e.1) }
 
         // Unless the disk failed a refusal leaves it as it was.
         ensures refused { IfErr result (λ e. IsNoFault e.0
-            → OnlyLooks D.tells D.may_leave D.moment D.left_since D.reach D.room D.label disk e.1
-            × (IsTrue (D.tells disk) → D.seen e.1 ≡ D.seen disk)) }
+            → OnlyLooks D.Disk disk e.1 × (IsTrue (D.tells disk) → D.seen e.1 ≡ D.seen disk)) }
 
         // Meanwhile an image is one from before, or has its closing gate or then its version byte
         // being written, where they aren't 0 and 1.
         ensures migrates { IsTrue (D.tells disk) → MatchResult result
-            (λ j. LeavesOnly D.moment D.left_since disk j.disk
+            (λ j. LeavesOnly D.Disk disk j.disk
             (λ c. D.may_leave disk c ⊎ IsMigrating (D.seen disk) c))
-            (λ e. LeavesOnly D.moment D.left_since disk e.1
+            (λ e. LeavesOnly D.Disk disk e.1
             (λ c. D.may_leave disk c ⊎ IsMigrating (D.seen disk) c)) }
         // Whatever rows the images spell, or these and one more, they spell so meanwhile.
         ensures crash { (rows : List Row) → IsJournal rows
-            → EachImage D.tells D.may_leave disk (MayOpen rows)
-            → IsTrue (D.tells disk)
-            → MatchResult result
-            (λ j. LeavesOnly D.moment D.left_since disk j.disk (MayOpen rows))
-            (λ e. LeavesOnly D.moment D.left_since disk e.1 (MayOpen rows)) }
+            → EachImage D.Disk disk (MayOpen rows) → IsTrue (D.tells disk) → MatchResult result
+            (λ j. LeavesOnly D.Disk disk j.disk (MayOpen rows))
+            (λ e. LeavesOnly D.Disk disk e.1 (MayOpen rows)) }
         // Where these rows stand in each image, of either version, and no row or this one behind an
         // uncertain gate, it stays so meanwhile, and these are found, or these and that one.
         ensures stands { (rows : List Row) (uncertain : Option Row) → IsJournal rows
             → IfSome uncertain (IsNext rows)
-            → EachImage D.tells D.may_leave disk (StandsInEither rows uncertain)
-            → IsTrue (D.tells disk)
+            → EachImage D.Disk disk (StandsInEither rows uncertain) → IsTrue (D.tells disk)
             → MatchResult result
-            (λ j. LeavesOnly D.moment D.left_since disk j.disk (StandsInEither rows uncertain)
+            (λ j. LeavesOnly D.Disk disk j.disk (StandsInEither rows uncertain)
             × MayFind rows uncertain (rows_of j.entries))
-            (λ e. LeavesOnly D.moment D.left_since disk e.1 (StandsInEither rows uncertain)) }
+            (λ e. LeavesOnly D.Disk disk e.1 (StandsInEither rows uncertain)) }
         ensures reach { MatchResult result
             (λ j. D.reach j.disk ≤ max (D.reach disk) (D.room disk))
             (λ e. D.reach e.1 ≤ max (D.reach disk) (D.room disk)) }
@@ -254,11 +248,11 @@ impl<D: Disk> Journal<D> {
         // After Ok all its device calls were good. After Err one of them failed, behind good ones,
         // and the gate is as that one leaves it.
         ensures calls { OnOk result (IsTrue (D.tells self.old.disk)
-            → GoodCalls D.fails_at D.moment (length (gates_left self.old.uncertain
+            → GoodCalls D.Disk (length (gates_left self.old.uncertain
             (next_row (rows_of self.old.entries) session command.now)))
             self.old.disk self.new.disk) }
         ensures stage { OnErr result (IsTrue (D.tells self.old.disk)
-            → (k : ℕ) × FailedCall D.fails_at D.moment D.room
+            → (k : ℕ) × FailedCall D.Disk
             (row_end (next_row (rows_of self.old.entries) session command.now)) k
             self.old.disk self.new.disk
             × (slice_get (gates_left self.old.uncertain
@@ -274,13 +268,13 @@ impl<D: Disk> Journal<D> {
             (λ _. rows_of self.new.entries ≡ rows_of self.old.entries) }
         // The entry is taken down with the disk as it stands then.
         ensures step { self.new.steps ≡ self.old.steps ++ self.new.disk ∷ [] }
-        ensures kept { SameDisk D.tells D.room D.label self.old.disk self.new.disk
+        ensures kept { SameDisk D.Disk self.old.disk self.new.disk
             × (self.new.opening ≡ self.old.opening) × (self.new.start ≡ self.old.start) }
 
         // Meanwhile an image spells the rows from before alone, or these and the uncertain one, or
         // these and the new one.
         ensures crash { IsTrue (D.tells self.old.disk)
-            → LeavesOnly D.moment D.left_since self.old.disk self.new.disk
+            → LeavesOnly D.Disk self.old.disk self.new.disk
             (Meanwhile (rows_of self.old.entries) self.old.uncertain
             (next_row (rows_of self.old.entries) session command.now)) }
         ensures reach { D.reach self.new.disk ≤ max (D.reach self.old.disk)
@@ -326,14 +320,12 @@ impl<D: Disk> Journal<D> {
         ensures journal { IsJournal (rows_of self.now.entries) }
         ensures rises { Rises (D.faults self.now.opening.disk) self.now.entries
             (D.faults self.now.disk) }
-        ensures since { IsSinceOpened D.tells D.may_leave D.room D.label D.reach D.moment
-            D.left_since self.now }
-        ensures images { EachImage D.tells D.may_leave self.now.disk
+        ensures since { IsSinceOpened D.Disk self.now }
+        ensures images { EachImage D.Disk self.now.disk
             (MaySpell (rows_of self.now.entries) self.now.uncertain) }
-        ensures opens { EachImage D.tells D.may_leave self.now.disk
-            (MayOpen (rows_of self.now.entries)) }
+        ensures opens { EachImage D.Disk self.now.disk (MayOpen (rows_of self.now.entries)) }
         ensures next { IfSome self.now.uncertain (IsNext (rows_of self.now.entries)) }
-        ensures stands { EachImage D.tells D.may_leave self.now.disk
+        ensures stands { EachImage D.Disk self.now.disk
             (StandsInImage (rows_of self.now.entries) self.now.uncertain) }
     {
         self.history.row_count()
@@ -351,15 +343,13 @@ impl<D: Disk> Journal<D> {
     pub fn into_disk(self) -> D
         ensures value { result ≡ self.disk }
         ensures journal { IsJournal (rows_of self.entries) }
-        ensures images { EachImage D.tells D.may_leave result
-            (MaySpell (rows_of self.entries) self.uncertain) }
-        ensures opens { EachImage D.tells D.may_leave result (MayOpen (rows_of self.entries)) }
+        ensures images { EachImage D.Disk result (MaySpell (rows_of self.entries) self.uncertain) }
+        ensures opens { EachImage D.Disk result (MayOpen (rows_of self.entries)) }
         ensures next { IfSome self.uncertain (IsNext (rows_of self.entries)) }
-        ensures stands { EachImage D.tells D.may_leave result
+        ensures stands { EachImage D.Disk result
             (StandsInImage (rows_of self.entries) self.uncertain) }
         ensures rises { Rises (D.faults self.opening.disk) self.entries (D.faults result) }
-        ensures since { IsSinceOpened D.tells D.may_leave D.room D.label D.reach D.moment
-            D.left_since self }
+        ensures since { IsSinceOpened D.Disk self }
     {
         let Journal { disk, .. } = self;
         disk

@@ -40,10 +40,10 @@ pub fn has_one_reading()
 /// of the first of them, and at most one more: that of the next one, or one whose append failed
 /// behind the last row.
 pub fn stops_in_turn<D: Disk>()
-    ensures { StopsInTurn D.moment D.left_since }
+    ensures { StopsInTurn D.Disk }
 {}
 
 /// Each image that a stop may leave once an entry was taken down spells its row, where it is one.
 pub fn kept_from_then<D: Disk>()
-    ensures { KeptFromThen D.moment D.left_since }
+    ensures { KeptFromThen D.Disk }
 {}

@@ -2,7 +2,8 @@
 
 ghost use Rattle.std.specs.Prelude.{◌≡◌, ◌⊎◌, ◌+◌, ◌<◌, ◌≤◌, IsTrue, IfOk, IfErr};
 ghost use Rattle.std.specs.Prelude.{length, max, slice_index};
-ghost use Rattle.disk_model.specs.Disk.{EachImage, LeavesOnly, NoneNew, SameDisk, OnlyLooks};
+ghost use Rattle.disk_model.specs.Disk.{NoneNew};
+ghost use Rattle.disk_model.specs.Work.{EachImage, LeavesOnly, SameDisk, OnlyLooks};
 ghost use Rattle.gate_journal.specs.Faults.{Explains, IsOfDisk, IsNoFault, UnlessFault};
 ghost use Rattle.gate_journal.specs.Faults.{IsFault, CountsOpening, IsDiskFault};
 ghost use Rattle.disk_model.specs.Work.{GoodCalls, FailedCall};
@@ -38,14 +39,13 @@ pub fn read_all<D: Disk>(alloc: Global, disk: &mut D) -> Result<Vec<u8>, Journal
     ensures cause { CountsOpening result (D.faults disk.old) (D.faults disk.new) }
     ensures seen { UnlessFault result (IsTrue (D.tells disk.old)
         → D.seen disk.new ≡ D.seen disk.old) }
-    ensures kept { OnlyLooks D.tells D.may_leave D.moment D.left_since D.reach D.room D.label
-        disk.old disk.new }
+    ensures kept { OnlyLooks D.Disk disk.old disk.new }
     ensures none_lost { IsTrue (D.tells disk.old)
         → NoneNew (D.may_leave disk.new) (D.may_leave disk.old) }
     ensures calls { IsTrue (D.tells disk.old) → MatchResult result
-        (λ _. GoodCalls D.fails_at D.moment 2 disk.old disk.new)
+        (λ _. GoodCalls D.Disk 2 disk.old disk.new)
         (λ e. IsDiskFault e → (k : ℕ) × (k < 2)
-        × FailedCall D.fails_at D.moment D.room 0 k disk.old disk.new) }
+        × FailedCall D.Disk 0 k disk.old disk.new) }
 {
     let from = disk.faults();
     let Ok(size) = disk.size() else {
@@ -67,19 +67,18 @@ pub fn load<D: Disk>(alloc: Global, disk: &mut D) -> Result<Parsed, JournalFault
     ensures journal { IfOk result (λ p. IsJournal (rows_of p.history.list)
         × (p.end ≡ length (journal_bytes (rows_of p.history.list)))
         × (p.end < D.room disk.old)) }
-    ensures shut { IfOk result (λ p. EachImage D.tells D.may_leave disk.new
+    ensures shut { IfOk result (λ p. EachImage D.Disk disk.new
         (IsShut (journal_bytes (rows_of p.history.list)))) }
     ensures exact { IfErr result (λ e. IsTrue (D.tells disk.old)
         → Explains (D.seen disk.old) e) }
     // Unless the disk failed a refusal leaves it as it was.
     ensures refused { IfErr result (λ e. IsNoFault e
-        → OnlyLooks D.tells D.may_leave D.moment D.left_since D.reach D.room D.label
-        disk.old disk.new
+        → OnlyLooks D.Disk disk.old disk.new
         × (IsTrue (D.tells disk.old) → D.seen disk.new ≡ D.seen disk.old)) }
     ensures steady { IsTrue (D.steady disk.old) → IsTrue (D.steady disk.new) }
     ensures cause { CountsOpening result (D.faults disk.old) (D.faults disk.new) }
     ensures migrates { IsTrue (D.tells disk.old)
-        → LeavesOnly D.moment D.left_since disk.old disk.new
+        → LeavesOnly D.Disk disk.old disk.new
         (λ c. D.may_leave disk.old c ⊎ IsMigrating (D.seen disk.old) c) }
     ensures reach { D.reach disk.new ≤ max (D.reach disk.old) (D.room disk.old) }
     ensures told_reach { IsTrue (D.tells disk.old)
@@ -91,12 +90,11 @@ pub fn load<D: Disk>(alloc: Global, disk: &mut D) -> Result<Parsed, JournalFault
     ensures untouched { IfOk result (λ p. IsTrue (D.tells disk.old)
         → slice_index (D.seen disk.old) p.end ≡ 0 → version_byte (D.seen disk.old) ≡ 1
         → D.reach disk.new ≡ D.reach disk.old) }
-    ensures kept { SameDisk D.tells D.room D.label disk.old disk.new }
+    ensures kept { SameDisk D.Disk disk.old disk.new }
     ensures calls { IsTrue (D.tells disk.old) → MatchResult result
-        (λ p. GoodCalls D.fails_at D.moment (opening_calls (D.seen disk.old) p.end)
-        disk.old disk.new)
+        (λ p. GoodCalls D.Disk (opening_calls (D.seen disk.old) p.end) disk.old disk.new)
         (λ e. IsDiskFault e → (k : ℕ) × (k < 7)
-        × FailedCall D.fails_at D.moment D.room 0 k disk.old disk.new) }
+        × FailedCall D.Disk 0 k disk.old disk.new) }
 {
     let from = disk.faults();
     let Ok(()) = disk.sync() else {

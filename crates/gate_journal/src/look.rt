@@ -34,14 +34,13 @@ pub fn scan<D: Disk>(alloc: Global, disk: &mut D) -> Result<Vec<Row>, JournalFau
     ensures cause { CountsOpening result (D.faults disk.old) (D.faults disk.new) }
     // After Ok both device calls were good; after a fault of the disk one of them failed.
     ensures calls { IsTrue (D.tells disk.old) → MatchResult result
-        (λ _. GoodCalls D.fails_at D.moment 2 disk.old disk.new)
+        (λ _. GoodCalls D.Disk 2 disk.old disk.new)
         (λ e. IsDiskFault e → (k : ℕ) × (k < 2)
-        × FailedCall D.fails_at D.moment D.room 0 k disk.old disk.new) }
+        × FailedCall D.Disk 0 k disk.old disk.new) }
     ensures seen { UnlessFault result (IsTrue (D.tells disk.old)
         → D.seen disk.new ≡ D.seen disk.old) }
     ensures steady { IsTrue (D.steady disk.old) → IsTrue (D.steady disk.new) }
-    ensures kept { LooksAlone D.tells D.may_leave D.moment D.left_since D.reach D.room D.label
-        disk.old disk.new }
+    ensures kept { LooksAlone D.Disk disk.old disk.new }
 {
     let bytes = read_all(alloc, disk)?;
     let mut rows = read_rows(alloc, &bytes)?.into_vec();

@@ -14,12 +14,11 @@ const VERSION_PLACE: u64 = 8;
 // The byte at this place becomes this one: two device calls, or none where it stands there.
 fn set_byte<D: Disk>(disk: &mut D, place: u64, now: u8, wanted: u8) -> Result<(), Failed>
     ensures triple { (bytes : List ℕ) → slice_index bytes place ≡ now
-        → Triple D.tells D.may_leave D.moment D.left_since result disk.old disk.new
+        → Triple D.Disk result disk.old disk.new
         (λ c. c ≡ bytes) (MayGetByte bytes place wanted) (λ c. c ≡ with_byte bytes place wanted) }
-    ensures ran { Ran D.tells D.steady D.room D.label D.faults D.reach (place + 1)
-        result disk.old disk.new }
+    ensures ran { Ran D.Disk (place + 1) result disk.old disk.new }
     ensures reach { ReachesByte place now wanted (D.reach disk.old) (D.reach disk.new) }
-    ensures calls { IsTrue (D.tells disk.old) → MakesCalls D.fails_at D.moment D.room (place + 1)
+    ensures calls { IsTrue (D.tells disk.old) → MakesCalls D.Disk (place + 1)
         (set_calls now wanted) result disk.old disk.new }
 {
     if now == wanted {
@@ -34,12 +33,11 @@ pub fn migrate<D: Disk>(disk: &mut D, end: u64, gate: u8, version: u8) -> Result
     requires { 9 ≤ end }
     ensures triple { (bytes : List ℕ) → slice_index bytes end ≡ gate
         → version_byte bytes ≡ version
-        → Triple D.tells D.may_leave D.moment D.left_since result disk.old disk.new
+        → Triple D.Disk result disk.old disk.new
         (λ c. c ≡ bytes) (MayMigrate bytes end) (λ c. c ≡ migrated bytes end) }
-    ensures ran { Ran D.tells D.steady D.room D.label D.faults D.reach (end + 1)
-        result disk.old disk.new }
+    ensures ran { Ran D.Disk (end + 1) result disk.old disk.new }
     ensures reach { ReachesWrites end gate version (D.reach disk.old) (D.reach disk.new) }
-    ensures calls { IsTrue (D.tells disk.old) → MakesCalls D.fails_at D.moment D.room (end + 1)
+    ensures calls { IsTrue (D.tells disk.old) → MakesCalls D.Disk (end + 1)
         (set_calls gate 0 + set_calls version 1) result disk.old disk.new }
 {
     let Ok(()) = set_byte(disk, end, gate, 0) else {

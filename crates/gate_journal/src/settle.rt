@@ -13,15 +13,14 @@ use disk_model::{Disk, Failed};
 /// Closes the gate at this end, where it is uncertain; else it leaves it alone.
 pub fn settle<D: Disk>(disk: &mut D, uncertain: &mut Option<Row>, end: u64) -> Result<(), Failed>
     ensures triple { (rows : List Row) → end ≡ length (journal_bytes rows)
-        → Triple D.tells D.may_leave D.moment D.left_since result disk.old disk.new
+        → Triple D.Disk result disk.old disk.new
         (StandsInImage rows uncertain.old) (StandsInImage rows uncertain.old)
         (StandsInImage rows None) }
     ensures gate { MatchResult result (λ _. uncertain.new ≡ None)
         (λ _. uncertain.new ≡ uncertain.old) }
     ensures untouched { uncertain.old ≡ None → disk.new ≡ disk.old }
-    ensures ran { Ran D.tells D.steady D.room D.label D.faults D.reach (end + 1)
-        result disk.old disk.new }
-    ensures calls { IsTrue (D.tells disk.old) → MakesCalls D.fails_at D.moment D.room (end + 1)
+    ensures ran { Ran D.Disk (end + 1) result disk.old disk.new }
+    ensures calls { IsTrue (D.tells disk.old) → MakesCalls D.Disk (end + 1)
         (repair_calls uncertain.old) result disk.old disk.new }
 {
     if uncertain.is_none() {

@@ -7,6 +7,7 @@ use Rattle.std.specs.Prelude.{slice_get, slice_index, Bool, IsTrue, true, false,
 use Rattle.std.specs.Prelude.{if◌then◌else◌}
 use Rattle.turn_cell.specs.History.{Each}
 use Rattle.disk_model.specs.Disk.{Holds}
+use Rattle.disk_model.specs.declared.disk.Disk.{Ghosts as DiskWords}
 use Rattle.gate_journal.specs.Log.{rows_kept}
 use Rattle.gate_journal.specs.Rows.{SpellsRows, journal_header}
 use Rattle.gate_journal.specs.declared.row.Row.{Row}
@@ -87,13 +88,11 @@ module _ {A : Type 0} (P : A → Type 0) where
   each_got (y ∷ ys) (suc s) x each is = each_got ys s x each.1 is
 
 -- so they agree with the rows of any journal
-pub made_agree : {D : Type 0} (tells : D → Bool) (reads : D → List ℕ) (stories : List Story)
-    (rows : List Row) (disks : List D)
-    → AreMade tells reads disks
-    → AreAgreed tells reads stories rows disks
-made_agree tells reads stories rows disks made s disk there =
-    let one = each_got (IsNewFile tells reads) disks s disk made.each there in
-    (one.0, agrees stories _ _ (reads disk) one.1)
+pub made_agree : {D : Type 0} (words : DiskWords D) (stories : List Story) (rows : List Row)
+    (disks : List D) → AreMade words disks → AreAgreed words stories rows disks
+made_agree words stories rows disks made s disk there =
+    let one = each_got (IsNewFile words) disks s disk made.each there in
+    (one.0, agrees stories _ _ (words.seen disk) one.1)
 
 -- disks in memory tell what they hold
 pub each_told : {A : Type 0} (P : A → Type 0) (xs : List A)

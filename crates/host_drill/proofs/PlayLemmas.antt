@@ -5,6 +5,7 @@ use Rattle.std.proofs.Common.{sym, ap, ◌∙◌, subst, arith, inl, inr, false,
 use Rattle.std.specs.Prelude.{Some, slice_get}
 use Rattle.std.specs.List.{All, AllByRecursion, flat_map, list_any, range_with_len}
 use Rattle.std.proofs.lemmas.List.Elements.{All-from_recursion}
+use Rattle.disk_model.specs.declared.disk.Disk.{Ghosts as DiskWords}
 use Rattle.hex.specs.Hex.{encode_lower}
 use Rattle.turn_cell.specs.History.{Each}
 use Rattle.host_serve.specs.Chain.{Answers, AnswersInOrder}
@@ -110,12 +111,11 @@ module _ (stories : List Story) (budget : ℕ) (sound : Type 0) where
       ap (λ (m : Mark). m.length) same
       ∙ one_mark old t c.0 s below (ap (λ (m : Mark). m.session) (sym same) ∙ is) c.1
 
-module _ {D : Type 0} (tells : D → Bool) (reads : D → List ℕ) (host : Host D)
-    (old new : Passes D) (drilled : IsDrilled tells reads host old)
-    (bytes written : List ℕ) (marks : List Mark)
-    (a : AnswersAll tells reads host old new bytes written marks) where
+module _ {D : Type 0} (disks : DiskWords D) (host : Host D) (old new : Passes D)
+    (drilled : IsDrilled disks host old) (bytes written : List ℕ) (marks : List Mark)
+    (a : AnswersAll disks host old new bytes written marks) where
   abbrev Sound : Type 0
-  Sound = IsSound tells reads host
+  Sound = IsSound disks host
 
   -- the turns of the Echo story by passes that were never split
   abbrev IsChain : List Story → ℕ → List Holder → Type 0
@@ -132,7 +132,7 @@ module _ {D : Type 0} (tells : D → Bool) (reads : D → List ℕ) (host : Host
   -- the host stays the drill's
   pub still_drilled : AreOf host new
       → holders new.desks.items ≡ holders old.desks.items
-      → IsDrilled tells reads host new
+      → IsDrilled disks host new
   still_drilled of same = record {
     of = of;
     sound = drilled.sound;

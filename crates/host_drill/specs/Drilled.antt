@@ -1,5 +1,6 @@
 -- The host of a drill, and what the lines of its links were answered (own).
-use Rattle.std.specs.Prelude.{◌≡◌, ◌≢◌, ℕ, ◌≤◌, List, [], ◌∷◌, length, map, Bool, IsTrue}
+use Rattle.std.specs.Prelude.{◌≡◌, ◌≢◌, ℕ, ◌≤◌, List, [], ◌∷◌, length, map, IsTrue}
+use Rattle.disk_model.specs.declared.disk.Disk.{Ghosts as DiskWords}
 use Rattle.turn_cell.specs.History.{Each}
 use Rattle.host_serve.specs.Chain.{AnswersInOrder}
 use Rattle.host_serve.specs.Holders.{holders, seen_at, seens}
@@ -18,10 +19,10 @@ use Rattle.sha2.specs.Sha256.{sha256}
 use Rattle.snap_store.specs.File.{empty_snapshot_file}
 use Rattle.host_drill.specs.Drill.{echo, drilled_history, drilled_replies}
 
-module _ {D : Type 0} (tells : D → Bool) (reads : D → List ℕ) where
+module _ {D : Type 0} (words : DiskWords D) where
   -- the disk has a new snapshot file, in which both areas are closed
   abbrev pub IsNewFile : D → Type 0
-  IsNewFile d = IsTrue (tells d) × (reads d ≡ empty_snapshot_file)
+  IsNewFile d = IsTrue (words.tells d) × (words.seen d ≡ empty_snapshot_file)
 
   -- there is a disk for each session, with a new snapshot file
   pub record AreMade (disks : List D) : Type 0 where
@@ -31,7 +32,7 @@ module _ {D : Type 0} (tells : D → Bool) (reads : D → List ℕ) where
   -- the passes are the host's, and were never split; it has the Echo story alone, and is sound
   pub record IsDrilled (host : Host D) (passes : Passes D) : Type 0 where
     pub of : AreOf host passes
-    pub sound : IsSound tells reads host
+    pub sound : IsSound words host
     pub alone : holders passes.desks.items ≡ roots
     pub many : length (seens passes.desks.items) ≡ 64
     pub stories : host.stories.now ≡ echo ∷ []
@@ -47,7 +48,7 @@ module _ {D : Type 0} (tells : D → Bool) (reads : D → List ℕ) where
         ≡ texts_joined (map print_reply (map (λ (t : AnsweredLine). t.reply) turns))
     pub marked : marks ≡ map (λ (t : AnsweredLine). t.mark) turns
     pub chain :
-        AnswersInOrder host.stories.now host.budget (IsSound tells reads host)
+        AnswersInOrder host.stories.now host.budget (IsSound words host)
         (holders old.desks.items) (seens old.desks.items) turns (seens new.desks.items)
 
 module _ {D : Type 0} where

@@ -30,7 +30,7 @@ pub fn answer_all<'i, R: Wait, D: Disk + Drop>(
     lines: Vec<u8>,
 ) -> Result<Answered, AllocError>
     requires passes { AreOf host.now passes.old }
-    ensures value { IfOk result (λ a. AnswersAll D.tells D.seen host.now passes.old passes.new
+    ensures value { IfOk result (λ a. AnswersAll D.Disk host.now passes.old passes.new
         lines.items a.replies.items a.marks.items) }
     ensures kept { AreOf host.now passes.new }
     ensures holders { holders passes.new.desks.items ≡ holders passes.old.desks.items }

@@ -23,7 +23,7 @@ const SESSIONS: u8 = 64;
 fn made<D: Disk + Drop>(mut disk: D) -> Result<D, AllocError>
     requires tells { IsTrue (D.tells disk) }
     requires empty { D.seen disk ≡ [] }
-    ensures ok { IfOk result (λ made. IsNewFile D.tells D.seen made) }
+    ensures ok { IfOk result (λ made. IsNewFile D.Disk made) }
 {
     match make(&mut disk) {
         Ok(()) => Ok(disk),
@@ -53,9 +53,9 @@ pub fn open_host<'i, D: Disk + Drop>(
     snaps: Vec<D>,
 ) -> Result<(Host<'i, D>, Passes<'i, D>), AllocError>
     requires tells { IsTrue (D.tells journal) }
-    requires made { AreMade D.tells D.seen snaps.items }
+    requires made { AreMade D.Disk snaps.items }
     requires stories { stories.now ≡ echo ∷ [] }
-    ensures drilled { IfOk result (λ pair. IsDrilled D.tells D.seen pair.0 pair.1) }
+    ensures drilled { IfOk result (λ pair. IsDrilled D.Disk pair.0 pair.1) }
     ensures fresh { IfOk result (λ pair. AreFreshFrom 0 pair.1) }
 {
     let Ok(()) = init(&mut journal) else {

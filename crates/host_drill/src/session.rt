@@ -32,12 +32,12 @@ fn play<'i, R: Wait, D: Disk + Drop>(
     number: u64,
     session: u8,
 ) -> Result<Played, AllocError>
-    requires drilled { IsDrilled D.tells D.seen host.now passes.old }
+    requires drilled { IsDrilled D.Disk host.now passes.old }
     requires below { session < 64 }
     requires fresh { history_seen passes.old session ≡ [] }
     ensures value { IfOk result (λ played. IsPlayed passes.old passes.new number session
         played.refused played.digest) }
-    ensures kept { IfOk result (λ _. IsDrilled D.tells D.seen host.now passes.new) }
+    ensures kept { IfOk result (λ _. IsDrilled D.Disk host.now passes.new) }
 {
     let lines = script(alloc, number, session, TURNS)?;
     let answered = answer_all(rt, alloc, host, passes, u32::from(session), lines)?;
@@ -61,12 +61,12 @@ fn length_of<'i, R: Wait, D: Disk + Drop>(
     number: u64,
     session: u8,
 ) -> Result<u64, AllocError>
-    requires drilled { IsDrilled D.tells D.seen host.now passes.old }
+    requires drilled { IsDrilled D.Disk host.now passes.old }
     requires below { session < 64 }
     ensures value { IfOk result (λ n. n ≡ length (history_seen passes.old session)) }
     ensures others { IfOk result (λ _. (k : ℕ) → k ≢ session
         → history_seen passes.new k ≡ history_seen passes.old k) }
-    ensures kept { IfOk result (λ _. IsDrilled D.tells D.seen host.now passes.new) }
+    ensures kept { IfOk result (λ _. IsDrilled D.Disk host.now passes.new) }
 {
     let lines = script(alloc, number, session, 0)?;
     let answered = answer_all(rt, alloc, host, passes, u32::from(session), lines)?;
@@ -100,13 +100,13 @@ pub fn add_session<'i, R: Wait, D: Disk + Drop>(
     session: u8,
     text: &mut Vec<u8>,
 ) -> Result<(), AllocError>
-    requires drilled { IsDrilled D.tells D.seen host.now passes.old }
+    requires drilled { IsDrilled D.Disk host.now passes.old }
     requires below { session < 64 }
     requires fresh { AreFreshFrom session passes.old }
     ensures told { OnOk result (text.new.items
         ≡ text.old.items ++ session_line number session) }
     ensures fresh { OnOk result (AreFreshFrom (session + 1) passes.new) }
-    ensures kept { OnOk result (IsDrilled D.tells D.seen host.now passes.new) }
+    ensures kept { OnOk result (IsDrilled D.Disk host.now passes.new) }
 {
     let played = play(rt, alloc, host, passes, number, session)?;
     let accepted = length_of(rt, alloc, host, passes, number, session)?;

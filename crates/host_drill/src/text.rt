@@ -25,7 +25,7 @@ fn drill_over<'i, R: Wait, D: Disk + Drop>(
     number: u64,
 ) -> Result<Vec<u8>, AllocError>
     requires tells { IsTrue (D.tells journal) }
-    requires made { AreMade D.tells D.seen snaps.items }
+    requires made { AreMade D.Disk snaps.items }
     requires stories { stories.now ≡ echo ∷ [] }
     ensures value { IfOk result (λ text. text.items ≡ drill_text number) }
 {

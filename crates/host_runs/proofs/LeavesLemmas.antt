@@ -4,7 +4,7 @@ use Rattle.std.proofs.Common.{IfSome, IsTrue, drop, length, map, ap, sym, subst}
 use Rattle.std.proofs.lemmas.List.Elements.{Contains-append_right}
 use Rattle.std.specs.List.{Contains}
 use Rattle.turn_cell.specs.History.{Each}
-use Rattle.disk_model.specs.Disk.{EachImage}
+use Rattle.disk_model.specs.Work.{EachImage}
 use Rattle.disk_model.specs.declared.disk.Disk.{Ghosts as DiskWords}
 use Rattle.gate_journal.specs.Log.{EndsInFaultOf, MayOpen, MaySpell, rows_of}
 use Rattle.gate_journal.specs.Rows.{IsJournal, SpellsRows}
@@ -55,7 +55,7 @@ module _ {D : Type 0} (disks : DiskWords D) where
   agreed : (stories : List Story) (rows : List Row) (given : D) (givens : List D)
       (first : FolderImage) → IsFound disks given givens first
       → AgreeWith stories rows first.snaps
-      → AreAgreed disks.tells disks.seen stories rows givens
+      → AreAgreed disks stories rows givens
   agreed stories rows given givens first found agree s disk at =
       let file = found.snaps s disk at in (
         file.2.0,
@@ -70,11 +70,10 @@ module _ {D : Type 0} (disks : DiskWords D) where
       → IsFound disks given givens first → MayBeLeft disks back backs left
       → (IsTrue (disks.tells given) → SpellsRows (disks.seen given) rows)
       → rows_of journal ≡ rows ++ accepted
-      → EachImage disks.tells disks.may_leave back (MaySpell (rows_of journal) uncertain)
+      → EachImage disks back (MaySpell (rows_of journal) uncertain)
       → JournalBack disks rows journal uncertain back
       → StoresBack disks stories rows (rows_of journal) givens backs
-      → (AreAgreed disks.tells disks.seen stories rows givens
-      → Each (StandsInRows stories (rows_of journal)) shows)
+      → (AreAgreed disks stories rows givens → Each (StandsInRows stories (rows_of journal)) shows)
       → RunLeaves stories first (record {
         left = left;
         shows = shows;

@@ -1,7 +1,7 @@
 -- Where no reply tells a fault of the journal's disk, a stop leaves no row more (own).
 use Rattle.std.specs.Prelude.{◌≡◌, ℕ, List}
 use Rattle.turn_cell.specs.History.{Each}
-use Rattle.disk_model.specs.Disk.{EachImage}
+use Rattle.disk_model.specs.Work.{EachImage}
 use Rattle.disk_model.specs.declared.disk.Disk.{Ghosts as DiskWords}
 use Rattle.gate_journal.specs.Log.{IsClosedWell, rows_of}
 use Rattle.host_serve.specs.Serves.{AnsweredLine}
@@ -25,4 +25,4 @@ PipeIsCertain {D} disks =
     (input now : SourceState) (output new : SinkState) (served : Ended)
     (c : Conversed disks stories budget given givens back backs input now output new served)
     → Each (λ (t : AnsweredLine). TellsNoFault t.reply) c.turns
-    → EachImage disks.tells disks.may_leave back (IsClosedWell (rows_of c.journal))
+    → EachImage disks back (IsClosedWell (rows_of c.journal))

@@ -1,5 +1,5 @@
 -- The desks of a host that ends, and their entries of the journal.
-use Rattle.std.proofs.Common.{◌≡◌, ℕ, ◌+◌, ◌<◌, ◌≤◌, Bool, List, [], ◌∷◌, ◌++◌}
+use Rattle.std.proofs.Common.{◌≡◌, ℕ, ◌+◌, ◌<◌, ◌≤◌, List, [], ◌∷◌, ◌++◌}
 use Rattle.std.proofs.Common.{length, map, get_or, set, refl, ap, sym, ◌∙◌, subst, inl, inr}
 use Rattle.std.proofs.Common.{arith, append_assoc, Option, Some, None}
 use Rattle.std.specs.Prelude.{slice_get}
@@ -13,7 +13,8 @@ use Rattle.turn_cell.specs.Views.{tag_in}
 use Rattle.turn_cell.proofs.HistoryLemmas.{among_first, among_second, continues_all, continues_map}
 use Rattle.turn_cell.proofs.HistoryLemmas.{nil_right}
 use Rattle.gate_journal.specs.Log.{Log, entry_number, rows_of}
-use Rattle.disk_model.specs.Disk.{EachImage}
+use Rattle.disk_model.specs.Work.{EachImage}
+use Rattle.disk_model.specs.declared.disk.Disk.{Ghosts as DiskWords}
 use Rattle.disk_model.proofs.Moments.{weaker}
 use Rattle.gate_journal.specs.Rows.{IsJournal, commands_of}
 use Rattle.gate_journal.specs.declared.command.Command.{Command}
@@ -123,19 +124,16 @@ module _ {D : Type 0} where
       ∙ (ap commands_in shared.entries
       ∙ commands_in-history (seen desk.pass) desk.desk.session))
 
-module _ {D : Type 0} (tells : D → Bool) (may_leave : D → List ℕ → Type 0)
-    (reads : D → List ℕ) (moment : D → ℕ) (left_since : D → ℕ → List ℕ → Type 0)
-    (faults reach room label : D → ℕ) where
+module _ {D : Type 0} (disks : DiskWords D) where
   -- what a desk leaves of its store
   desk_returns : (s : ℕ) (desk : SharedState D) (its : DeskTag D) (back : D)
       (other : Pass (Log D) JournalEntry) (journal : List JournalEntry) → desk_tag desk ≡ its
       → desk.desk.session ≡ s → IsShared desk
-      → EndsStore tells may_leave reads moment left_since room label faults reach desk
-      → back ≡ desk.saves.store.disk → other ≡ desk.pass
+      → EndsStore disks desk → back ≡ desk.saves.store.disk → other ≡ desk.pass
       → Continues (IsForeign entry_number ((s + 1) ∷ [])) journal (seen other)
-      → Returns tells may_leave reads moment left_since faults reach room label s its back journal
+      → Returns disks s its back journal
   desk_returns s desk its back other journal tag same shared e is_back is since = record {
-    gives = subst (λ (x : DeskTag D × D). GivesBack tells faults reach room label x.0.store x.1)
+    gives = subst (λ (x : DeskTag D × D). GivesBack disks x.0.store x.1)
         (λ i. (tag i, sym is_back i)) (record {
           same = e.store.same;
           counts = e.store.counts;
@@ -144,21 +142,21 @@ module _ {D : Type 0} (tells : D → Bool) (may_leave : D → List ℕ → Type 
     seen = seen other;
     since = since;
     agreed = λ sound.
-        subst (λ (x : List Story × Pass (Log D) JournalEntry × ℕ × D). IsAgreedDisk tells
-        may_leave x.0 (rows_of (seen x.1)) x.2 x.3)
+        subst (λ (x : List Story × Pass (Log D) JournalEntry × ℕ
+        × D). IsAgreedDisk disks x.0 (rows_of (seen x.1)) x.2 x.3)
         (λ i. (
           ap (λ (t : DeskTag D). t.stories) tag i,
           sym is i,
           same i,
           sym is_back i,
         ))
-        (subst (λ (cs : List Command). EachImage tells may_leave desk.saves.store.disk
+        (subst (λ (cs : List Command). EachImage disks desk.saves.store.disk
         (IsAgreedFile desk.desk.stories (open_rows desk) (game_of cs)))
         (own_commands desk shared)
-        (e.agreed (subst (IsSoundDesk tells reads) (sym tag) sound)));
+        (e.agreed (subst (IsSoundDesk disks) (sym tag) sound)));
     file = λ sound.
-        let f = e.file (subst (IsSoundDesk tells reads) (sym tag) sound) in
-        subst (λ (x : DeskTag D × Pass (Log D) JournalEntry × ℕ × D). KeepsFileOf moment left_since
+        let f = e.file (subst (IsSoundDesk disks) (sym tag) sound) in
+        subst (λ (x : DeskTag D × Pass (Log D) JournalEntry × ℕ × D). KeepsFileOf disks
         x.0.stories x.0.rows (rows_of (seen x.1)) x.2 x.0.store x.3)
         (λ i. (tag i, sym is i, same i, sym is_back i))
         (record {
@@ -175,10 +173,9 @@ module _ {D : Type 0} (tells : D → Bool) (may_leave : D → List ℕ → Type 
       → (IsAloneHolder h → desk.history ≡ old) → (IsWholeHolder h → desk.history ≡ old)
       → tag ≡ Some (desk_tag desk)
       → desk.desk.session ≡ s → IsShared desk
-      → EndsStore tells may_leave reads moment left_since room label faults reach desk
-      → back ≡ desk.saves.store.disk → other ≡ desk.pass
+      → EndsStore disks desk → back ≡ desk.saves.store.disk → other ≡ desk.pass
       → Continues (IsForeign entry_number (pass_numbers other)) (seen root) (seen other)
-      → BringsIn tells may_leave reads moment left_since faults reach room label s h old tag root back
+      → BringsIn disks s h old tag root back
   brings_in s h old tag desk other root back since alone complete tagged same shared e is_back is
       joined =
       let after = subst (λ (l : List ℕ). Continues (IsForeign entry_number l) (seen root)
@@ -201,9 +198,9 @@ module _ {D : Type 0} (tells : D → Bool) (may_leave : D → List ℕ → Type 
   -- a store that came back is as it was, as the root joins more
   returns_on : (s : ℕ) (tag : DeskTag D) (back : D) (numbers : List ℕ)
       (mid new : List JournalEntry)
-      → Returns tells may_leave reads moment left_since faults reach room label s tag back mid
+      → Returns disks s tag back mid
       → IsAmong (s + 1) numbers → Continues (IsForeign entry_number numbers) new mid
-      → Returns tells may_leave reads moment left_since faults reach room label s tag back new
+      → Returns disks s tag back new
   returns_on s tag back numbers mid new r held since = record {
     gives = r.gives;
     seen = r.seen;
@@ -212,13 +209,10 @@ module _ {D : Type 0} (tells : D → Bool) (may_leave : D → List ℕ → Type 
     file = r.file;
   }
 
-module _ {D : Type 0} (tells : D → Bool) (may_leave : D → List ℕ → Type 0)
-    (reads : D → List ℕ) (moment : D → ℕ) (left_since : D → ℕ → List ℕ → Type 0)
-    (faults reach room label : D → ℕ) (holders : List Holder)
-    (old : List (List Entry)) (tags : List (Option (DeskTag D)))
-    (first : Pass (Log D) JournalEntry) where
+module _ {D : Type 0} (words : DiskWords D) (holders : List Holder) (old : List (List Entry))
+    (tags : List (Option (DeskTag D))) (first : Pass (Log D) JournalEntry) where
   pub gathers_none : (backs : List D) → backs ≡ []
-      → Gathers tells may_leave reads moment left_since faults reach room label 0 holders old tags first first backs
+      → Gathers words 0 holders old tags first first backs
   gathers_none backs none = record {
     finals = [];
     many = refl;
@@ -233,12 +227,10 @@ module _ {D : Type 0} (tells : D → Bool) (may_leave : D → List ℕ → Type 
   -- one session more
   pub gathers_more : (n : ℕ) (mid new : Pass (Log D) JournalEntry) (backs backs' : List D)
       (back : D)
-      → Gathers tells may_leave reads moment left_since faults reach room label n holders old tags first mid backs
-      → BringsIn tells may_leave reads moment left_since faults reach room label n (holder_at holders n)
+      → Gathers words n holders old tags first mid backs → BringsIn words n (holder_at holders n)
       (seen_at old n) (get_or tags n None) new back
       → KeepsRoot ((n + 1) ∷ []) mid new → backs' ≡ backs ++ back ∷ []
-      → Gathers tells may_leave reads moment left_since faults reach room label (n + 1) holders old tags first new
-      backs'
+      → Gathers words (n + 1) holders old tags first new backs'
   gathers_more n mid new backs backs' back g b k pushed = record {
     finals = g.finals ++ b.final ∷ [];
     many = length_more g.finals b.final ∙ ap (λ (m : ℕ). m + 1) g.many;
@@ -260,13 +252,12 @@ module _ {D : Type 0} (tells : D → Bool) (may_leave : D → List ℕ → Type 
     disks = ap (λ (l : List D). length l) pushed
         ∙ (length_more backs back ∙ ap (λ (m : ℕ). m + 1) g.disks);
     returns = λ s tag there low tagged at.
-        subst (λ (d : D). Returns tells may_leave reads moment left_since faults reach room label s tag d (seen new))
+        subst (λ (d : D). Returns words s tag d (seen new))
         (get_or_from_slice_get (backs ++ back ∷ []) s there there
         (ap (λ (l : List D). slice_get l s) (sym pushed) ∙ at))
         (one_more (λ (s : ℕ) (d : D). (tag : DeskTag D) → get_or tags s None ≡ Some tag
-        → Returns tells may_leave reads moment left_since faults reach room label s tag d (seen new)) backs back
-        there n g.disks (λ s below tag tagged.
-        returns_on tells may_leave reads moment left_since faults reach room label s tag (get_or backs s there)
+        → Returns words s tag d (seen new)) backs back there n g.disks (λ s below tag tagged.
+        returns_on words s tag (get_or backs s there)
         (pass_numbers mid) (seen mid) (seen new) (g.returns s tag (get_or backs s there) below
         tagged (slice_get-get_or backs s there (let many = g.disks in omega arith)))
         (g.held s below) k.since) b.returns s low tag tagged);
@@ -280,18 +271,15 @@ later_on now old s q later t d low =
     get_or-set_other now s t q d (λ (e : t ≡ s). omega arith) ∙ later t d (omega arith)
 
 -- what was brought in of a session, by its place among the passes
-pub brought_at : {D : Type 0} (tells : D → Bool) (may_leave : D → List ℕ → Type 0)
-    (reads : D → List ℕ) (moment : D → ℕ) (left_since : D → ℕ → List ℕ → Type 0)
-    (faults reach room label : D → ℕ)
+pub brought_at : {D : Type 0} (disks : DiskWords D)
     (passes : List (Pass (SharedState D) Entry)) (s : ℕ) (p : Pass (SharedState D) Entry)
     (root : Pass (Log D) JournalEntry) (back : D) → s < length passes → p ≡ get_or passes s p
-    → BringsIn tells may_leave reads moment left_since faults reach room label s (holder_of p) (seen p)
-    (tag_of desk_tag p) root back
-    → BringsIn tells may_leave reads moment left_since faults reach room label s (holder_at (holders passes) s)
+    → BringsIn disks s (holder_of p) (seen p) (tag_of desk_tag p) root back
+    → BringsIn disks s (holder_at (holders passes) s)
     (seen_at (seens passes) s) (get_or (map (tag_of desk_tag) passes) s None) root back
-brought_at tells may_leave reads moment left_since faults reach room label passes s p root back low at_p =
+brought_at disks passes s p root back low at_p =
     subst (λ (x : Holder × List Entry × Option (DeskTag _)).
-    BringsIn tells may_leave reads moment left_since faults reach room label s x.0 x.1 x.2 root back)
+    BringsIn disks s x.0 x.1 x.2 root back)
     (λ i. (
       sym (holder_there passes s p low at_p) i,
       sym (seen_of_pass passes s p low at_p) i,
@@ -307,13 +295,11 @@ heard_kept s journal final rows h =
     history_in-since s journal h.seen rows h.since ∙ sym h.entries
 
 -- what a host ends with
-module _ {D : Type 0} (tells : D → Bool) (may_leave : D → List ℕ → Type 0)
-    (reads : D → List ℕ) (moment : D → ℕ) (left_since : D → ℕ → List ℕ → Type 0)
-    (faults reach room label : D → ℕ) (host : Host D) (passes : Passes D)
+module _ {D : Type 0} (words : DiskWords D) (host : Host D) (passes : Passes D)
     (root : Pass (Log D) JournalEntry) (backs : List D) where
   -- all desks were brought in
   abbrev pub AllIn : Type 0
-  AllIn = Gathers tells may_leave reads moment left_since faults reach room label 64 (holders passes.desks.items)
+  AllIn = Gathers words 64 (holders passes.desks.items)
       (seens passes.desks.items) (map (tag_of desk_tag) passes.desks.items) host.root root backs
 
   pub ends_with : (log : Log D) → IsHost host → AllIn
@@ -340,7 +326,7 @@ module _ {D : Type 0} (tells : D → Bool) (may_leave : D → List ℕ → Type 
   -- the store of a session, and its disk
   store_returns : AreOf host passes → AllIn → (s : ℕ) (store : Snapshots D) (back : D)
       → slice_get (opened_stores host) s ≡ Some store → slice_get backs s ≡ Some back
-      → Returns tells may_leave reads moment left_since faults reach room label s
+      → Returns words s
       (tag_at host.stories.now host.budget (cell_id host.journal) (rows_at_opening host) s store)
       back (seen root)
   store_returns of g s store back there there' =
@@ -353,16 +339,16 @@ module _ {D : Type 0} (tells : D → Bool) (may_leave : D → List ℕ → Type 
 
   -- the stores' disks
   pub gives_back : AreOf host passes → AllIn
-      → AllZip (GivesBack tells faults reach room label) (opened_stores host) backs
-  gives_back of g = zip_of (GivesBack tells faults reach room label) (opened_stores host) backs
+      → AllZip (GivesBack words) (opened_stores host) backs
+  gives_back of g = zip_of (GivesBack words) (opened_stores host) backs
       (g.disks ∙ sym of.whole.stores)
       (λ s store back there there'. (store_returns of g s store back there there').gives)
 
   -- which agree with the rows, where the host is sound
   pub agrees_back : (log : Log D) → AreOf host passes → AllIn
       → Continues (IsForeign entry_number (pass_numbers root)) log.entries (seen root)
-      → IsJournal (rows_of log.entries) → IsSound tells reads host
-      → AreAgreedDisks tells may_leave host.stories.now (rows_of log.entries) backs
+      → IsJournal (rows_of log.entries) → IsSound words host
+      → AreAgreedDisks words host.stories.now (rows_of log.entries) backs
   agrees_back log of g since rows sound = λ s back there.
       let low = slice_get_within backs s back there in
       let many = g.disks in
@@ -373,7 +359,7 @@ module _ {D : Type 0} (tells : D → Bool) (may_leave : D → List ℕ → Type 
       let since' =
       since_to s (pass_numbers root) r.seen (seen root) log.entries r.since (g.held s low')
       since in
-      subst (λ (x : List ℕ × List Command). EachImage tells may_leave back
+      subst (λ (x : List ℕ × List Command). EachImage words back
       (IsAgreedFile host.stories.now x.0 (game_of x.1)))
       (λ i. (
         sym (opens_of-since s log.entries r.seen rows since') i,
@@ -384,8 +370,8 @@ module _ {D : Type 0} (tells : D → Bool) (may_leave : D → List ℕ → Type 
   -- and did since they were opened
   pub files_back : (log : Log D) → AreOf host passes → AllIn
       → Continues (IsForeign entry_number (pass_numbers root)) log.entries (seen root)
-      → IsJournal (rows_of log.entries) → IsSound tells reads host
-      → KeepFiles moment left_since host.stories.now (rows_at_opening host) (rows_of log.entries)
+      → IsJournal (rows_of log.entries) → IsSound words host
+      → KeepFiles words host.stories.now (rows_at_opening host) (rows_of log.entries)
       (opened_stores host) backs
   files_back log of g since rows sound = λ s store back there there'.
       let low = slice_get_within backs s back there' in
@@ -401,8 +387,7 @@ module _ {D : Type 0} (tells : D → Bool) (may_leave : D → List ℕ → Type 
       let f = r.file (sound s store there) in
       record {
         agreed =
-            weaker moment left_since store.disk back
-            (AgreesWithBeginning host.stories.now (rows_of r.seen) s)
+            weaker words store.disk back (AgreesWithBeginning host.stories.now (rows_of r.seen) s)
             (AgreesWithBeginning host.stories.now (rows_of log.entries) s) f.agreed
             (λ file a. record {
               first = a.first;

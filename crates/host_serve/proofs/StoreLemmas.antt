@@ -7,6 +7,7 @@ use Rattle.std.proofs.lemmas.Bool.{and_parts}
 use Rattle.std.proofs.lemmas.Bool.Decides.{nat_tests}
 use Rattle.std.specs.List.{AllZip}
 use Rattle.std.proofs.lemmas.List.{length-append}
+use Rattle.disk_model.specs.declared.disk.Disk.{Ghosts as DiskWords}
 use Rattle.gate_journal.specs.declared.fault.JournalFault.{JournalFault}
 use Rattle.snap_store.specs.File.{Stored, area_on_side, gate_byte, has_header, is_open_area}
 use Rattle.snap_store.specs.File.{is_whole, open_area}
@@ -116,51 +117,45 @@ open_slot side file area false is e =
     absurd (none_some area (sym (ap (λ (b : Bool). cond b (Some (area_on_side side file)) None) is)
     ∙ e))
 
-module _ {D : Type 0} (tells : D → Bool) (may_leave : D → List ℕ → Type 0)
-    (reads : D → List ℕ) (moment : D → ℕ) (left_since : D → ℕ → List ℕ → Type 0)
-    (faults reach room label : D → ℕ) where
+module _ {D : Type 0} (disks : DiskWords D) where
   pub slot_since : (disk : D) (store : Snapshots D) (place least : ℕ)
-      → IsStoreOf tells may_leave reads moment left_since faults reach room label disk store
-      → IsTrue (tells disk) → HasOpenSince place least (reads disk)
+      → IsStoreOf disks disk store
+      → IsTrue (disks.tells disk) → HasOpenSince place least (disks.seen disk)
       → HasSince place least store.slots
   slot_since disk store place least of told has = record {
     side = has.side;
     count = has.area.count;
     open_there = of.slots told has.side
-        ∙ open_slot has.side (reads disk) has.area (is_open_area has.side (reads disk)) refl
-        has.open_there
+        ∙ open_slot has.side (disks.seen disk) has.area (is_open_area has.side (disks.seen disk))
+        refl has.open_there
         ∙ ap (λ (row : ℕ). Open row has.area.count) has.row;
     since = has.since;
   }
 
-module _ {D : Type 0} (tells : D → Bool) (may_leave : D → List ℕ → Type 0)
-    (reads : D → List ℕ) (moment : D → ℕ) (left_since : D → ℕ → List ℕ → Type 0)
-    (faults reach room label : D → ℕ) where
+module _ {D : Type 0} (words : DiskWords D) where
   abbrev pub AreStoresOf : List D → List (Snapshots D) → Type 0
   AreStoresOf disks stores =
-      AllZip (IsStoreOf tells may_leave reads moment left_since faults reach room label) disks
-      stores
+      AllZip (IsStoreOf words) disks stores
 
   -- one store more
   pub stores_pushed : (all done rest : List D) (disk : D) (stores stores' : List (Snapshots D))
       (store : Snapshots D) → all ≡ done ++ disk ∷ rest → stores' ≡ stores ++ store ∷ []
       → AreStoresOf done stores
-      → IsStoreOf tells may_leave reads moment left_since faults reach room label disk store
+      → IsStoreOf words disk store
       → (opened : List D) × (all ≡ opened ++ rest) × AreStoresOf opened stores'
   stores_pushed all done rest disk stores stores' store is pushed are its = (
     done ++ disk ∷ [],
     is ∙ sym (append_assoc done (disk ∷ []) rest),
     subst (AreStoresOf (done ++ disk ∷ [])) (sym pushed)
-        (zip_more (IsStoreOf tells may_leave reads moment left_since faults reach room label) done
-        stores disk store are its),
+        (zip_more (IsStoreOf words) done stores disk store are its),
   )
 
   -- a host whose disks told their bytes, and agreed with the rows, is sound
   pub sound_of : (host : Host D) (stories : List Story) (disks : List D)
       → AreStoresOf disks (opened_stores host) → host.stories.now ≡ stories
-      → AreAgreed tells reads stories (rows_at_opening host) disks → IsSound tells reads host
+      → AreAgreed words stories (rows_at_opening host) disks → IsSound words host
   sound_of host stories disks stores is agreed = λ s store there.
-      let of = zip_at (IsStoreOf tells may_leave reads moment left_since faults reach room label)
+      let of = zip_at (IsStoreOf words)
       disks (opened_stores host) s store stores there in
       let its = agreed s of.0 of.1 in (
         subst IsTrue (sym of.2.kept.same.telling) its.0,

@@ -1,9 +1,10 @@
 -- What the end of a host promises (own).
-use Rattle.std.specs.Prelude.{◌≡◌, ℕ, ◌<◌, ◌≤◌, List, [], ◌∷◌, length, map, max, Some, Bool}
+use Rattle.std.specs.Prelude.{◌≡◌, ℕ, ◌<◌, ◌≤◌, List, [], ◌∷◌, length, map, max, Some}
 use Rattle.std.specs.Prelude.{slice_get}
 use Rattle.turn_cell.specs.History.{Continues, IsForeign}
 use Rattle.turn_cell.specs.Passes.{seen, tag_of}
-use Rattle.disk_model.specs.Disk.{EachImage, LeavesOnly, SameDisk}
+use Rattle.disk_model.specs.Work.{EachImage, LeavesOnly, SameDisk}
+use Rattle.disk_model.specs.declared.disk.Disk.{Ghosts as DiskWords}
 use Rattle.gate_journal.specs.Log.{Log, entry_number}
 use Rattle.gate_journal.specs.Rows.{IsJournal, commands_of}
 use Rattle.gate_journal.specs.declared.row.Row.{Row}
@@ -46,43 +47,40 @@ pub record EndsWith {D : Type 0} (host : Host D) (passes : Passes D) (log : Log 
 module _ {D : Type 0} where
   -- a store's disk comes back: it is the one that the store was opened on, and wasn't written past
   -- the end of area B
-  pub record GivesBack (tells : D → Bool) (faults reach room label : D → ℕ)
-      (store : Snapshots D) (back : D) : Type 0 where
-    pub same : SameDisk tells room label store.disk back
-    pub counts : faults store.disk ≤ faults back
-    pub reaches : reach back ≤ max (reach store.disk) 16781344
+  pub record GivesBack (disks : DiskWords D) (store : Snapshots D) (back : D) : Type 0 where
+    pub same : SameDisk disks store.disk back
+    pub counts : disks.faults store.disk ≤ disks.faults back
+    pub reaches : disks.reach back ≤ max (disks.reach store.disk) 16781344
 
   -- each image of a disk agrees with the rows of its session
-  abbrev pub IsAgreedDisk : (D → Bool) → (D → List ℕ → Type 0) → List Story → List Row → ℕ
-      → D → Type 0
-  IsAgreedDisk tells may_leave stories rows s disk = EachImage tells may_leave disk
+  abbrev pub IsAgreedDisk : DiskWords D → List Story → List Row → ℕ → D → Type 0
+  IsAgreedDisk disks stories rows s disk = EachImage disks disk
       (IsAgreedFile stories (opens_of rows s) (game_of (commands_of rows s)))
 
   -- and so do those of the disks of all sessions
-  abbrev pub AreAgreedDisks : (D → Bool) → (D → List ℕ → Type 0) → List Story → List Row
-      → List D → Type 0
-  AreAgreedDisks tells may_leave stories rows disks =
+  abbrev pub AreAgreedDisks : DiskWords D → List Story → List Row → List D → Type 0
+  AreAgreedDisks words stories rows disks =
       (s : ℕ) (disk : D) → slice_get disks s ≡ Some disk
-      → IsAgreedDisk tells may_leave stories rows s disk
+      → IsAgreedDisk words stories rows s disk
 
   -- What is kept of the file of a session's store since it was opened, where the journal had these
   -- rows then and has those now. Each image that a stop may leave agrees with the first of the
   -- journal's rows. While no OPEN of the session comes, an open area of its last game is never lost.
-  pub record KeepsFileOf (moment : D → ℕ) (left_since : D → ℕ → List ℕ → Type 0)
-      (stories : List Story) (rows after : List Row) (s : ℕ) (store : Snapshots D) (back : D)
+  pub record KeepsFileOf (disks : DiskWords D) (stories : List Story) (rows after : List Row)
+      (s : ℕ) (store : Snapshots D) (back : D)
       : Type 0 where
     pub agreed :
-        LeavesOnly moment left_since store.disk back (AgreesWithBeginning stories after s)
+        LeavesOnly disks store.disk back (AgreesWithBeginning stories after s)
     pub newest :
         IsJournal after → opens_of after s ≡ opens_of rows s
         → (place least : ℕ) → last_row (opens_of after s) ≡ Some place
         → HasSince place least store.slots
-        → LeavesOnly moment left_since store.disk back (HasOpenSince place least)
+        → LeavesOnly disks store.disk back (HasOpenSince place least)
 
   -- and so of those of all sessions
-  abbrev pub KeepFiles : (D → ℕ) → (D → ℕ → List ℕ → Type 0) → List Story → List Row → List Row
+  abbrev pub KeepFiles : DiskWords D → List Story → List Row → List Row
       → List (Snapshots D) → List D → Type 0
-  KeepFiles moment left_since stories rows after stores backs =
+  KeepFiles disks stories rows after stores backs =
       (s : ℕ) (store : Snapshots D) (back : D)
       → slice_get stores s ≡ Some store → slice_get backs s ≡ Some back
-      → KeepsFileOf moment left_since stories rows after s store back
+      → KeepsFileOf disks stories rows after s store back

@@ -1,7 +1,8 @@
 -- The desks' passes of the journal, joined into its root one after the other, and the disks of
 -- their stores (own).
 use Rattle.std.specs.Prelude.{◌≡◌, ℕ, ◌+◌, ◌<◌, List, [], ◌∷◌, ◌++◌, length, map, Option, Some}
-use Rattle.std.specs.Prelude.{None, Bool, get_or, slice_get}
+use Rattle.std.specs.Prelude.{None, get_or, slice_get}
+use Rattle.disk_model.specs.declared.disk.Disk.{Ghosts as DiskWords}
 use Rattle.turn_cell.specs.History.{Continues, IsAmong, IsForeign}
 use Rattle.turn_cell.specs.declared.pass.Pass.{Pass}
 use Rattle.turn_cell.specs.Passes.{pass_numbers, pass_number, sample, seen}
@@ -28,20 +29,18 @@ module _ {D : Type 0} where
     pub since : Continues (IsForeign entry_number (pass_numbers old)) (seen new) (seen old)
     pub kept : (pass_number new ≡ pass_number old) × (sample new ≡ sample old)
 
-  module _ (tells : D → Bool) (may_leave : D → List ℕ → Type 0) (reads : D → List ℕ)
-      (moment : D → ℕ) (left_since : D → ℕ → List ℕ → Type 0) (faults reach room label : D → ℕ)
+  module _ (words : DiskWords D)
     where
       -- The disk of the store of a desk with this tag comes back. On a sound desk it agrees with the
       -- rows that its pass has seen, and did since it was opened; entries of others have come since.
       pub record Returns (s : ℕ) (tag : DeskTag D) (back : D) (journal : List JournalEntry)
           : Type 0 where
-        pub gives : GivesBack tells faults reach room label tag.store back
+        pub gives : GivesBack words tag.store back
         pub seen : List JournalEntry
         pub since : Continues (IsForeign entry_number ((s + 1) ∷ [])) journal seen
-        pub agreed : IsSoundDesk tells reads tag
-            → IsAgreedDisk tells may_leave tag.stories (rows_of seen) s back
-        pub file : IsSoundDesk tells reads tag
-            → KeepsFileOf moment left_since tag.stories tag.rows (rows_of seen) s tag.store back
+        pub agreed : IsSoundDesk words tag → IsAgreedDisk words tag.stories (rows_of seen) s back
+        pub file : IsSoundDesk words tag
+            → KeepsFileOf words tag.stories tag.rows (rows_of seen) s tag.store back
 
       -- the session's desk was entered, by this holder, and its pass joined into the root
       pub record BringsIn (s : ℕ) (h : Holder) (old : List Entry) (tag : Option (DeskTag D))

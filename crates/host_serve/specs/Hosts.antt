@@ -1,7 +1,8 @@
 -- A host, and the passes that are of it (own).
 use Rattle.std.specs.Prelude.{◌≡◌, ◌≤◌, ℕ, ◌+◌, List, [], ◌∷◌, length, Option, Some}
-use Rattle.std.specs.Prelude.{Bool, map, slice_get, vec_capacity}
+use Rattle.std.specs.Prelude.{map, slice_get, vec_capacity}
 use Rattle.std.specs.List.{range_with_len}
+use Rattle.disk_model.specs.declared.disk.Disk.{Ghosts as DiskWords}
 use Rattle.atomic_table.specs.Seated.{TableId}
 use Rattle.turn_cell.specs.History.{Each}
 use Rattle.turn_cell.specs.declared.cell.Cell.{Cell}
@@ -95,8 +96,8 @@ module _ {D : Type 0} where
 
   -- The host is sound: the stores' disks tell their bytes, and as it was opened each store's areas
   -- agreed with the journal's rows.
-  abbrev pub IsSound : (D → Bool) → (D → List ℕ) → Host D → Type 0
-  IsSound tells reads host =
+  abbrev pub IsSound : DiskWords D → Host D → Type 0
+  IsSound disks host =
       (s : ℕ) (store : Snapshots D) → slice_get (opened_stores host) s ≡ Some store
-      → IsSoundDesk tells reads (tag_at host.stories.now host.budget (cell_id host.journal)
+      → IsSoundDesk disks (tag_at host.stories.now host.budget (cell_id host.journal)
       (rows_at_opening host) s store)

@@ -1,10 +1,11 @@
 -- A host as it is opened (own).
-use Rattle.std.specs.Prelude.{◌≡◌, ℕ, List, [], ◌∷◌, length, map, Some, Bool, IsTrue, slice_get}
+use Rattle.std.specs.Prelude.{◌≡◌, ℕ, List, [], ◌∷◌, length, map, Some, IsTrue, slice_get}
 use Rattle.atomic_table.specs.Seated.{TableId}
 use Rattle.turn_cell.specs.declared.cell.Cell.{Cell}
 use Rattle.turn_cell.specs.declared.pass.Pass.{Pass}
 use Rattle.turn_cell.specs.Passes.{IsOf, IsOutside, seen, tag_of}
-use Rattle.disk_model.specs.Disk.{OnlyLooks}
+use Rattle.disk_model.specs.Work.{OnlyLooks}
+use Rattle.disk_model.specs.declared.disk.Disk.{Ghosts as DiskWords}
 use Rattle.gate_journal.specs.Log.{Log, Opening, rows_kept}
 use Rattle.gate_journal.specs.Rows.{commands_of}
 use Rattle.gate_journal.specs.declared.fault.JournalFault.{JournalFault}
@@ -92,32 +93,31 @@ module _ {D : Type 0} where
   IsOfStores NoMemory P Q = Q
 
   -- the disks tell their bytes, and each file agrees with the rows of its session
-  abbrev pub AreAgreed : (D → Bool) → (D → List ℕ) → List Story → List Row → List D → Type 0
-  AreAgreed tells reads stories rows disks =
+  abbrev pub AreAgreed : DiskWords D → List Story → List Row → List D → Type 0
+  AreAgreed words stories rows disks =
       (s : ℕ) (disk : D) → slice_get disks s ≡ Some disk
-      → IsTrue (tells disk)
-      × IsAgreedFile stories (opens_of rows s) (game_of (commands_of rows s)) (reads disk)
+      → IsTrue (words.tells disk)
+      × IsAgreedFile stories (opens_of rows s) (game_of (commands_of rows s)) (words.seen disk)
 
-  module _ (tells : D → Bool) (may_leave : D → List ℕ → Type 0) (reads : D → List ℕ)
-      (moment : D → ℕ) (left_since : D → ℕ → List ℕ → Type 0) (faults reach room label : D → ℕ)
+  module _ (words : DiskWords D)
     where
       -- the store of a disk, as it was opened: nothing was written, and its areas are those of the
       -- file that may open
       pub record IsStoreOf (disk : D) (store : Snapshots D) : Type 0 where
         pub areas :
-            IsTrue (tells disk) → (side : Side)
-            → store_area reads store side ≡ openable_area side (reads disk)
+            IsTrue (words.tells disk) → (side : Side)
+            → store_area words.seen store side ≡ openable_area side (words.seen disk)
         pub slots :
-            IsTrue (tells disk) → (side : Side)
-            → slot_of store.slots side ≡ slot_in side (reads disk)
-        pub counts : faults store.disk ≡ faults disk
+            IsTrue (words.tells disk) → (side : Side)
+            → slot_of store.slots side ≡ slot_in side (words.seen disk)
+        pub counts : words.faults store.disk ≡ words.faults disk
         pub kept :
-            OnlyLooks tells may_leave moment left_since reach room label disk store.disk
+            OnlyLooks words disk store.disk
 
       -- the store of this session's disk isn't opened, since that failed; nothing was written
       pub record IsRefused (disks : List D) (session : ℕ) (fault : StoreFault) (back : D)
           : Type 0 where
         pub disk : D
         pub given : slice_get disks session ≡ Some disk
-        pub cause : IsFaultOfDisk (faults disk) (faults back) fault
-        pub kept : OnlyLooks tells may_leave moment left_since reach room label disk back
+        pub cause : IsFaultOfDisk (words.faults disk) (words.faults back) fault
+        pub kept : OnlyLooks words disk back

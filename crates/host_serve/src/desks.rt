@@ -43,10 +43,8 @@ pub fn open_stores<D: Disk + Drop>(
     disks: &mut Vec<D>,
 ) -> Result<Vec<Store<D>>, OpenFault<D>>
     requires many { length disks.old.items ≡ 64 }
-    ensures ok { IfOk result (λ stores. AllZip (IsStoreOf D.tells D.may_leave D.seen
-        D.moment D.left_since D.faults D.reach D.room D.label) disks.old.items stores.items) }
-    ensures err { IfErr result (λ f. IsOfStores f (IsRefused D.tells D.may_leave D.seen
-        D.moment D.left_since D.faults D.reach D.room D.label disks.old.items)
+    ensures ok { IfOk result (λ stores. AllZip (IsStoreOf D.Disk) disks.old.items stores.items) }
+    ensures err { IfErr result (λ f. IsOfStores f (IsRefused D.Disk disks.old.items)
         (disks.new.items ≡ disks.old.items)) }
     ensures room { OnOk result ((disks.new.items ≡ []) × (64 ≤ vec_capacity disks.new)) }
 {

@@ -2,7 +2,7 @@
 ghost use Rattle.std.specs.Prelude.{◌≡◌, ◌+◌, ◌≤◌, ◌∷◌, [], ℕ, List, length, map, Some};
 ghost use Rattle.std.specs.Prelude.{vec_capacity};
 ghost use Rattle.std.specs.List.{AllZip};
-ghost use Rattle.disk_model.specs.Disk.{EachImage};
+ghost use Rattle.disk_model.specs.Work.{EachImage};
 ghost use Rattle.gate_journal.specs.Log.{IsSinceOpened, Log, MayOpen, MaySpell, Rises, rows_of};
 ghost use Rattle.gate_journal.specs.Rows.{IsJournal};
 ghost use Rattle.gate_journal.specs.declared.row.Row.{Row};
@@ -39,8 +39,8 @@ fn bring_in<'i, D: Disk + Drop, R: Wait>(
     requires tag { (stories : List Story) × (budget : ℕ) × (rows : List Row)
         × (store : Snapshots D) × (tag_of desk_tag pass.old
         ≡ Some (tag_at stories budget (cell_id journal.now) rows _session store)) }
-    ensures value { BringsIn D.tells D.may_leave D.seen D.moment D.left_since
-        D.faults D.reach D.room D.label _session (holder_of pass.old) (seen pass.old) (tag_of desk_tag pass.old) root.new result }
+    ensures value { BringsIn D.Disk _session (holder_of pass.old) (seen pass.old)
+        (tag_of desk_tag pass.old) root.new result }
     ensures grows { KeepsRoot ((_session + 1) ∷ []) root.old root.new }
     ensures kept { IsOf journal.now root.new × IsOutside root.new }
 {
@@ -66,8 +66,7 @@ fn gather<'i, D: Disk + Drop, R: Wait>(
         × ArePasses desk_tag (tags_from stories budget (cell_id journal.now) rows 0 stores)
         cells.now passes.old }
     requires room { (disks.old.items ≡ []) × (64 ≤ vec_capacity disks.old) }
-    ensures value { Gathers D.tells D.may_leave D.seen D.moment D.left_since
-        D.faults D.reach D.room D.label 64
+    ensures value { Gathers D.Disk 64
         (holders passes.old) (seens passes.old) (map (tag_of desk_tag) passes.old) root.old
         root.new disks.new.items }
     ensures kept { IsOf journal.now root.new × IsOutside root.new }
@@ -86,18 +85,16 @@ impl<'i, D: Disk + Drop> Host<'i, D> {
         ensures value { (log : Log D) × (result.0 ≡ log.disk)
             × EndsWith self.entry passes.entry log
             × IsJournal (rows_of log.entries)
-            × EachImage D.tells D.may_leave result.0
-            (MaySpell (rows_of log.entries) log.uncertain)
-            × EachImage D.tells D.may_leave result.0 (MayOpen (rows_of log.entries))
+            × EachImage D.Disk result.0 (MaySpell (rows_of log.entries) log.uncertain)
+            × EachImage D.Disk result.0 (MayOpen (rows_of log.entries))
             × Rises (D.faults log.opening.disk) log.entries (D.faults result.0)
-            × IsSinceOpened D.tells D.may_leave D.room D.label D.reach D.moment D.left_since log
-            × (IsSound D.tells D.seen self.entry → AreAgreedDisks D.tells D.may_leave
+            × IsSinceOpened D.Disk log
+            × (IsSound D.Disk self.entry → AreAgreedDisks D.Disk
             self.entry.stories.now (rows_of log.entries) result.1.items)
-            × (IsSound D.tells D.seen self.entry → KeepFiles D.moment D.left_since
+            × (IsSound D.Disk self.entry → KeepFiles D.Disk
             self.entry.stories.now (rows_at_opening self.entry) (rows_of log.entries)
             (opened_stores self.entry) result.1.items) }
-        ensures stores { AllZip (GivesBack D.tells D.faults D.reach D.room D.label)
-            (opened_stores self.entry) result.1.items }
+        ensures stores { AllZip (GivesBack D.Disk) (opened_stores self.entry) result.1.items }
     {
         let Host {
             journal,

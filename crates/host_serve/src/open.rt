@@ -2,7 +2,7 @@
 ghost use Rattle.std.specs.Prelude.{◌≡◌, ◌≤◌, IsTrue, IfOk, IfErr, List, [], length, max};
 ghost use Rattle.std.specs.Prelude.{vec_capacity};
 ghost use Rattle.std.specs.List.{AllZip};
-ghost use Rattle.disk_model.specs.Disk.{EachImage, LeavesOnly, OnlyLooks, SameDisk};
+ghost use Rattle.disk_model.specs.Work.{EachImage, LeavesOnly, OnlyLooks, SameDisk};
 ghost use Rattle.gate_journal.specs.Command.{IsBudget};
 ghost use Rattle.gate_journal.specs.Faults.{Explains, HasCause, IsNoFault};
 ghost use Rattle.gate_journal.specs.Log.{MayOpen, ReachesGate, rows_kept, rows_of};
@@ -80,16 +80,14 @@ impl<'i, D: Disk + Drop> Host<'i, D> {
             × (IsTrue (D.tells journal) → SpellsRows (D.seen journal) rows)
             × IsOpenedHost stories.now budget rows (record { disk = journal; found = length rows })
             pair.0 pair.1) }
-        ensures stores { IfOk result (λ pair. AllZip (IsStoreOf D.tells D.may_leave D.seen
-            D.moment D.left_since D.faults D.reach D.room D.label) snaps.items
+        ensures stores { IfOk result (λ pair. AllZip (IsStoreOf D.Disk) snaps.items
             (opened_stores pair.0)) }
         ensures sound { IfOk result (λ pair.
-            AreAgreed D.tells D.seen stories.now (rows_at_opening pair.0) snaps.items
-            → IsSound D.tells D.seen pair.0) }
+            AreAgreed D.Disk stories.now (rows_at_opening pair.0) snaps.items
+            → IsSound D.Disk pair.0) }
 
         // Snapshots are refused only where their disk failed.
-        ensures snap { IfErr result (λ f. OnStore f (IsRefused D.tells D.may_leave D.seen
-            D.moment D.left_since D.faults D.reach D.room D.label snaps.items)) }
+        ensures snap { IfErr result (λ f. OnStore f (IsRefused D.Disk snaps.items)) }
 
         // A journal that is refused comes back as its own opening leaves it.
         ensures exact { IfErr result (λ f. OnJournal f (λ why back. IsTrue (D.tells journal)
@@ -99,14 +97,14 @@ impl<'i, D: Disk + Drop> Host<'i, D> {
         ensures steady { IsTrue (D.steady journal) → IfErr result (λ f. OnJournal f (λ why back.
             IsTrue (D.steady back))) }
         ensures kept { IfErr result (λ f. OnJournal f (λ why back.
-            SameDisk D.tells D.room D.label journal back)) }
+            SameDisk D.Disk journal back)) }
         ensures refused { IfErr result (λ f. OnJournal f (λ why back. IsNoFault why
-            → OnlyLooks D.tells D.may_leave D.moment D.left_since D.reach D.room D.label journal
+            → OnlyLooks D.Disk journal
             back × (IsTrue (D.tells journal) → D.seen back ≡ D.seen journal))) }
         ensures crash { (rows : List Row) → IsJournal rows
-            → EachImage D.tells D.may_leave journal (MayOpen rows) → IsTrue (D.tells journal)
+            → EachImage D.Disk journal (MayOpen rows) → IsTrue (D.tells journal)
             → IfErr result (λ f. OnJournal f (λ why back.
-            LeavesOnly D.moment D.left_since journal back (MayOpen rows))) }
+            LeavesOnly D.Disk journal back (MayOpen rows))) }
         ensures reach { IfErr result (λ f. OnJournal f (λ why back.
             D.reach back ≤ max (D.reach journal) (D.room journal))) }
         ensures told_reach { IsTrue (D.tells journal) → IfErr result (λ f. OnJournal f

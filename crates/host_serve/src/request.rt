@@ -30,7 +30,7 @@ impl<'i, D: Disk + Drop> Host<'i, D> {
     ) -> Answer
         requires passes { AreOf self.now passes.old }
         ensures value { (world : Option WorldState)
-            × Answers self.now.stories.now self.now.budget (IsSound D.tells D.seen self.now)
+            × Answers self.now.stories.now self.now.budget (IsSound D.Disk self.now)
             (holders passes.old.desks.items) (seens passes.old.desks.items)
             (turn_from line.now world result) (seens passes.new.desks.items) }
         ensures kept { AreOf self.now passes.new }
@@ -67,7 +67,7 @@ impl<'i, D: Disk + Drop> Host<'i, D> {
     ) -> Reply
         requires passes { AreOf self.now passes.old }
         ensures value { (turn : AnsweredLine) × (turn.line ≡ line.now) × (turn.reply ≡ result)
-            × Answers self.now.stories.now self.now.budget (IsSound D.tells D.seen self.now)
+            × Answers self.now.stories.now self.now.budget (IsSound D.Disk self.now)
             (holders passes.old.desks.items) (seens passes.old.desks.items) turn
             (seens passes.new.desks.items)
             × IsExact self.now.stories.now self.now.budget (holders passes.old.desks.items)

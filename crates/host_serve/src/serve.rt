@@ -37,10 +37,10 @@ impl<'i, D: Disk + Drop> Host<'i, D> {
         ensures value { (turns : List AnsweredLine)
             × TellsLink turns (L.source link.old) (L.source link.new) (L.sink link.old)
             (L.sink link.new) marks.old.items marks.new.items result
-            × AnswersInOrder self.now.stories.now self.now.budget (IsSound D.tells D.seen self.now)
+            × AnswersInOrder self.now.stories.now self.now.budget (IsSound D.Disk self.now)
             (holders passes.old.desks.items) (seens passes.old.desks.items) turns
             (seens passes.new.desks.items)
-            × ServesLines self.now.stories.now self.now.budget (IsSound D.tells D.seen self.now)
+            × ServesLines self.now.stories.now self.now.budget (IsSound D.Disk self.now)
             (holders passes.old.desks.items) (seens passes.old.desks.items) turns
             (seens passes.new.desks.items) }
         ensures end { ¬ (result ≡ Served.End)

@@ -29,7 +29,7 @@ impl<'a, 'i, D: Disk + Drop, R: Wait, O: Door, P: Pause> Crew<Passes<'i, D>, Wor
     ghost ready = { λ s passes. AreOf s.host.now passes };
 
     ghost did = { λ s old new answer. Works O.Conn.source O.Conn.sink O.Conn.lent
-        (O.gives s.door.now) (O.shuts s.door.now) (O.fails s.door.now) (IsSound D.tells D.seen)
+        (O.gives s.door.now) (O.shuts s.door.now) (O.fails s.door.now) (IsSound D.Disk)
         s.host.now old new answer };
 
     ghost is_end = { IsDoorShut };

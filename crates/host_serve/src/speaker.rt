@@ -45,7 +45,7 @@ fn answer_to<'i, D: Disk + Drop, R: Wait, P: Pause>(
     requires passes { AreOf host.now passes.old }
     ensures value { (world : Option WorldState)
         × ((bytes : List ℕ) → heard bytes ≡ option_map (λ l. l.now) line.entry
-        → Answers host.now.stories.now host.now.budget (IsSound D.tells D.seen host.now)
+        → Answers host.now.stories.now host.now.budget (IsSound D.Disk host.now)
         (holders passes.old.desks.items) (seens passes.old.desks.items)
         (turn_from bytes world result) (seens passes.new.desks.items)) }
     ensures kept { AreOf host.now passes.new }
@@ -87,9 +87,9 @@ impl<'a, 'i, D: Disk + Drop, R: Wait, P: Pause> Answers for Speaker<'a, 'i, D, R
       marks = s.marks.now.items;
     } };
 
-    ghost turn = { Speaks (IsSound D.tells D.seen) };
+    ghost turn = { Speaks (IsSound D.Disk) };
 
-    ghost cut = { Speaks (IsSound D.tells D.seen) };
+    ghost cut = { Speaks (IsSound D.Disk) };
 
     ghost over = { λ _. false };
 

@@ -44,7 +44,7 @@ fn play_in<'i, D: Disk + Drop, R: Wait, P: Pause>(
     requires read { LineIsReadAs host.now.budget _line.now request.now }
     requires plays { is_watch request.now ≡ false }
     ensures value { (world : Option WorldState)
-        × TurnsIn host.now.stories.now host.now.budget (IsSound D.tells D.seen host.now)
+        × TurnsIn host.now.stories.now host.now.budget (IsSound D.Disk host.now)
         (holder_of pass.old) (seen pass.old) (turn_from _line.now world result) (seen pass.new) }
     ensures session { result.mark.session ≡ session_of request.now }
     ensures kept { IsOf cell.now pass.new × IsOutside pass.new × KeepsNumbers pass.old pass.new
@@ -96,7 +96,7 @@ fn watch_in<'i, D: Disk + Drop, R: Wait, P: Pause>(
     requires tag { IsTagOf host.now s (tag_of desk_tag pass.old) }
     requires read { LineIsReadAs host.now.budget _line.now (requests.Watch s word.now from) }
     ensures value { (world : Option WorldState)
-        × TurnsIn host.now.stories.now host.now.budget (IsSound D.tells D.seen host.now)
+        × TurnsIn host.now.stories.now host.now.budget (IsSound D.Disk host.now)
         (holder_of pass.old) (seen pass.old) (turn_from _line.now world result) (seen pass.new) }
     ensures session { result.mark.session ≡ s }
     ensures kept { IsOf cell.now pass.new × IsOutside pass.new × KeepsNumbers pass.old pass.new
@@ -140,7 +140,7 @@ pub fn turn_in<'i, D: Disk + Drop, R: Wait, P: Pause>(
     requires tag { IsTagOf host.now (session_of request.now) (tag_of desk_tag pass.old) }
     requires read { LineIsReadAs host.now.budget line.now request.now }
     ensures value { (world : Option WorldState)
-        × TurnsIn host.now.stories.now host.now.budget (IsSound D.tells D.seen host.now)
+        × TurnsIn host.now.stories.now host.now.budget (IsSound D.Disk host.now)
         (holder_of pass.old) (seen pass.old) (turn_from line.now world result) (seen pass.new) }
     ensures session { result.mark.session ≡ session_of request.now }
     ensures kept { IsOf cell.now pass.new × IsOutside pass.new × KeepsNumbers pass.old pass.new

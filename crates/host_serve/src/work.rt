@@ -32,7 +32,7 @@ impl<'i, D: Disk + Drop + Send + Sync> Host<'i, D> {
         requires workers { (0 < length workers.old) × (length workers.old ≤ 16) }
         requires passes { Each (AreOf self.now) workers.old }
         ensures did { AllDid (Works O.Conn.source O.Conn.sink O.Conn.lent (O.gives door.now)
-            (O.shuts door.now) (O.fails door.now) (IsSound D.tells D.seen) self.now) IsDoorShut
+            (O.shuts door.now) (O.fails door.now) (IsSound D.Disk) self.now) IsDoorShut
             workers.old workers.new result }
     {
         let shift = Shift {

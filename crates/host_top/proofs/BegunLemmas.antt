@@ -3,7 +3,8 @@ use Rattle.std.proofs.Common.{◌≡◌, ◌⊎◌, inl, inr, ℕ, ◌<◌, ◌�
 use Rattle.std.proofs.Common.{arith, refl, sym, ap, ◌∙◌, subst, Option, None, Some, Bool}
 use Rattle.std.proofs.Common.{false, IsTrue, Err, IsErrOf}
 use Rattle.std.specs.Str.{bytes_eq}
-use Rattle.disk_model.specs.Disk.{SameDisk, Rose as Rises}
+use Rattle.disk_model.specs.Disk.{Rose as Rises}
+use Rattle.disk_model.specs.Work.{SameDisk}
 use Rattle.gate_journal.specs.Faults.{HasInitCause, IsFault}
 use Rattle.gate_journal.specs.declared.fault.InitFault.{InitFault}
 use Rattle.gate_journal.specs.declared.fault.InitFault.TheVariants as fault
@@ -32,7 +33,7 @@ use Rattle.host_top.proofs.InitLemmas.{counts_then, all_named}
 -- ---- the journal, behind a look at its disk
 
 module _ {D : Type 0} (disks : DiskWords D) (given mid : D) (looks : IsLookedAt disks given mid)
-    (same : SameDisk disks.tells disks.room disks.label given mid) where
+    (same : SameDisk disks given mid) where
   still_told : IsTrue (disks.tells given) → IsTrue (disks.tells mid)
   still_told told = subst (λ (b : Bool). IsTrue b) (sym same.telling) told
 
@@ -180,19 +181,19 @@ module _ {D : Type 0} (disks : DiskWords D) where
   pub folder_inits : (folder first second : List ℕ) (given back : D) (o a b beyond : OutsideState D)
       (input : SourceState) (output new : SinkState) (status : Status)
       → first ≡ journal_in folder → second ≡ journal_in folder
-      → Lends disks.label disks.faults first given o a
-      → (IsTrue (disks.tells given) → IsLentFrom disks.seen disks.may_leave (o.disk first) given)
-      → SameDisk disks.tells disks.room disks.label given back
+      → Lends disks first given o a
+      → (IsTrue (disks.tells given) → IsLentFrom disks (o.disk first) given)
+      → SameDisk disks given back
       → (stores : List (Lending D)) × Inits disks folder given back stores stores a b output new
       status → TakesDiskBack disks.faults second back b beyond
       → InitsFolder disks folder o beyond input input output new status
   folder_inits folder first second given back o a b beyond input output new status is again lends
       lent same init takes =
       let name : List ℕ = journal_in folder in
-      let lends' = subst (λ (n : List ℕ). Lends disks.label disks.faults n given o a) is lends in
+      let lends' = subst (λ (n : List ℕ). Lends disks n given o a) is lends in
       let lent' =
       subst (λ (n : List ℕ). IsTrue (disks.tells given)
-      → IsLentFrom disks.seen disks.may_leave (o.disk n) given) is lent in
+      → IsLentFrom disks (o.disk n) given) is lent in
       let takes' = subst (λ (n : List ℕ). TakesDiskBack disks.faults n back b beyond) again takes in
       let stores : List (Lending D) = init.0 in
       let i : Inits disks folder given back stores stores a b output new status = init.1 in
@@ -220,8 +221,7 @@ module _ {D : Type 0} (disks : DiskWords D) where
       }
     where
       counted : (stores : List (Lending D))
-          → Lends disks.label disks.faults (journal_in folder) given o a
-          → CountsFaults disks a b stores
+          → Lends disks (journal_in folder) given o a → CountsFaults disks a b stores
           → TakesDiskBack disks.faults (journal_in folder) back b beyond
           → b.loan (journal_in folder) ≡ Some
           (loan_by disks (record { name = journal_in folder; given = given; back = None }))
@@ -236,7 +236,7 @@ module _ {D : Type 0} (disks : DiskWords D) where
           (counts_then disks o a b (l ∷ []) stores
           (counts_out disks o a (l ∷ []) (refl, tt) lends.count) counts) refl loan takes
 
-      rises : Lends disks.label disks.faults (journal_in folder) given o a
+      rises : Lends disks (journal_in folder) given o a
           → TakesDiskBack disks.faults (journal_in folder) back b beyond
           → b.loan (journal_in folder) ≡ Some
           (loan_by disks (record { name = journal_in folder; given = given; back = None }))
@@ -248,7 +248,7 @@ module _ {D : Type 0} (disks : DiskWords D) where
           (counts_out disks b b (l ∷ []) (refl, tt) refl) refl loan takes in c.later
 
       later_so : {stores : List (Lending D)}
-          → Lends disks.label disks.faults (journal_in folder) given o a
+          → Lends disks (journal_in folder) given o a
           → Inits disks folder given back stores stores a b output new status
           → TakesDiskBack disks.faults (journal_in folder) back b beyond
           → b.loan (journal_in folder) ≡ Some
@@ -257,7 +257,7 @@ module _ {D : Type 0} (disks : DiskWords D) where
       later_so lends i takes loan = let up =
           rises lends takes loan in omega (arith, lends.count, i.later, up)
 
-      cause_so : Lends disks.label disks.faults (journal_in folder) given o a
+      cause_so : Lends disks (journal_in folder) given o a
           → TakesDiskBack disks.faults (journal_in folder) back b beyond
           → b.loan (journal_in folder) ≡ Some
           (loan_by disks (record { name = journal_in folder; given = given; back = None }))
@@ -269,7 +269,7 @@ module _ {D : Type 0} (disks : DiskWords D) where
       cause_so lends takes loan (inr wanted) = inr wanted
 
       does_so : {stores : List (Lending D)}
-          → Lends disks.label disks.faults (journal_in folder) given o a
+          → Lends disks (journal_in folder) given o a
           → Inits disks folder given back stores stores a b output new status
           → TakesDiskBack disks.faults (journal_in folder) back b beyond
           → b.loan (journal_in folder) ≡ Some
@@ -296,7 +296,7 @@ module _ {D : Type 0} (disks : DiskWords D) where
   -- it is out while the stores' disks are lent and put back
   pub journal_out : (folder : List ℕ) (given : D) (o a b : OutsideState D)
       (stores : List (Lending D))
-      → Lends disks.label disks.faults (journal_in folder) given o a
+      → Lends disks (journal_in folder) given o a
       → AreNamed (snaps_below folder 64) stores → Borrowed disks a b stores
       → b.loan (journal_in folder)
       ≡ Some
@@ -311,15 +311,14 @@ module _ {D : Type 0} (disks : DiskWords D) where
   pub folder_lent : (folder first second : List ℕ) (given back : D) (o a b : OutsideState D)
       (output new : SinkState) (status : Status)
       → first ≡ journal_in folder → second ≡ journal_in folder
-      → Lends disks.label disks.faults first given o a
-      → SameDisk disks.tells disks.room disks.label given back
+      → Lends disks first given o a → SameDisk disks given back
       → (stores : List (Lending D)) × Inits disks folder given back stores stores a b output new
       status → IsLent (b.loan second) (disks.label back)
   folder_lent folder first second given back o a b output new status is again lends same init =
       subst (λ (n : List ℕ). IsLent (b.loan n) (disks.label back)) (sym again)
       (subst (λ (x : Option Loan). IsLent x (disks.label back))
       (sym (journal_out folder given o a b init.0
-      (subst (λ (n : List ℕ). Lends disks.label disks.faults n given o a) is lends)
+      (subst (λ (n : List ℕ). Lends disks n given o a) is lends)
       init.1.named init.1.borrowed)) (sym same.name, refl))
 
   pub no_folder : (names : List (List ℕ)) (outside beyond : OutsideState D) (input : SourceState)

@@ -4,7 +4,7 @@ use Rattle.std.proofs.Common.{◌∙◌, subst, cond, Bool, true, false, Option,
 use Rattle.std.proofs.lemmas.Slice.Eq.{bytes_eq-Decides}
 use Rattle.std.proofs.lemmas.Option.{same_Some}
 use Rattle.std.specs.Str.{bytes_eq}
-use Rattle.disk_model.specs.Disk.{SameDisk}
+use Rattle.disk_model.specs.Work.{SameDisk}
 use Rattle.turn_cell.specs.History.{Each}
 use Rattle.turn_cell.proofs.HistoryLemmas.{each_append, each_first, each_map}
 use Rattle.host_top.specs.Borrowed.{Borrowed, IsLending, IsOther, Lending, left_by, loan_by}
@@ -62,7 +62,7 @@ module _ {D : Type 0} (disks : DiskWords D) where
 
   -- the loan of a disk that was lent
   pub lent_loan : (name : List ℕ) (given : D) (outside mid : OutsideState D)
-      → Lends disks.label disks.faults name given outside mid
+      → Lends disks name given outside mid
       → mid.loan name ≡ Some (loan_by disks (record { name = name; given = given; back = None }))
   lent_loan name given outside mid lends =
       lends.loans name ∙ there (bytes_eq name name) _ (outside.loan name) (same_name name)
@@ -70,25 +70,22 @@ module _ {D : Type 0} (disks : DiskWords D) where
   -- and it is out while others are lent and put back
   pub out_still : (name : List ℕ) (given : D) (outside mid now : OutsideState D)
       (ls : List (Lending D))
-      → Lends disks.label disks.faults name given outside mid → Borrowed disks mid now ls
-      → Each (IsOther name) ls
+      → Lends disks name given outside mid → Borrowed disks mid now ls → Each (IsOther name) ls
       → now.loan name ≡ Some (loan_by disks (record { name = name; given = given; back = None }))
   out_still name given outside mid now ls lends borrowed far =
       (borrowed.others name far).1 ∙ lent_loan name given outside mid lends
 
   -- so it may be put back
   pub is_lent : (name : List ℕ) (given back : D) (outside mid : OutsideState D)
-      → Lends disks.label disks.faults name given outside mid
-      → SameDisk disks.tells disks.room disks.label given back
+      → Lends disks name given outside mid → SameDisk disks given back
       → IsLent (mid.loan name) (disks.label back)
   is_lent name given back outside mid lends same =
       subst (λ (l : Option Loan). IsLent l (disks.label back))
       (sym (lent_loan name given outside mid lends)) (sym same.name, refl)
 
   pub lent_one : (name : List ℕ) (given : D) (outside mid : OutsideState D)
-      → Lends disks.label disks.faults name given outside mid
-      → (IsTrue (disks.tells given) → IsLentFrom disks.seen disks.may_leave (outside.disk name)
-      given)
+      → Lends disks name given outside mid
+      → (IsTrue (disks.tells given) → IsLentFrom disks (outside.disk name) given)
       → Borrowed disks outside mid (record { name = name; given = given; back = None } ∷ [])
   lent_one name given outside mid lends lent = record {
     each = (
@@ -153,7 +150,7 @@ module _ {D : Type 0} (disks : DiskWords D) where
       → IsLending disks b c k → IsLending disks a c k
   lending_from a b c ls k first apart is = record {
     lent =
-        λ told. subst (λ (t : Told D). IsLentFrom disks.seen disks.may_leave t k.given)
+        λ told. subst (λ (t : Told D). IsLentFrom disks t k.given)
         (first.others k.name apart).0 (is.lent told);
     own = is.own;
     kept = is.kept;
@@ -262,7 +259,7 @@ module _ {D : Type 0} (disks : DiskWords D) where
 
   lending_back : (a b c : OutsideState D) (l : Lending D) (back : D)
       → TakesDiskBack disks.faults l.name back b c
-      → SameDisk disks.tells disks.room disks.label l.given back
+      → SameDisk disks l.given back
       → IsLending disks a b l → IsLending disks a c (record l { back = Some back })
   lending_back a b c l back takes same is = record {
     lent = is.lent;
@@ -281,7 +278,7 @@ module _ {D : Type 0} (disks : DiskWords D) where
       → Borrowed disks a b (front ++ l ∷ rest) → Each (IsOther l.name) front
       → Each (IsOther l.name) rest
       → TakesDiskBack disks.faults l.name back b c
-      → SameDisk disks.tells disks.room disks.label l.given back
+      → SameDisk disks l.given back
       → Borrowed disks a c (front ++ record l { back = Some back } ∷ rest)
   one_back a b c front l rest back is before behind takes same =
       let last = each_last (IsLending disks a b) front (l ∷ rest) is.each in
@@ -308,8 +305,7 @@ module _ {D : Type 0} (disks : DiskWords D) where
   -- the loan of one of them, which may be put back
   pub loan_still : (a b : OutsideState D) (front : List (Lending D)) (l : Lending D)
       (rest : List (Lending D)) (back : D) → Borrowed disks a b (front ++ l ∷ rest) → l.back ≡ None
-      → SameDisk disks.tells disks.room disks.label l.given back
-      → IsLent (b.loan l.name) (disks.label back)
+      → SameDisk disks l.given back → IsLent (b.loan l.name) (disks.label back)
   loan_still a b front l rest back is none same =
       let last = each_last (IsLending disks a b) front (l ∷ rest) is.each in
       subst (λ (x : Option Loan). IsLent x (disks.label back)) (sym last.0.loan)

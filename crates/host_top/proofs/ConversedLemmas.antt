@@ -6,7 +6,7 @@ use Rattle.std.proofs.lemmas.List.{length-map}
 use Rattle.std.proofs.Math.Seq.{take-append_seam}
 use Rattle.std.proofs.lemmas.Option.{same_Some}
 use Rattle.std.specs.Prelude.{Some, slice_get}
-use Rattle.disk_model.specs.Disk.{EachImage, LeavesOnly, SameDisk}
+use Rattle.disk_model.specs.Work.{EachImage, LeavesOnly, SameDisk}
 use Rattle.disk_model.proofs.Moments.{and_then, weaker}
 use Rattle.gate_journal.specs.Log.{IsBetween, IsSinceOpened, Log, MayOpen, MaySpell, Opening, Rises}
 use Rattle.gate_journal.specs.Log.{EndsInFaultOf, InTurn, rows_kept, rows_found, rows_of}
@@ -48,15 +48,12 @@ abbrev pub EndsOn : {D : Type 0} → DiskWords D → Host D → Passes D → D �
 EndsOn {D} disks host passes back backs =
     (log : Log D) × (back ≡ log.disk) × EndsWith host passes log
     × IsJournal (rows_of log.entries)
-    × EachImage disks.tells disks.may_leave back (MaySpell (rows_of log.entries) log.uncertain)
-    × EachImage disks.tells disks.may_leave back (MayOpen (rows_of log.entries))
+    × EachImage disks back (MaySpell (rows_of log.entries) log.uncertain)
+    × EachImage disks back (MayOpen (rows_of log.entries))
     × Rises (disks.faults log.opening.disk) log.entries (disks.faults back)
-    × IsSinceOpened disks.tells disks.may_leave disks.room disks.label disks.reach disks.moment
-    disks.left_since log
-    × (IsSound disks.tells disks.seen host
-    → AreAgreedDisks disks.tells disks.may_leave host.stories.now (rows_of log.entries) backs)
-    × (IsSound disks.tells disks.seen host
-    → KeepFiles disks.moment disks.left_since host.stories.now (rows_at_opening host)
+    × IsSinceOpened disks log
+    × (IsSound disks host → AreAgreedDisks disks host.stories.now (rows_of log.entries) backs)
+    × (IsSound disks host → KeepFiles disks host.stories.now (rows_at_opening host)
     (rows_of log.entries) (opened_stores host) backs)
 
 -- the journal of a host that was opened had these rows then
@@ -68,10 +65,7 @@ opened_rows stories budget rows opening host first opened =
 
 module _ {D : Type 0} (disks : DiskWords D) where
   pub same_zip : (gs : List D) (ss : List (Snapshots D)) (bs : List D)
-      → AllZip (IsStoreOf disks.tells disks.may_leave disks.seen disks.moment disks.left_since
-      disks.faults disks.reach disks.room disks.label) gs ss
-      → AllZip (GivesBack disks.tells disks.faults disks.reach disks.room disks.label) ss bs
-      → AreSame disks gs bs
+      → AllZip (IsStoreOf disks) gs ss → AllZip (GivesBack disks) ss bs → AreSame disks gs bs
   same_zip [] [] [] of gives = tt
   same_zip [] [] (b ∷ bs) of gives = absurd gives
   same_zip [] (s ∷ ss) bs of gives = absurd of
@@ -87,9 +81,7 @@ module _ {D : Type 0} (disks : DiskWords D) where
   )
 
   pub back_zip : (gs : List D) (ss : List (Snapshots D)) (bs : List D)
-      → AllZip (IsStoreOf disks.tells disks.may_leave disks.seen disks.moment disks.left_since
-      disks.faults disks.reach disks.room disks.label) gs ss
-      → AllZip (GivesBack disks.tells disks.faults disks.reach disks.room disks.label) ss bs
+      → AllZip (IsStoreOf disks) gs ss → AllZip (GivesBack disks) ss bs
       → AllZip (IsStoreBack disks) gs bs
   back_zip [] [] [] of gives = tt
   back_zip [] [] (b ∷ bs) of gives = absurd gives
@@ -109,8 +101,7 @@ module _ {D : Type 0} (disks : DiskWords D) (given back : D) (givens backs : Lis
     (opened : IsOpenedHost stories budget rows (record { disk = given; found = length rows }) host
     first)
     (end : EndsOn disks host last back backs) where
-  abbrev since : IsSinceOpened disks.tells disks.may_leave disks.room disks.label disks.reach
-      disks.moment disks.left_since end.0
+  abbrev since : IsSinceOpened disks end.0
   since = end.7
 
   -- it is the journal that was opened on this disk, with these rows
@@ -162,40 +153,39 @@ module _ {D : Type 0} (disks : DiskWords D) (given back : D) (givens backs : Lis
     in_turn =
         subst (λ (d : D).
         IsTrue (disks.tells d)
-        → InTurn disks.moment disks.left_since (rows_kept rows) end.0.start
+        → InTurn disks (rows_kept rows) end.0.start
         (drop (length rows) end.0.entries) end.0.steps d) (sym end.1)
         (λ told. subst (λ (es : List JournalEntry).
-        InTurn disks.moment disks.left_since es end.0.start (drop (length rows) end.0.entries)
+        InTurn disks es end.0.start (drop (length rows) end.0.entries)
         end.0.steps end.0.disk) found_entries
         (subst (λ (n : ℕ).
-        InTurn disks.moment disks.left_since (take n end.0.entries) end.0.start
+        InTurn disks (take n end.0.entries) end.0.start
         (drop n end.0.entries) end.0.steps end.0.disk) many (since.in_turn told)));
   }
 
-  pub same_back : SameDisk disks.tells disks.room disks.label given back
+  pub same_back : SameDisk disks given back
   same_back =
-      subst (λ (d : D). SameDisk disks.tells disks.room disks.label given d) (sym end.1)
-      (subst (λ (d : D). SameDisk disks.tells disks.room disks.label d end.0.disk) opened_on
-      since.same)
+      subst (λ (d : D). SameDisk disks given d) (sym end.1)
+      (subst (λ (d : D). SameDisk disks d end.0.disk) opened_on since.same)
 
   pub counts : Rises (disks.faults given) end.0.entries (disks.faults back)
   counts =
       subst (λ (d : D). Rises (disks.faults d) end.0.entries (disks.faults back)) opened_on end.6
 
   pub meanwhile : (start : List Row) → IsJournal start
-      → EachImage disks.tells disks.may_leave given (MayOpen start) → IsTrue (disks.tells given)
-      → LeavesOnly disks.moment disks.left_since given back
+      → EachImage disks given (MayOpen start) → IsTrue (disks.tells given)
+      → LeavesOnly disks given back
       (λ c. MayOpen start c ⊎ IsBetween rows (rows_of end.0.entries) c)
   meanwhile start journal may tells =
       let leaves =
       since.meanwhile start journal (subst
-      (λ (d : D). EachImage disks.tells disks.may_leave d (MayOpen start)) (sym opened_on) may)
+      (λ (d : D). EachImage disks d (MayOpen start)) (sym opened_on) may)
       (subst (λ (d : D). IsTrue (disks.tells d)) (sym opened_on) tells) in
-      subst (λ (d : D). LeavesOnly disks.moment disks.left_since given d
+      subst (λ (d : D). LeavesOnly disks given d
       (λ c. MayOpen start c ⊎ IsBetween rows (rows_of end.0.entries) c)) (sym end.1)
-      (subst (λ (d : D). LeavesOnly disks.moment disks.left_since d end.0.disk
+      (subst (λ (d : D). LeavesOnly disks d end.0.disk
       (λ c. MayOpen start c ⊎ IsBetween rows (rows_of end.0.entries) c)) opened_on
-      (subst (λ (rs : List Row). LeavesOnly disks.moment disks.left_since end.0.opening.disk
+      (subst (λ (rs : List Row). LeavesOnly disks end.0.opening.disk
       end.0.disk (λ c. MayOpen start c ⊎ IsBetween rs (rows_of end.0.entries) c)) found leaves))
 
   pub reaches : disks.reach back ≤ max (disks.reach given)
@@ -211,55 +201,44 @@ module _ {D : Type 0} (disks : DiskWords D) (given back : D) (givens backs : Lis
 
   -- ---- the stores
 
-  module _ (stores : AllZip (IsStoreOf disks.tells disks.may_leave disks.seen disks.moment
-      disks.left_since disks.faults disks.reach disks.room disks.label) givens (opened_stores host))
-      (returned : AllZip (GivesBack disks.tells disks.faults disks.reach disks.room disks.label)
-      (opened_stores host) backs) where
+  module _ (stores : AllZip (IsStoreOf disks) givens (opened_stores host))
+      (returned : AllZip (GivesBack disks) (opened_stores host) backs) where
     pub same_stores : AreSame disks givens backs
     same_stores = same_zip disks givens (opened_stores host) backs stores returned
 
     abbrev Agreed : Type 0
-    Agreed = AreAgreed disks.tells disks.seen stories (rows_at_opening host) givens
-        → IsSound disks.tells disks.seen host
+    Agreed = AreAgreed disks stories (rows_at_opening host) givens → IsSound disks host
 
-    is_sound : Agreed → AreAgreed disks.tells disks.seen stories rows givens
-        → IsSound disks.tells disks.seen host
+    is_sound : Agreed → AreAgreed disks stories rows givens → IsSound disks host
     is_sound sound agreed =
-        sound (subst (λ (rs : List Row). AreAgreed disks.tells disks.seen stories rs givens)
-        (sym at_opening) agreed)
+        sound (subst (λ (rs : List Row). AreAgreed disks stories rs givens) (sym at_opening) agreed)
 
     -- the file of one session
     stays : ((d : D) → disks.may_leave d (disks.seen d)) → Agreed
-        → AreAgreed disks.tells disks.seen stories rows givens
-        → AreAgreedDisks disks.tells disks.may_leave stories rows givens
+        → AreAgreed disks stories rows givens → AreAgreedDisks disks stories rows givens
         → (s : ℕ) (given' back' : D) → slice_get givens s ≡ Some given'
         → slice_get backs s ≡ Some back'
         → StaysSound disks stories rows (rows_of end.0.entries) s given' back'
     stays may_stay sound agreed each s given' back' there there' =
         let after = rows_of end.0.entries in
         let store =
-        zip_at (GivesBack disks.tells disks.faults disks.reach disks.room disks.label)
-        (opened_stores host) backs s back' returned there' in
+        zip_at (GivesBack disks) (opened_stores host) backs s back' returned there' in
         let found =
-        zip_at (IsStoreOf disks.tells disks.may_leave disks.seen disks.moment disks.left_since
-        disks.faults disks.reach disks.room disks.label) givens (opened_stores host) s store.0
-        stores store.1 in
+        zip_at (IsStoreOf disks) givens (opened_stores host) s store.0 stores store.1 in
         let same : found.0 ≡ given' = same_Some found.0 given' (sym found.1 ∙ there) in
         let of =
-        subst (λ (d : D). IsStoreOf disks.tells disks.may_leave disks.seen disks.moment
-        disks.left_since disks.faults disks.reach disks.room disks.label d store.0) same
+        subst (λ (d : D). IsStoreOf disks d store.0) same
         found.2 in
         let told = (agreed s given' there).0 in
         let looks = of.kept.moments told in
         let kept =
-        subst (λ (x : List Story × List Row). KeepsFileOf disks.moment disks.left_since x.0 x.1
+        subst (λ (x : List Story × List Row). KeepsFileOf disks x.0 x.1
         after s store.0 back') (λ i. (opened.stories i, at_opening i))
         (end.9 (is_sound sound agreed) s store.0 back' store.1 there') in
         record {
           agreed =
-              and_then disks.moment disks.left_since given' store.0.disk back'
-              (AgreesWithBeginning stories after s)
-              (weaker disks.moment disks.left_since given' store.0.disk (disks.may_leave given')
+              and_then disks given' store.0.disk back' (AgreesWithBeginning stories after s)
+              (weaker disks given' store.0.disk (disks.may_leave given')
               (AgreesWithBeginning stories after s) looks
               (λ file may. record {
                 first = rows;
@@ -269,13 +248,11 @@ module _ {D : Type 0} (disks : DiskWords D) (given back : D) (givens backs : Lis
               }))
               kept.agreed;
           newest = λ none place least last has.
-              and_then disks.moment disks.left_since given' store.0.disk back'
-              (HasOpenSince place least)
-              (weaker disks.moment disks.left_since given' store.0.disk (disks.may_leave given')
+              and_then disks given' store.0.disk back' (HasOpenSince place least)
+              (weaker disks given' store.0.disk (disks.may_leave given')
               (HasOpenSince place least) looks (λ file may. has told file may))
               (kept.newest end.3 none place least last
-              (slot_since disks.tells disks.may_leave disks.seen disks.moment disks.left_since
-              disks.faults disks.reach disks.room disks.label given' store.0 place least of told
+              (slot_since disks given' store.0 place least of told
               (has told (disks.seen given') (may_stay given'))));
         }
 
@@ -284,7 +261,7 @@ module _ {D : Type 0} (disks : DiskWords D) (given back : D) (givens backs : Lis
     stores_back may_stay sound = record {
       each = back_zip disks givens (opened_stores host) backs stores returned;
       agreed =
-          λ agreed. subst (λ (s : List Story). AreAgreedDisks disks.tells disks.may_leave s
+          λ agreed. subst (λ (s : List Story). AreAgreedDisks disks s
           (rows_of end.0.entries) backs) opened.stories (end.8 (is_sound sound agreed));
       meanwhile = stays may_stay sound;
     }
@@ -293,10 +270,9 @@ module _ {D : Type 0} (disks : DiskWords D) (given back : D) (givens backs : Lis
 
   module _ (holds : holders last.desks.items ≡ holders first.desks.items) {input now : SourceState}
       {output new : SinkState} (served : Ended)
-      (lines : ServesBetween (IsSound disks.tells disks.seen host) host first last input now output
-      new served) where
+      (lines : ServesBetween (IsSound disks host) host first last input now output new served) where
     abbrev Sound : Type 0
-    Sound = IsSound disks.tells disks.seen host
+    Sound = IsSound disks host
 
     chain : AnswersInOrder stories budget Sound roots (histories_in_rows rows) lines.turns
         (seens last.desks.items)
@@ -327,7 +303,7 @@ module _ {D : Type 0} (disks : DiskWords D) (given back : D) (givens backs : Lis
         end.2.kept s below ∙ ap (map unnumbered) alone ∙ own s
 
     pub conversed : (IsTrue (disks.tells given) → SpellsRows (disks.seen given) rows)
-        → (AreAgreed disks.tells disks.seen stories (rows_at_opening host) givens → Sound)
+        → (AreAgreed disks stories (rows_at_opening host) givens → Sound)
         → StoresBack disks stories rows (rows_of end.0.entries) givens backs
         → Conversed disks stories budget given givens back backs input now output new served
     conversed spells sound stores = record {
@@ -347,7 +323,7 @@ module _ {D : Type 0} (disks : DiskWords D) (given back : D) (givens backs : Lis
           (many_histories rows) chain;
       sound =
           λ agreed. led_alone stories budget Sound
-          (sound (subst (λ (rs : List Row). AreAgreed disks.tells disks.seen stories rs givens)
+          (sound (subst (λ (rs : List Row). AreAgreed disks stories rs givens)
           (sym at_opening) agreed))
           (histories_in_rows rows) lines.turns (seens last.desks.items) (many_histories rows) chain;
       journal = end.0.entries;
@@ -366,16 +342,16 @@ module _ {D : Type 0} (disks : DiskWords D) (given back : D) (givens backs : Lis
     }
 
 -- what an opening may meet it may meet again on the disk that came back
-pub may_open_again : {D : Type 0} (tells : D → Bool) (may_leave : D → List ℕ → Type 0)
-    (moment : D → ℕ) (left_since : D → ℕ → List ℕ → Type 0) (given back : D)
-    → tells back ≡ tells given
-    → ((rows : List Row) → IsJournal rows → EachImage tells may_leave given (MayOpen rows)
-    → IsTrue (tells given) → LeavesOnly moment left_since given back (MayOpen rows))
-    → ((t : ℕ) (c : List ℕ) → t ≤ moment back → may_leave back c → left_since back t c)
-    → (rows : List Row) → IsJournal rows → EachImage tells may_leave given (MayOpen rows)
-    → EachImage tells may_leave back (MayOpen rows)
-may_open_again tells may_leave moment left_since given back telling crash now rows journal may told
+pub may_open_again : {D : Type 0} (disks : DiskWords D) (given back : D)
+    → disks.tells back ≡ disks.tells given
+    → ((rows : List Row) → IsJournal rows → EachImage disks given (MayOpen rows)
+    → IsTrue (disks.tells given) → LeavesOnly disks given back (MayOpen rows))
+    → ((t : ℕ) (c : List ℕ) → t ≤ disks.moment back → disks.may_leave back c
+    → disks.left_since back t c)
+    → (rows : List Row) → IsJournal rows → EachImage disks given (MayOpen rows)
+    → EachImage disks back (MayOpen rows)
+may_open_again disks given back telling crash now rows journal may told
     c left =
-    let leaves : LeavesOnly moment left_since given back (MayOpen rows) =
+    let leaves : LeavesOnly disks given back (MayOpen rows) =
     crash rows journal may (subst (λ (b : Bool). IsTrue b) telling told) in
-    leaves.each c (now (moment given) c leaves.later left)
+    leaves.each c (now (disks.moment given) c leaves.later left)

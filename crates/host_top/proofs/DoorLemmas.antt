@@ -186,9 +186,8 @@ module _ {O Conn Lent Done Fault : Type 0} (doors : DoorWords O Conn Done Fault)
       (rows : List Row) (given : D) (host : Host D) (first last : Passes D)
       (workers : ℕ) (givens : List D) (back : D) (backs : List D) (status : Status)
       → IsOpenedHost stories budget rows (record { disk = given; found = length rows }) host first
-      → (AreAgreed disks.tells disks.seen stories (rows_at_opening host) givens
-      → IsSound disks.tells disks.seen host)
-      → AtDoor status (CrewRejoins doors source sink lent (IsSound disks.tells disks.seen) host workers first last)
+      → (AreAgreed disks stories (rows_at_opening host) givens → IsSound disks host)
+      → AtDoor status (CrewRejoins doors source sink lent (IsSound disks) host workers first last)
       (λ c. AreAllShut doors source sink lent c.0.serve) (SeeNoMore first last)
       → AreAllHeld last (last ∷ [])
       → (end : EndsOn disks host last back backs)
@@ -200,18 +199,17 @@ module _ {O Conn Lent Done Fault : Type 0} (doors : DoorWords O Conn Done Fault)
         host = host;
         plays = opened.stories;
         ticks = opened.budget;
-        sound = subst (λ (rs : List Row). AreAgreed disks.tells disks.seen stories rs givens
-            → IsSound disks.tells disks.seen host)
+        sound = subst (λ (rs : List Row). AreAgreed disks stories rs givens → IsSound disks host)
             (opened_rows stories budget rows _ host first opened) sound;
         finals = end.2.finals;
         entries = end.2.kept;
         served =
             at_door
-            (λ (c : CrewRejoins doors source sink lent (IsSound disks.tells disks.seen) host workers first last).
+            (λ (c : CrewRejoins doors source sink lent (IsSound disks) host workers first last).
             AreAllShut doors source sink lent c.0.serve)
-            (λ (d : ServesDoor doors source sink lent (IsSound disks.tells disks.seen) host workers
+            (λ (d : ServesDoor doors source sink lent (IsSound disks) host workers
             rows end.2.finals). AreAllShut doors source sink lent d.crew.serve)
-            (serves_door (IsSound disks.tells disks.seen) host workers rows end.2.finals first last
+            (serves_door (IsSound disks) host workers rows end.2.finals first last
             opened.histories whole end.2.each)
             (λ c shut. shut)
             (no_entry disks _ back givens backs stories budget rows host first last opened end whole)

@@ -3,7 +3,7 @@ use Rattle.std.proofs.Common.{◌≡◌, ℕ, zero, suc, List, [], ◌∷◌, �
 use Rattle.std.proofs.Common.{ap, ◌∙◌, subst, None, Some, slice_get, slice_index_or, false, String}
 use Rattle.std.proofs.Common.{Global, Option, Vec, remove, string_bytes}
 use Rattle.std.specs.Str.{bytes_eq}
-use Rattle.disk_model.specs.Disk.{SameDisk}
+use Rattle.disk_model.specs.Work.{SameDisk}
 use Rattle.turn_cell.specs.History.{Each}
 use Rattle.host_top.specs.Borrowed.{AreDifferentNames, Borrowed, IsLending, IsOther}
 use Rattle.host_top.specs.Borrowed.{Lending, PutsBack, journal_in, lent_as, names_of}
@@ -102,15 +102,14 @@ module _ {D : Type 0} (disks : DiskWords D) where
   same_long (g ∷ gs) (b ∷ bs) same = omega (arith, same_long gs bs same.1)
 
   pub same_at : (gs bs : List D) (i : ℕ) (d : D) → AreSame disks gs bs → slice_get bs i ≡ Some d
-      → (g : D) × (slice_get gs i ≡ Some g) × SameDisk disks.tells disks.room disks.label g d
+      → (g : D) × (slice_get gs i ≡ Some g) × SameDisk disks g d
   same_at [] [] i d same there = cc
   same_at [] (b ∷ bs) i d same there = absurd same
   same_at (g ∷ gs) [] i d same there = absurd same
   same_at (g ∷ gs) (b ∷ bs) zero d same there = (
     g,
     refl,
-    subst (λ (x : D). SameDisk disks.tells disks.room disks.label g x)
-        (same_item b d there) same.0,
+    subst (λ (x : D). SameDisk disks g x) (same_item b d there) same.0,
   )
   same_at (g ∷ gs) (b ∷ bs) (suc i) d same there = same_at gs bs i d same.1 there
 
@@ -119,7 +118,7 @@ module _ {D : Type 0} (disks : DiskWords D) where
       (rest : List (Lending D)) (d : D) → Handled disks a b (front ++ l ∷ rest) → l.back ≡ None
       → Each (IsOther l.name) front → Each (IsOther l.name) rest
       → TakesDiskBack disks.faults l.name d b c
-      → SameDisk disks.tells disks.room disks.label l.given d
+      → SameDisk disks l.given d
       → Handled disks a c (front ++ record l { back = Some d } ∷ rest)
   handled_one a b c front l rest d is out before behind takes same =
       let here = each_last (IsLending disks a b) front (l ∷ rest) is.0.each in (
@@ -132,7 +131,7 @@ module _ {D : Type 0} (disks : DiskWords D) where
       (n : List ℕ) (g d : D) (a b c : OutsideState D) → AreDifferentNames ns
       → Each (λ m. Each (IsOther m) front) ns
       → slice_get ns k ≡ Some n → slice_get gs k ≡ Some g
-      → SameDisk disks.tells disks.room disks.label g d → TakesDiskBack disks.faults n d b c
+      → SameDisk disks g d → TakesDiskBack disks.faults n d b c
       → Handled disks a b (front ++ lent_as ns gs)
       → Handled disks a c (front ++ back_at k d (lent_as ns gs))
   one_back_at front [] gs k n g d a b c apart far at there same takes is = cc
@@ -142,7 +141,7 @@ module _ {D : Type 0} (disks : DiskWords D) where
       refl far.0
       (named_each disks (λ x. bytes_eq x m ≡ false) ns gs (others_turned disks m ns apart.0))
       (subst (λ (x : List ℕ). TakesDiskBack disks.faults x d b c) (sym (same_item m n at)) takes)
-      (subst (λ (x : D). SameDisk disks.tells disks.room disks.label x d)
+      (subst (λ (x : D). SameDisk disks x d)
       (sym (same_item h g there)) same)
   one_back_at front (m ∷ ns) (h ∷ gs) (suc k) n g d a b c apart far at there same takes is =
       let l : Lending D = record { name = m; given = h; back = None } in
@@ -181,7 +180,7 @@ module _ {D : Type 0} {disks : DiskWords D} {folder : List ℕ} {given : D} {giv
 
   -- each may be put back
   pub may_put : (k : ℕ) {name : List ℕ} {g d : D} → slice_get (names_of folder) k ≡ Some name
-      → slice_get (given ∷ givens) k ≡ Some g → SameDisk disks.tells disks.room disks.label g d
+      → slice_get (given ∷ givens) k ≡ Some g → SameDisk disks g d
       → IsLent (b.loan name) (disks.label d)
   may_put k {name} {g} {d} at there same =
       subst (λ (l : ℕ). IsLent (b.loan name) l) (sym same.name)
@@ -189,7 +188,7 @@ module _ {D : Type 0} {disks : DiskWords D} {folder : List ℕ} {given : D} {giv
 
   -- and is then, by what comes back
   pub all_put : {x : Back D} {journal : D} {snaps : Vec D Global} {c e : OutsideState D}
-      → x ≡ back.All journal snaps → SameDisk disks.tells disks.room disks.label given journal
+      → x ≡ back.All journal snaps → SameDisk disks given journal
       → AreSame disks givens snaps.items
       → PutsBack disks.faults (snaps_below folder 64) snaps.items b c
       → TakesDiskBack disks.faults (journal_in folder) journal c e → back_so e x
@@ -202,21 +201,21 @@ module _ {D : Type 0} {disks : DiskWords D} {folder : List ℕ} {given : D} {giv
 
   place_put : (k : ℕ) {name : List ℕ} {g d : D} {c : OutsideState D}
       → slice_get (names_of folder) k ≡ Some name → slice_get (given ∷ givens) k ≡ Some g
-      → SameDisk disks.tells disks.room disks.label g d → TakesDiskBack disks.faults name d b c
+      → SameDisk disks g d → TakesDiskBack disks.faults name d b c
       → Handled disks a c (back_at k d (lent_as (names_of folder) (given ∷ givens)))
   place_put k at there same takes =
       one_back_at disks [] (names_of folder) (given ∷ givens) k _ _ _ a b _ (names_apart folder)
       (with_none disks (names_of folder)) at there same takes out_so
 
   pub journal_put : {x : Back D} {journal : D} {c : OutsideState D} → x ≡ back.Journal journal
-      → SameDisk disks.tells disks.room disks.label given journal
+      → SameDisk disks given journal
       → TakesDiskBack disks.faults (journal_in folder) journal b c → back_so c x
   journal_put {c = c} is same takes =
       subst (back_so c) (sym is) (place_put 0 refl refl same takes)
 
   pub snap_put : {x : Back D} {s : ℕ} {name : List ℕ} {g snap : D} {c : OutsideState D}
       → x ≡ back.Snap s snap → slice_get (snaps_below folder 64) s ≡ Some name
-      → slice_get givens s ≡ Some g → SameDisk disks.tells disks.room disks.label g snap
+      → slice_get givens s ≡ Some g → SameDisk disks g snap
       → TakesDiskBack disks.faults name snap b c → back_so c x
   snap_put {s = s} {c = c} is at there same takes =
       subst (back_so c) (sym is) (place_put (suc s) at there same takes)

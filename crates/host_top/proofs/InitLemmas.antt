@@ -3,7 +3,8 @@ use Rattle.std.proofs.Common.{◌≡◌, ℕ, ◌+◌, ◌<◌, List, [], ◌∷
 use Rattle.std.proofs.Common.{sym, ap, ◌∙◌, subst, None, Some, Bool, true, false, IsTrue, IsSomeAnd}
 use Rattle.std.proofs.lemmas.List.{map-append}
 use Rattle.std.specs.Str.{bytes_eq}
-use Rattle.disk_model.specs.Disk.{Elapses, NoneNew, SameDisk}
+use Rattle.disk_model.specs.Disk.{Elapses, NoneNew}
+use Rattle.disk_model.specs.Work.{SameDisk}
 use Rattle.disk_model.proofs.Moments.{goes_on, started}
 use Rattle.line_talk.specs.Causes.{Rose}
 use Rattle.turn_cell.specs.History.{Each}
@@ -40,8 +41,8 @@ pub looked_at : {D : Type 0} (disks : DiskWords D) (old new : D) → disks.reach
 looked_at disks old new reach crash time now = (
   reach,
   λ told.
-      goes_on disks.moment disks.left_since old old new (disks.may_leave old) (disks.may_leave new)
-      (started disks.moment disks.left_since old (disks.may_leave old) now) time (crash told),
+      goes_on disks old old new (disks.may_leave old) (disks.may_leave new)
+      (started disks old (disks.may_leave old) now) time (crash told),
 )
 
 -- ---- one store
@@ -51,7 +52,7 @@ module _ {D : Type 0} (disks : DiskWords D) where
   one name given back = record { name = name; given = given; back = Some back }
 
   counts_at : (name : List ℕ) (given back : D) (a b c : OutsideState D)
-      → Lends disks.label disks.faults name given a b → TakesDiskBack disks.faults name back b c
+      → Lends disks name given a b → TakesDiskBack disks.faults name back b c
       → CountsFaults disks a c (one name given back ∷ [])
   counts_at name given back a b c lends takes =
       let l : Lending D = record { name = name; given = given; back = None } in
@@ -59,17 +60,16 @@ module _ {D : Type 0} (disks : DiskWords D) where
       refl (lent_loan disks name given a b lends) takes
 
   pub store_made : (name first second : List ℕ) (given back : D) (a b c : OutsideState D)
-      → first ≡ name → second ≡ name → Lends disks.label disks.faults first given a b
-      → (IsTrue (disks.tells given) → IsLentFrom disks.seen disks.may_leave (a.disk first) given)
-      → SameDisk disks.tells disks.room disks.label given back
-      → TakesDiskBack disks.faults second back b c
+      → first ≡ name → second ≡ name → Lends disks first given a b
+      → (IsTrue (disks.tells given) → IsLentFrom disks (a.disk first) given)
+      → SameDisk disks given back → TakesDiskBack disks.faults second back b c
       → IsTried disks given back → IsMade disks given back
       → MakesStores disks (name ∷ []) a c
   store_made name first second given back a b c is again lends lent same takes tried made =
-      let lends' = subst (λ (n : List ℕ). Lends disks.label disks.faults n given a b) is lends in
+      let lends' = subst (λ (n : List ℕ). Lends disks n given a b) is lends in
       let lent' =
       subst (λ (n : List ℕ). IsTrue (disks.tells given)
-      → IsLentFrom disks.seen disks.may_leave (a.disk n) given) is lent in
+      → IsLentFrom disks (a.disk n) given) is lent in
       let takes' = subst (λ (n : List ℕ). TakesDiskBack disks.faults n back b c) again takes in
       record {
         stores = one name given back ∷ [];
@@ -81,9 +81,9 @@ module _ {D : Type 0} (disks : DiskWords D) where
       }
 
   pub store_tried : (name first second : List ℕ) (given back : D) (a b c : OutsideState D)
-      → first ≡ name → second ≡ name → Lends disks.label disks.faults first given a b
-      → (IsTrue (disks.tells given) → IsLentFrom disks.seen disks.may_leave (a.disk first) given)
-      → SameDisk disks.tells disks.room disks.label given back
+      → first ≡ name → second ≡ name → Lends disks first given a b
+      → (IsTrue (disks.tells given) → IsLentFrom disks (a.disk first) given)
+      → SameDisk disks given back
       → TakesDiskBack disks.faults second back b c → IsTried disks given back
       → TriesStores disks (name ∷ []) a c
   store_tried name first second given back a b c is again lends lent same takes tried = record {
@@ -91,9 +91,9 @@ module _ {D : Type 0} (disks : DiskWords D) where
     named = λ other away. away;
     tried = (tried, tt);
     borrowed = returned_one disks name given back a b c
-        (subst (λ (n : List ℕ). Lends disks.label disks.faults n given a b) is lends)
+        (subst (λ (n : List ℕ). Lends disks n given a b) is lends)
         (subst (λ (n : List ℕ). IsTrue (disks.tells given)
-        → IsLentFrom disks.seen disks.may_leave (a.disk n) given) is lent)
+        → IsLentFrom disks (a.disk n) given) is lent)
         same (subst (λ (n : List ℕ). TakesDiskBack disks.faults n back b c) again takes);
   }
 

@@ -10,7 +10,7 @@ use Rattle.std.proofs.lemmas.Option.{get_or_from_slice_get, slice_get-get_or, sl
 use Rattle.std.proofs.lemmas.Option.{slice_get_read, slice_get_within}
 use Rattle.std.specs.Option.{option_map}
 use Rattle.std.specs.Str.{bytes_eq}
-use Rattle.disk_model.specs.Disk.{SameDisk}
+use Rattle.disk_model.specs.Work.{SameDisk}
 use Rattle.turn_cell.specs.History.{Each}
 use Rattle.turn_cell.proofs.HistoryLemmas.{each_map}
 use Rattle.host_top.specs.Borrowed.{AreDifferentNames, AreAsGiven, AreNamed, Borrowed}
@@ -33,10 +33,9 @@ on_err (Err e) P p = p
 module _ {D : Type 0} (disks : DiskWords D) where
   -- a disk that was lent and put back at once
   pub returned_one : (name : List ℕ) (given back : D) (a b c : OutsideState D)
-      → Lends disks.label disks.faults name given a b
-      → (IsTrue (disks.tells given) → IsLentFrom disks.seen disks.may_leave (a.disk name) given)
-      → SameDisk disks.tells disks.room disks.label given back
-      → TakesDiskBack disks.faults name back b c
+      → Lends disks name given a b
+      → (IsTrue (disks.tells given) → IsLentFrom disks (a.disk name) given)
+      → SameDisk disks given back → TakesDiskBack disks.faults name back b c
       → Borrowed disks a c (record { name = name; given = given; back = Some back } ∷ [])
   returned_one name given back a b c lends lent same takes =
       one_back disks a b c [] (record { name = name; given = given; back = None }) [] back

@@ -5,7 +5,8 @@ use Rattle.std.proofs.Common.{false, IsTrue, Err, IsErrOf, codes, reverse}
 use Rattle.std.proofs.lemmas.List.{append_cancel_right, reverse-append}
 use Rattle.std.specs.Prelude.{slice_index}
 use Rattle.std.specs.Str.{bytes_eq}
-use Rattle.disk_model.specs.Disk.{LeavesOnly, NoneNew, Only, OnlyLooks, SameDisk, Rose as Rises}
+use Rattle.disk_model.specs.Disk.{NoneNew, Only, Rose as Rises}
+use Rattle.disk_model.specs.Work.{LeavesOnly, OnlyLooks, SameDisk}
 use Rattle.disk_model.specs.declared.disk.Disk.{Ghosts as DiskWords}
 use Rattle.disk_model.proofs.Moments.{and_then, weaker}
 use Rattle.gate_journal.specs.Faults.{IsFault}
@@ -126,7 +127,7 @@ nothing f is = subst (λ (l : List ℕ). IsRefused l) (sym is) (short_refused []
 
 module _ {D : Type 0} (disks : DiskWords D) (given mid : D) (looks : IsLookedAt disks given mid)
     (images : IsTrue (disks.tells given) → NoneNew (disks.may_leave given) (disks.may_leave mid))
-    (same : SameDisk disks.tells disks.room disks.label given mid) where
+    (same : SameDisk disks given mid) where
   still_told : IsTrue (disks.tells given) → IsTrue (disks.tells mid)
   still_told told = subst (λ (b : Bool). IsTrue b) (sym same.telling) told
 
@@ -178,9 +179,8 @@ module _ {D : Type 0} (disks : DiskWords D) (given mid : D) (looks : IsLookedAt 
     looks_from l = (
       l.0 ∙ looks.0,
       λ told.
-          and_then disks.moment disks.left_since given mid back (disks.may_leave given)
-          (looks.1 told)
-          (weaker disks.moment disks.left_since mid back (disks.may_leave mid)
+          and_then disks given mid back (disks.may_leave given) (looks.1 told)
+          (weaker disks mid back (disks.may_leave mid)
           (disks.may_leave given) (l.1 (still_told told)) (images told)),
     )
 
@@ -200,8 +200,8 @@ module _ {D : Type 0} (disks : DiskWords D) (given mid : D) (looks : IsLookedAt 
       looks = over.looks;
       seen = over.seen;
       meanwhile = λ told only.
-          and_then disks.moment disks.left_since given mid back _
-          (weaker disks.moment disks.left_since given mid (disks.may_leave given) _
+          and_then disks given mid back _
+          (weaker disks given mid (disks.may_leave given) _
           (looks.1 told) (λ c is. inl (nothing c (only c is))))
           (over.meanwhile (still_told told) (λ c is. only c (images told c is)));
       reaches = elim over.reaches [
@@ -325,10 +325,9 @@ module _ {D : Type 0} (disks : DiskWords D) where
   out name given = record { name = name; given = given; back = None }
 
   module _ (name : List ℕ) (given back : D) (o a b beyond : OutsideState D)
-      (lends : Lends disks.label disks.faults name given o a)
+      (lends : Lends disks name given o a)
       (lent : IsTrue (disks.tells given)
-      → IsLentFrom disks.seen disks.may_leave (o.disk name) given)
-      (same : SameDisk disks.tells disks.room disks.label given back)
+      → IsLentFrom disks (o.disk name) given) (same : SameDisk disks given back)
       (takes : TakesDiskBack disks.faults name back b beyond) (ls : List (Lending D))
       (borrowed : Borrowed disks a b ls) (far : Each (IsOther name) ls) where
     abbrev around : List (Lending D)
@@ -368,10 +367,9 @@ module _ {D : Type 0} (disks : DiskWords D) where
   pub packs_around : (name : List ℕ) (given back : D) (o a b beyond : OutsideState D)
       (folder : List ℕ) (both : Journals D) (stores lent : List (Lending D))
       (output after : SinkState) (status : Status)
-      → Lends disks.label disks.faults name given o a
-      → (IsTrue (disks.tells given) → IsLentFrom disks.seen disks.may_leave (o.disk name) given)
-      → SameDisk disks.tells disks.room disks.label given back
-      → TakesDiskBack disks.faults name back b beyond
+      → Lends disks name given o a
+      → (IsTrue (disks.tells given) → IsLentFrom disks (o.disk name) given)
+      → SameDisk disks given back → TakesDiskBack disks.faults name back b beyond
       → Each (IsOther name) lent
       → Packs disks folder both stores lent a b output after status
       → Packs disks folder both stores
@@ -410,10 +408,9 @@ module _ {D : Type 0} (disks : DiskWords D) where
   pub new_around : (folder first second : List ℕ) (old old_back given back : D)
       (o a b beyond : OutsideState D) (output after : SinkState) (status : Status)
       → first ≡ journal_in folder → second ≡ journal_in folder
-      → Lends disks.label disks.faults first given o a
-      → (IsTrue (disks.tells given) → IsLentFrom disks.seen disks.may_leave (o.disk first) given)
-      → SameDisk disks.tells disks.room disks.label given back
-      → (stores : List (Lending D)) × Packs disks folder
+      → Lends disks first given o a
+      → (IsTrue (disks.tells given) → IsLentFrom disks (o.disk first) given)
+      → SameDisk disks given back → (stores : List (Lending D)) × Packs disks folder
       (record { old = old; old_back = old_back; new = given; new_back = back }) stores stores a b
       output after status
       → TakesDiskBack disks.faults second back b beyond
@@ -426,9 +423,9 @@ module _ {D : Type 0} (disks : DiskWords D) where
         packs =
             packs_around (journal_in folder) given back o a b beyond folder _ packs.0 packs.0 output
             after status
-            (subst (λ (n : List ℕ). Lends disks.label disks.faults n given o a) is lends)
+            (subst (λ (n : List ℕ). Lends disks n given o a) is lends)
             (subst (λ (n : List ℕ). IsTrue (disks.tells given)
-            → IsLentFrom disks.seen disks.may_leave (o.disk n) given) is lent)
+            → IsLentFrom disks (o.disk n) given) is lent)
             same (subst (λ (n : List ℕ). TakesDiskBack disks.faults n back b beyond) again takes)
             (packs.1.named (journal_in folder) (no_stores folder folder)) packs.1;
       }
@@ -436,10 +433,9 @@ module _ {D : Type 0} (disks : DiskWords D) where
   -- a disk that was lent, while others were, may be put back
   pub put_there : (name second : List ℕ) (given back : D) (o a b : OutsideState D)
       (ls : List (Lending D)) → second ≡ name
-      → Lends disks.label disks.faults name given o a
-      → (IsTrue (disks.tells given) → IsLentFrom disks.seen disks.may_leave (o.disk name) given)
-      → SameDisk disks.tells disks.room disks.label given back
-      → Borrowed disks a b ls → Each (IsOther name) ls
+      → Lends disks name given o a
+      → (IsTrue (disks.tells given) → IsLentFrom disks (o.disk name) given)
+      → SameDisk disks given back → Borrowed disks a b ls → Each (IsOther name) ls
       → IsLent (b.loan second) (disks.label back)
   put_there name second given back o a b ls again lends lent same borrowed far =
       subst (λ (n : List ℕ). IsLent (b.loan n) (disks.label back)) (sym again)
@@ -451,19 +447,18 @@ module _ {D : Type 0} (disks : DiskWords D) where
   pub new_lent : (folder first second : List ℕ) (old old_back given back : D)
       (o a b : OutsideState D) (output after : SinkState) (status : Status)
       → first ≡ journal_in folder → second ≡ journal_in folder
-      → Lends disks.label disks.faults first given o a
-      → (IsTrue (disks.tells given) → IsLentFrom disks.seen disks.may_leave (o.disk first) given)
-      → SameDisk disks.tells disks.room disks.label given back
-      → (stores : List (Lending D)) × Packs disks folder
+      → Lends disks first given o a
+      → (IsTrue (disks.tells given) → IsLentFrom disks (o.disk first) given)
+      → SameDisk disks given back → (stores : List (Lending D)) × Packs disks folder
       (record { old = old; old_back = old_back; new = given; new_back = back }) stores stores a b
       output after status
       → IsLent (b.loan second) (disks.label back)
   new_lent folder first second old old_back given back o a b output after status is again lends
       lent same packs =
       put_there (journal_in folder) second given back o a b packs.0 again
-      (subst (λ (n : List ℕ). Lends disks.label disks.faults n given o a) is lends)
+      (subst (λ (n : List ℕ). Lends disks n given o a) is lends)
       (subst (λ (n : List ℕ). IsTrue (disks.tells given)
-      → IsLentFrom disks.seen disks.may_leave (o.disk n) given) is lent)
+      → IsLentFrom disks (o.disk n) given) is lent)
       same packs.1.borrowed (packs.1.named (journal_in folder) (no_stores folder folder))
 
   -- ---- the old folder's journal, around all that
@@ -487,10 +482,9 @@ module _ {D : Type 0} (disks : DiskWords D) where
       (input : SourceState) (output after : SinkState) (status : Status)
       → bytes_eq from folder ≡ false
       → first ≡ journal_in from → second ≡ journal_in from
-      → Lends disks.label disks.faults first given o a
-      → (IsTrue (disks.tells given) → IsLentFrom disks.seen disks.may_leave (o.disk first) given)
-      → SameDisk disks.tells disks.room disks.label given back
-      → PacksNew disks folder given back a b input output after status
+      → Lends disks first given o a
+      → (IsTrue (disks.tells given) → IsLentFrom disks (o.disk first) given)
+      → SameDisk disks given back → PacksNew disks folder given back a b input output after status
       → IsLent (b.loan second) (disks.label back)
   old_lent from folder first second given back o a b input output after status other is again lends
       lent same packs =
@@ -498,19 +492,17 @@ module _ {D : Type 0} (disks : DiskWords D) where
       lent_new folder given back a b input output after status (journal_in from)
       (other_journal from folder other) (no_stores from folder) packs in
       put_there (journal_in from) second given back o a b ls.0 again
-      (subst (λ (n : List ℕ). Lends disks.label disks.faults n given o a) is lends)
+      (subst (λ (n : List ℕ). Lends disks n given o a) is lends)
       (subst (λ (n : List ℕ). IsTrue (disks.tells given)
-      → IsLentFrom disks.seen disks.may_leave (o.disk n) given) is lent)
-      same ls.1 ls.2
+      → IsLentFrom disks (o.disk n) given) is lent) same ls.1 ls.2
 
   pub old_around : (from folder first second : List ℕ) (given back : D)
       (o a b beyond : OutsideState D) (input : SourceState) (output after : SinkState)
       (status : Status) → bytes_eq from folder ≡ false
       → first ≡ journal_in from → second ≡ journal_in from
-      → Lends disks.label disks.faults first given o a
-      → (IsTrue (disks.tells given) → IsLentFrom disks.seen disks.may_leave (o.disk first) given)
-      → SameDisk disks.tells disks.room disks.label given back
-      → PacksNew disks folder given back a b input output after status
+      → Lends disks first given o a
+      → (IsTrue (disks.tells given) → IsLentFrom disks (o.disk first) given)
+      → SameDisk disks given back → PacksNew disks folder given back a b input output after status
       → TakesDiskBack disks.faults second back b beyond
       → NotLent disks (journal_in from ∷ journal_in folder ∷ []) o beyond input input output after
       status
@@ -518,10 +510,10 @@ module _ {D : Type 0} (disks : DiskWords D) where
   old_around from folder first second given back o a b beyond input output after status other is
       again lends lent same (inl none) takes =
       let name = journal_in from in
-      let lends' = subst (λ (n : List ℕ). Lends disks.label disks.faults n given o a) is lends in
+      let lends' = subst (λ (n : List ℕ). Lends disks n given o a) is lends in
       let lent' =
       subst (λ (n : List ℕ). IsTrue (disks.tells given)
-      → IsLentFrom disks.seen disks.may_leave (o.disk n) given) is lent in
+      → IsLentFrom disks (o.disk n) given) is lent in
       let takes' = subst (λ (n : List ℕ). TakesDiskBack disks.faults n back b beyond) again takes in
       let far = none.0.named name (other_journal from folder other, tt) in
       inl (record {
@@ -550,9 +542,9 @@ module _ {D : Type 0} (disks : DiskWords D) where
         packs =
             packs_around (journal_in from) given back o a b beyond folder _ into.stores _ output
             after status
-            (subst (λ (n : List ℕ). Lends disks.label disks.faults n given o a) is lends)
+            (subst (λ (n : List ℕ). Lends disks n given o a) is lends)
             (subst (λ (n : List ℕ). IsTrue (disks.tells given)
-            → IsLentFrom disks.seen disks.may_leave (o.disk n) given) is lent)
+            → IsLentFrom disks (o.disk n) given) is lent)
             same (subst (λ (n : List ℕ). TakesDiskBack disks.faults n back b beyond) again takes) (
               other_journal from folder other,
               into.packs.named (journal_in from)

@@ -52,10 +52,8 @@ module _ {D : Type 0} (disks : DiskWords D) (old new : Told D) where
 
   module _ (both : Journals D)
       (first : IsTrue (disks.tells both.old)
-      → IsLentFrom disks.seen disks.may_leave old both.old)
-      (second : IsTrue (disks.tells both.new)
-      → IsLentFrom disks.seen disks.may_leave new both.new)
-      (output after : SinkState) (status : Status) where
+      → IsLentFrom disks old both.old) (second : IsTrue (disks.tells both.new)
+      → IsLentFrom disks new both.new) (output after : SinkState) (status : Status) where
     packed_told : IsPacked disks both output after status
         → WroteSome output after (WritesPacked status disks old new)
     packed_told p =

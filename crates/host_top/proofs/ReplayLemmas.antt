@@ -8,7 +8,7 @@ use Rattle.std.proofs.lemmas.List.{append-nil, drop_more}
 use Rattle.std.proofs.lemmas.List.Concat.{flat_map-cons}
 use Rattle.std.proofs.lemmas.List.Folds.{flat_map-map}
 use Rattle.std.specs.List.{flat_map}
-use Rattle.disk_model.specs.Disk.{SameDisk}
+use Rattle.disk_model.specs.Work.{SameDisk}
 use Rattle.disk_model.specs.declared.disk.Disk.{Ghosts as DiskWords}
 use Rattle.gate_journal.specs.Faults.{Explains, IsNoFault}
 use Rattle.gate_journal.specs.declared.fault.JournalFault.{JournalFault}
@@ -90,33 +90,32 @@ module _ {D : Type 0} (disks : DiskWords D) where
 
   pub journal_is_lent : (folder first second : List ℕ) (given back : D) (a b : OutsideState D)
       → first ≡ journal_in folder → second ≡ journal_in folder
-      → Lends disks.label disks.faults first given a b
-      → SameDisk disks.tells disks.room disks.label given back
+      → Lends disks first given a b → SameDisk disks given back
       → IsLent (b.loan second) (disks.label back)
   journal_is_lent folder first second given back a b is again lends same =
       let name : List ℕ = journal_in folder in
       let l : Lending D = record { name = name; given = given; back = None } in
       let loan : b.loan name ≡ Some (loan_by disks l) =
       lent_loan disks name given a b
-      (subst (λ (n : List ℕ). Lends disks.label disks.faults n given a b) is lends) in
+      (subst (λ (n : List ℕ). Lends disks n given a b) is lends) in
       subst (λ (n : List ℕ). IsLent (b.loan n) (disks.label back)) (sym again)
       (subst (λ (x : Option Loan). IsLent x (disks.label back)) (sym loan) (sym same.name, refl))
 
   pub folder_replayed : (stories : List Story) (folder first second : List ℕ) (given back : D)
       (a b c : OutsideState D) (input : SourceState) (output new : SinkState) (status : Status)
       → first ≡ journal_in folder → second ≡ journal_in folder
-      → Lends disks.label disks.faults first given a b
-      → (IsTrue (disks.tells given) → IsLentFrom disks.seen disks.may_leave (a.disk first) given)
+      → Lends disks first given a b
+      → (IsTrue (disks.tells given) → IsLentFrom disks (a.disk first) given)
       → ReplaysOver disks stories given back output new status
       → TakesDiskBack disks.faults second back b c
       → ReplaysFolder disks stories folder a c input input output new status
   folder_replayed stories folder first second given back a b c input output new status is again
       lends lent over takes =
       let name : List ℕ = journal_in folder in
-      let lends' = subst (λ (n : List ℕ). Lends disks.label disks.faults n given a b) is lends in
+      let lends' = subst (λ (n : List ℕ). Lends disks n given a b) is lends in
       let lent' =
       subst (λ (n : List ℕ). IsTrue (disks.tells given)
-      → IsLentFrom disks.seen disks.may_leave (a.disk n) given) is lent in
+      → IsLentFrom disks (a.disk n) given) is lent in
       let takes' = subst (λ (n : List ℕ). TakesDiskBack disks.faults n back b c) again takes in
       let l : Lending D = record { name = name; given = given; back = None } in
       record {
@@ -174,7 +173,7 @@ module _ {D : Type 0} (disks : DiskWords D) where
     )
 
     fault_told : (given : D) (output new : SinkState) (status : Status) (why : JournalFault)
-        → (IsTrue (disks.tells given) → IsLentFrom disks.seen disks.may_leave journal given)
+        → (IsTrue (disks.tells given) → IsLentFrom disks journal given)
         → (IsTrue (disks.tells given) → Explains (disks.seen given) why)
         → SaysFault why output new status
         → WroteSome output new (WritesReplayed status disks stories journal)

@@ -51,7 +51,7 @@ nothing_left (Some xs) rest p e = cc
 -- what a disk that was lent says of the one that is told
 pub where_told : {D : Type 0} (disks : DiskWords D) (journal : Told D) (given : D)
     (P : List ℕ → Type 0)
-    → (IsTrue (disks.tells given) → IsLentFrom disks.seen disks.may_leave journal given)
+    → (IsTrue (disks.tells given) → IsLentFrom disks journal given)
     → (IsTrue (disks.tells given) → P (disks.seen given)) → WhereTold disks journal P
 where_told disks Untold given P lent has all = tt
 where_told disks Missing given P lent has all = subst P (lent (all given)).0 (has (all given))
@@ -121,7 +121,7 @@ refusal_told disks stories budget disk folder input line output new status refus
 fault_told : {D : Type 0} (disks : DiskWords D) (stories : List Story) (budget : ℕ)
     (disk : List ℕ → Told D) (folder : List ℕ) (input : List ℕ) (given : D) (output new : SinkState)
     (status : Status) (why : JournalFault)
-    → (IsTrue (disks.tells given) → IsLentFrom disks.seen disks.may_leave (disk (journal_in folder))
+    → (IsTrue (disks.tells given) → IsLentFrom disks (disk (journal_in folder))
     given) → (IsTrue (disks.tells given) → Explains (disks.seen given) why)
     → SaysFault why output new status
     → WroteSome output new (WritesServed status disks stories budget disk folder input)
@@ -150,8 +150,7 @@ fault_told disks stories budget disk folder input given output new status fault.
 
 -- a store's disk that was lent is the one that is told
 agreed_from : {D : Type 0} (disks : DiskWords D) (told : Told D) (given : D) (P : List ℕ → Type 0)
-    → IsLentFrom disks.seen disks.may_leave told given → AreTold disks.seen told P
-    → P (disks.seen given)
+    → IsLentFrom disks told given → AreTold disks.seen told P → P (disks.seen given)
 agreed_from disks Untold given P lent told = absurd told
 agreed_from disks Missing given P lent told = subst P (sym lent.0) told
 agreed_from disks (There d) given P lent told = subst P (sym lent.0) told
@@ -160,16 +159,15 @@ agreed_from disks (There d) given P lent told = subst P (sym lent.0) told
 abbrev pub AreLentFrom : {D : Type 0} → DiskWords D → (List ℕ → Told D) → List ℕ → D → List D
     → Type 0
 AreLentFrom {D} disks disk folder given givens =
-    (IsTrue (disks.tells given) → IsLentFrom disks.seen disks.may_leave (disk (journal_in folder))
-    given)
+    (IsTrue (disks.tells given) → IsLentFrom disks (disk (journal_in folder)) given)
     × ((s : ℕ) (g : D) → slice_get givens s ≡ Some g
     → (s < 64) × (IsTrue (disks.tells g)
-    → IsLentFrom disks.seen disks.may_leave (disk (snap_in folder s)) g))
+    → IsLentFrom disks (disk (snap_in folder s)) g))
 
 sound_from : {D : Type 0} (disks : DiskWords D) (stories : List Story) (disk : List ℕ → Told D)
     (folder : List ℕ) (given : D) (givens : List D) (rows : List Row)
     → AreLentFrom disks disk folder given givens → AreSound disks stories disk folder rows
-    → AreAgreed disks.tells disks.seen stories rows givens
+    → AreAgreed disks stories rows givens
 sound_from disks stories disk folder given givens rows lent sound s g there =
     let l = lent.1 s g there in (
       sound.0 g,

@@ -112,7 +112,7 @@ module _ {D : Type 0} (disks : DiskWords D) where
   out_no_more to (Some loan) = refl
 
   pub store_back : (name first second : List ℕ) (given back : D) (a b c : OutsideState D)
-      → first ≡ name → second ≡ name → Lends disks.label disks.faults first given a b
+      → first ≡ name → second ≡ name → Lends disks first given a b
       → TakesDiskBack disks.faults second back b c
       → (other : List ℕ) → is_out (a.loan other) ≡ false → is_out (c.loan other) ≡ false
   store_back name first second given back a b c is again lends takes other out =
@@ -162,7 +162,7 @@ module _ {D : Type 0} (disks : DiskWords D) where
 
   -- so it is with the disk of a store
   pub store_stood : (first second : List ℕ) (given back : D) (a b c : OutsideState D)
-      → first ≡ second → Lends disks.label disks.faults first given a b
+      → first ≡ second → Lends disks first given a b
       → TakesDiskBack disks.faults second back b c → NoneFailed c.loan
       → Rose (disks.faults given) (disks.faults back) → ⊥
   store_stood first second given back a b c same lends takes none =
@@ -190,20 +190,20 @@ fetch_stood fetch.Failed status is f e = f refl
 fetch_stood fetch.NoMemory status is f e = absurd (grind (arith, is, e))
 
 -- a disk that isn't out isn't once another one is lent
-pub others_in : {D : Type 0} (label faults : D → ℕ) (name : List ℕ) (given : D)
-    (a b : OutsideState D) (other : List ℕ) → Lends label faults name given a b
+pub others_in : {D : Type 0} (disks : DiskWords D) (name : List ℕ) (given : D)
+    (a b : OutsideState D) (other : List ℕ) → Lends disks name given a b
     → bytes_eq name other ≡ false → is_out (a.loan other) ≡ false → is_out (b.loan other) ≡ false
-others_in label faults name given a b other lends away out =
+others_in disks name given a b other lends away out =
     ap is_out (lends.loans other ∙ elsewhere (bytes_eq name other) _ (a.loan other) away) ∙ out
 
 -- so the stores' disks aren't out once the journal's is lent
-pub stores_in : {D : Type 0} (label faults : D → ℕ) (name : List ℕ) (given : D)
-    (a b : OutsideState D) (names : List (List ℕ)) → Lends label faults name given a b
+pub stores_in : {D : Type 0} (disks : DiskWords D) (name : List ℕ) (given : D)
+    (a b : OutsideState D) (names : List (List ℕ)) → Lends disks name given a b
     → Each (λ n. bytes_eq name n ≡ false) names → NoneIsOut a.loan
     → Each (λ n. is_out (b.loan n) ≡ false) names
-stores_in label faults name given a b names lends apart out =
+stores_in disks name given a b names lends apart out =
     each_map (λ n. bytes_eq name n ≡ false) (λ n. is_out (b.loan n) ≡ false) names
-    (λ n away. others_in label faults name given a b n lends away (out n)) apart
+    (λ n away. others_in disks name given a b n lends away (out n)) apart
 
 -- where the files are loaded the disks stand as before
 pub stand_behind : {D : Type 0} (failing now : Option Failing) (a b c : OutsideState D)

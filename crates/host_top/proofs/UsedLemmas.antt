@@ -47,7 +47,7 @@ not_taken disks names outside beyond input output status cause l = record {
 module _ {D : Type 0} (disks : DiskWords D) where
   -- a disk is lent from the one that is told under its name
   abbrev IsLentAt : OutsideState D → List ℕ → D → Type 0
-  IsLentAt a n g = IsTrue (disks.tells g) → IsLentFrom disks.seen disks.may_leave (a.disk n) g
+  IsLentAt a n g = IsTrue (disks.tells g) → IsLentFrom disks (a.disk n) g
 
   abbrev IsTold : OutsideState D → Lending D → Type 0
   IsTold a l = IsLentAt a l.name l.given

@@ -53,7 +53,7 @@ refusal_links disks journal line output new status refuses (inr (cause, is, stop
 
 fault_links : {D : Type 0} (disks : DiskWords D) (journal : Told D) (given : D)
     (output new : SinkState) (status : Status) (why : JournalFault)
-    → (IsTrue (disks.tells given) → IsLentFrom disks.seen disks.may_leave journal given)
+    → (IsTrue (disks.tells given) → IsLentFrom disks journal given)
     → (IsTrue (disks.tells given) → Explains (disks.seen given) why)
     → SaysFault why output new status → WroteSome output new (WritesLinks status disks journal)
 fault_links disks journal given output new status fault.NotJournal lent explains says =
@@ -80,7 +80,7 @@ nothing_links disks journal status (inr (inr wanted)) =
 pub links_told : {D : Type 0} (disks : DiskWords D) (OnDoor : OfDoor D) (stories : List Story)
     (budget workers : ℕ) (journal : Told D) (given : D) (givens : List D) (b : Back D)
     (input now : SourceState) (output new : SinkState) (status : Status)
-    → (IsTrue (disks.tells given) → IsLentFrom disks.seen disks.may_leave journal given)
+    → (IsTrue (disks.tells given) → IsLentFrom disks journal given)
     → ServesOver disks OnDoor stories budget workers given givens b input now output new status
     → WroteSome output new (WritesLinks status disks journal)
 links_told disks OnDoor stories budget workers journal given givens (back.All j snaps) input now
@@ -125,7 +125,7 @@ line_begun disks journal line output new good status writes begins (inr (cause, 
 
 refused_begun : {D : Type 0} (disks : DiskWords D) (journal : Told D) (given : D) (before now : ℕ)
     (output new : SinkState) (status : Status) (why : InitFault)
-    → (IsTrue (disks.tells given) → IsLentFrom disks.seen disks.may_leave journal given)
+    → (IsTrue (disks.tells given) → IsLentFrom disks journal given)
     → HasInitCause (disks.tells given) (disks.seen given) before now why
     → SaysRefusal why output new status → WroteSome output new (WritesBegun status disks journal)
 refused_begun disks journal given before now output new status begin.NotEmpty lent cause says =

@@ -1,7 +1,8 @@
 -- What `init` leaves of the disks of a folder and of its output (own).
 use Rattle.std.specs.Prelude.{◌≡◌, ◌⊎◌, ℕ, ◌<◌, ◌≤◌, max, IsTrue, IsSomeAnd, List, [], ◌∷◌, ◌++◌}
 use Rattle.std.specs.Prelude.{codes, length, map, Some}
-use Rattle.disk_model.specs.Disk.{AfterWrite, LeavesOnly, Only, file_written}
+use Rattle.disk_model.specs.Disk.{AfterWrite, Only, file_written}
+use Rattle.disk_model.specs.Work.{LeavesOnly}
 use Rattle.gate_journal.specs.Faults.{HasInitCause}
 use Rattle.gate_journal.specs.Rows.{journal_header}
 use Rattle.gate_journal.specs.declared.fault.InitFault.{InitFault}
@@ -47,7 +48,7 @@ abbrev pub IsLookedAt : {D : Type 0} → DiskWords D → D → D → Type 0
 IsLookedAt disks given back =
     (disks.reach back ≡ disks.reach given)
     × (IsTrue (disks.tells given)
-    → LeavesOnly disks.moment disks.left_since given back (disks.may_leave given))
+    → LeavesOnly disks given back (disks.may_leave given))
 
 -- so it is where the disk isn't empty
 abbrev pub LooksOnly : {D : Type 0} → DiskWords D → D → D → InitFault → Type 0
@@ -75,8 +76,7 @@ pub record InitsOver {D : Type 0} (disks : DiskWords D) (given back : D)
 pub record IsTried {D : Type 0} (disks : DiskWords D) (given back : D) : Type 0 where
   pub meanwhile :
       IsTrue (disks.tells given)
-      → LeavesOnly disks.moment disks.left_since given back
-      (AfterWrite 0 4096 (disks.may_leave given))
+      → LeavesOnly disks given back (AfterWrite 0 4096 (disks.may_leave given))
   pub reaches : disks.reach back ≡ max (disks.reach given) 4096
 
 -- a store was made: a stop leaves the header and zeros, and what stood behind

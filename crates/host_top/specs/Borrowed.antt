@@ -4,7 +4,7 @@ use Rattle.std.specs.Prelude.{codes, Option, None, Some, option_map, IfSome, IsS
 use Rattle.std.specs.Fmt.{decimal}
 use Rattle.std.specs.List.{range_with_len}
 use Rattle.std.specs.Str.{bytes_eq}
-use Rattle.disk_model.specs.Disk.{SameDisk}
+use Rattle.disk_model.specs.Work.{SameDisk}
 use Rattle.line_talk.specs.Causes.{Rose}
 use Rattle.turn_cell.specs.History.{Each}
 use Rattle.disk_model.specs.declared.disk.Disk.{Ghosts as DiskWords}
@@ -61,9 +61,9 @@ pub record IsLending {D : Type 0} (disks : DiskWords D) (outside beyond : Outsid
     (l : Lending D) : Type 0 where
   pub lent :
       IsTrue (disks.tells l.given)
-      → IsLentFrom disks.seen disks.may_leave (outside.disk l.name) l.given
+      → IsLentFrom disks (outside.disk l.name) l.given
   pub own : HasOwnLabel beyond l.name (disks.label l.given)
-  pub kept : IfSome l.back (SameDisk disks.tells disks.room disks.label l.given)
+  pub kept : IfSome l.back (SameDisk disks l.given)
   pub held : beyond.disk l.name ≡ told_now (outside.disk l.name) (left_by l.back)
   pub loan : beyond.loan l.name ≡ Some (loan_by disks l)
 

@@ -144,10 +144,9 @@ module _ {O Conn Lent Done Fault : Type 0} (doors : DoorWords O Conn Done Fault)
     pub plays : host.stories.now ≡ stories
     pub ticks : host.budget ≡ budget
     pub sound :
-        AreAgreed disks.tells disks.seen stories rows givens
-        → IsSound disks.tells disks.seen host
+        AreAgreed disks stories rows givens → IsSound disks host
     pub finals : List (List Entry)
     pub entries : (s : ℕ) → s < 64 → history_in journal s ≡ map unnumbered (seen_at finals s)
     pub served :
-        AtDoor status (ServesDoor (IsSound disks.tells disks.seen) host workers rows finals)
+        AtDoor status (ServesDoor (IsSound disks) host workers rows finals)
         (λ served. AreAllShut served.crew.serve) (AddsNoEntry rows finals)

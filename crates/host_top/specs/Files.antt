@@ -5,6 +5,7 @@ use Rattle.std.specs.Prelude.{Result, Ok, Err}
 use Rattle.std.specs.Map.{update}
 use Rattle.std.specs.Str.{bytes_eq}
 use Rattle.disk_model.specs.Disk.{NoneNew, Only}
+use Rattle.disk_model.specs.declared.disk.Disk.{Ghosts as DiskWords}
 use Rattle.host_serve.specs.declared.worked.Worked.{Worked}
 use Rattle.host_serve.specs.declared.worked.Worked.TheVariants.{Shut, DoorFault}
 use Rattle.line_talk.specs.Causes.{Rose}
@@ -94,12 +95,11 @@ Closes (DoorFault fault) old new =
 
 -- the disk that is lent reads as the one that is told, and no image is new; where there is told to
 -- be none, it is empty
-abbrev pub IsLentFrom : {D : Type 0} → (D → List ℕ) → (D → List ℕ → Type 0) → Told D → D
-    → Type 0
-IsLentFrom seen may_leave Untold disk = Unit {0}
-IsLentFrom seen may_leave Missing disk = (seen disk ≡ []) × Only [] (may_leave disk)
-IsLentFrom seen may_leave (There told) disk =
-    (seen disk ≡ seen told) × NoneNew (may_leave told) (may_leave disk)
+abbrev pub IsLentFrom : {D : Type 0} → DiskWords D → Told D → D → Type 0
+IsLentFrom disks Untold disk = Unit {0}
+IsLentFrom disks Missing disk = (disks.seen disk ≡ []) × Only [] (disks.may_leave disk)
+IsLentFrom disks (There told) disk =
+    (disks.seen disk ≡ disks.seen told) × NoneNew (disks.may_leave told) (disks.may_leave disk)
 
 -- what is told under a name under which this stands now
 abbrev pub told_now : {A : Type 0} → Told A → Told A → Told A
@@ -131,14 +131,14 @@ AreBelow loans count =
     (name : List ℕ) (loan : Loan) → loans name ≡ Some loan → loan.label < count
 
 -- a disk of this name was lent
-pub record Lends {D : Type 0} (label faults : D → ℕ) (name : List ℕ) (disk : D)
+pub record Lends {D : Type 0} (words : DiskWords D) (name : List ℕ) (disk : D)
     (old new : OutsideState D) : Type 0 where
   pub disks : (other : List ℕ) → new.disk other ≡ told_at old.disk name Missing other
   pub loans : (other : List ℕ) → new.loan other
       ≡ update bytes_eq old.loan name
-      (Some (record { label = label disk; from = faults disk; to = None })) other
+      (Some (record { label = words.label disk; from = words.faults disk; to = None })) other
   pub count : new.disk_faults ≡ old.disk_faults
-  pub own : HasOwnLabel old name (label disk)
+  pub own : HasOwnLabel old name (words.label disk)
 
 -- the disk with this label is lent
 abbrev pub IsLent : Option Loan → ℕ → Type 0

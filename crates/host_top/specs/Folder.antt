@@ -1,7 +1,7 @@
 -- The disks of a folder, as a host takes them and gives them back (own).
 use Rattle.std.specs.Prelude.{◌≡◌, ◌⊎◌, ℕ, zero, suc, List, [], ◌∷◌, length, Option, None}
 use Rattle.std.specs.Prelude.{Some, slice_get}
-use Rattle.disk_model.specs.Disk.{OnlyLooks, SameDisk}
+use Rattle.disk_model.specs.Work.{OnlyLooks, SameDisk}
 use Rattle.line_talk.specs.Causes.{Rose}
 use Rattle.line_talk.specs.Streams.{SourceState, SinkState, Gave, Wrote}
 use Rattle.host_top.specs.Borrowed.{Borrowed, CountsFaults, Lending, NotLent, back_as}
@@ -46,17 +46,17 @@ AreSame disks [] [] = Unit {0}
 AreSame disks [] (b ∷ bs) = ⊥
 AreSame disks (g ∷ gs) [] = ⊥
 AreSame disks (g ∷ gs) (b ∷ bs) =
-    SameDisk disks.tells disks.room disks.label g b × AreSame disks gs bs
+    SameDisk disks g b × AreSame disks gs bs
 
 -- what comes back is what was given
 abbrev pub IsSameBack : {D : Type 0} → DiskWords D → D → List D → Back D → Type 0
 IsSameBack disks given givens (All journal snaps) =
-    SameDisk disks.tells disks.room disks.label given journal × AreSame disks givens snaps.items
+    SameDisk disks given journal × AreSame disks givens snaps.items
 IsSameBack disks given givens (Journal journal) =
-    SameDisk disks.tells disks.room disks.label given journal
+    SameDisk disks given journal
 IsSameBack {D} disks given givens (Snap session snap) =
     (g : D) × (slice_get givens session ≡ Some g)
-    × SameDisk disks.tells disks.room disks.label g snap
+    × SameDisk disks g snap
 IsSameBack disks given givens Nothing = Unit {0}
 
 -- the disks of a folder are out, as they were given
@@ -104,8 +104,7 @@ pub record StoreFails {D : Type 0} (disks : DiskWords D) (givens : List D) (sess
   pub stands : slice_get givens session ≡ Some given
   pub rose : Rose (disks.faults given) (disks.faults back)
   pub looks :
-      OnlyLooks disks.tells disks.may_leave disks.moment disks.left_since disks.reach disks.room
-      disks.label given back
+      OnlyLooks disks given back
   pub gave : Gave input now []
   pub wrote : Wrote output new []
 

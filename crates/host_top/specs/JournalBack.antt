@@ -1,7 +1,7 @@
 -- The disk of a journal that a host hands back (own).
 use Rattle.std.specs.Prelude.{IsTrue, List, IfSome, Option, drop, length}
 use Rattle.turn_cell.specs.History.{Each}
-use Rattle.disk_model.specs.Disk.{EachImage}
+use Rattle.disk_model.specs.Work.{EachImage}
 use Rattle.disk_model.specs.declared.disk.Disk.{Ghosts as DiskWords}
 use Rattle.gate_journal.specs.Log.{EndsInFaultOf, InTurn, IsOfSession, MayOpen, rows_kept, rows_of}
 use Rattle.gate_journal.specs.Rows.{IsJournal}
@@ -16,7 +16,7 @@ pub record JournalBack {D : Type 0} (disks : DiskWords D) (rows : List Row)
   -- image
   pub stands : IsJournal (rows_of journal)
   pub numbers : Each IsOfSession journal
-  pub opens : EachImage disks.tells disks.may_leave back (MayOpen (rows_of journal))
+  pub opens : EachImage disks back (MayOpen (rows_of journal))
   -- a gate is uncertain only where the append of its row failed since the opening, and no row was
   -- kept behind that fault
   pub owner : IfSome uncertain (λ r. EndsInFaultOf r (drop (length rows) journal))
@@ -25,5 +25,4 @@ pub record JournalBack {D : Type 0} (disks : DiskWords D) (rows : List Row)
   pub steps : List D
   pub in_turn :
       IsTrue (disks.tells back)
-      → InTurn disks.moment disks.left_since (rows_kept rows) start (drop (length rows) journal)
-      steps back
+      → InTurn disks (rows_kept rows) start (drop (length rows) journal) steps back

@@ -1,6 +1,6 @@
 -- What `serve` leaves of the disks of a folder, of its output and of its door (own).
 use Rattle.std.specs.Prelude.{◌≡◌, ◌⊎◌, ℕ, ◌+◌, ◌≤◌, max, IsTrue, List, [], ◌++◌, length, Option}
-use Rattle.disk_model.specs.Disk.{EachImage, LeavesOnly}
+use Rattle.disk_model.specs.Work.{EachImage, LeavesOnly}
 use Rattle.gate_journal.specs.declared.entry.Entry.{Entry as JournalEntry}
 use Rattle.gate_journal.specs.declared.row.Row.{Row}
 use Rattle.gate_journal.specs.Log.{IsBetween, MayOpen, MaySpell, Rises, rows_of}
@@ -43,16 +43,14 @@ pub record LinksServed {D : Type 0} (disks : DiskWords D) (Serves : OfDoor D)
   -- each image spells these rows, or these and the one row whose gate is uncertain
   pub uncertain : Option Row
   pub images :
-      EachImage disks.tells disks.may_leave back (MaySpell (rows_of journal) uncertain)
+      EachImage disks back (MaySpell (rows_of journal) uncertain)
   pub left : JournalBack disks rows journal uncertain back
   -- meanwhile an image is one that the opening may meet, or spells the rows handed in and the first
   -- of those that were accepted since, or these and one row more
   pub meanwhile :
       (start : List Row) → IsJournal start
-      → EachImage disks.tells disks.may_leave given (MayOpen start)
-      → IsTrue (disks.tells given)
-      → LeavesOnly disks.moment disks.left_since given back
-      (λ c. MayOpen start c ⊎ IsBetween rows (rows_of journal) c)
+      → EachImage disks given (MayOpen start) → IsTrue (disks.tells given)
+      → LeavesOnly disks given back (λ c. MayOpen start c ⊎ IsBetween rows (rows_of journal) c)
   -- nothing is written farther behind the closing gate than the longest row reaches
   pub reaches :
       disks.reach back ≤ max (disks.reach given) (length (journal_bytes (rows_of journal)) + 4110)

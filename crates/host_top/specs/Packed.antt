@@ -2,7 +2,8 @@
 use Rattle.std.specs.Prelude.{◌≡◌, ◌⊎◌, ℕ, ◌<◌, ◌≤◌, max, IsTrue, List, [], ◌∷◌, ◌++◌, Some, codes}
 use Rattle.std.specs.Prelude.{length}
 use Rattle.std.specs.Fmt.{decimal}
-use Rattle.disk_model.specs.Disk.{LeavesOnly, Only}
+use Rattle.disk_model.specs.Disk.{Only}
+use Rattle.disk_model.specs.Work.{LeavesOnly}
 use Rattle.disk_model.specs.declared.disk.Disk.{Ghosts as DiskWords}
 use Rattle.gate_journal.specs.Rows.{SpellsRows}
 use Rattle.gate_journal.specs.Scan.{LooksAlone}
@@ -86,14 +87,13 @@ pub record IsNotPacked {D : Type 0} (disks : DiskWords D) (both : Journals D)
 pub record PacksOver {D : Type 0} (disks : DiskWords D) (both : Journals D)
     (output after : SinkState) (status : Status) : Type 0 where
   pub looks :
-      LooksAlone disks.tells disks.may_leave disks.moment disks.left_since disks.reach disks.room
-      disks.label both.old both.old_back
+      LooksAlone disks both.old both.old_back
   pub seen :
       IsTrue (disks.tells both.old)
       → (status ≡ ends.DiskFault) ⊎ (disks.seen both.old_back ≡ disks.seen both.old)
   pub meanwhile :
       IsTrue (disks.tells both.new) → Only [] (disks.may_leave both.new)
-      → LeavesOnly disks.moment disks.left_since both.new both.new_back
+      → LeavesOnly disks both.new both.new_back
       (λ c. IsRefused c ⊎ ((rows : List Row) × AreOldRows disks both rows
       × NoneOrAll (packed rows) c))
   pub reaches :

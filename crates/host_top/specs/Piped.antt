@@ -2,7 +2,7 @@
 use Rattle.std.specs.Prelude.{◌≡◌, ◌⊎◌, ℕ, ◌+◌, ◌^◌, ◌<◌, ◌≤◌, max, IsTrue, List, [], ◌∷◌, length}
 use Rattle.std.specs.Prelude.{Option, map, slice_set, ◌++◌, Some, slice_get}
 use Rattle.std.specs.List.{AllZip}
-use Rattle.disk_model.specs.Disk.{EachImage, LeavesOnly, OnlyLooks}
+use Rattle.disk_model.specs.Work.{EachImage, LeavesOnly, OnlyLooks}
 use Rattle.gate_journal.specs.declared.entry.Entry.{Entry as JournalEntry}
 use Rattle.gate_journal.specs.declared.row.Row.{Row}
 use Rattle.gate_journal.specs.declared.fault.JournalFault.{JournalFault}
@@ -93,12 +93,12 @@ pub record IsStoreBack {D : Type 0} (disks : DiskWords D) (given back : D) : Typ
 pub record StaysSound {D : Type 0} (disks : DiskWords D) (stories : List Story)
     (rows after : List Row) (s : ℕ) (given back : D) : Type 0 where
   pub agreed :
-      LeavesOnly disks.moment disks.left_since given back (AgreesWithBeginning stories after s)
+      LeavesOnly disks given back (AgreesWithBeginning stories after s)
   pub newest :
       opens_of after s ≡ opens_of rows s
       → (place least : ℕ) → last_row (opens_of after s) ≡ Some place
-      → EachImage disks.tells disks.may_leave given (HasOpenSince place least)
-      → LeavesOnly disks.moment disks.left_since given back (HasOpenSince place least)
+      → EachImage disks given (HasOpenSince place least)
+      → LeavesOnly disks given back (HasOpenSince place least)
 
 -- The disks of all stores come back. Where they were sound, each image of them agrees with the rows
 -- of the journal put back; and where each image handed in agreed, the files stay sound meanwhile.
@@ -106,11 +106,9 @@ pub record StoresBack {D : Type 0} (disks : DiskWords D) (stories : List Story)
     (rows after : List Row) (givens backs : List D) : Type 0 where
   pub each : AllZip (IsStoreBack disks) givens backs
   pub agreed :
-      AreAgreed disks.tells disks.seen stories rows givens
-      → AreAgreedDisks disks.tells disks.may_leave stories after backs
+      AreAgreed disks stories rows givens → AreAgreedDisks disks stories after backs
   pub meanwhile :
-      AreAgreed disks.tells disks.seen stories rows givens
-      → AreAgreedDisks disks.tells disks.may_leave stories rows givens
+      AreAgreed disks stories rows givens → AreAgreedDisks disks stories rows givens
       → (s : ℕ) (given back : D) → slice_get givens s ≡ Some given → slice_get backs s ≡ Some back
       → StaysSound disks stories rows after s given back
 
@@ -134,7 +132,7 @@ pub record Conversed {D : Type 0} (disks : DiskWords D) (stories : List Story) (
   pub histories : List (List Entry)
   pub led : Lead stories budget (histories_in_rows rows) turns histories
   pub sound :
-      AreAgreed disks.tells disks.seen stories rows givens
+      AreAgreed disks stories rows givens
       → LeadAlone stories budget (histories_in_rows rows) turns histories
   -- the journal afterwards has the commands that the sessions accepted, and the faults that replies
   -- told, each session's in their order; the counts of the faults rise, from the disk's as it was
@@ -149,16 +147,14 @@ pub record Conversed {D : Type 0} (disks : DiskWords D) (stories : List Story) (
   -- each image spells these rows, or these and the one row whose gate is uncertain
   pub uncertain : Option Row
   pub images :
-      EachImage disks.tells disks.may_leave back (MaySpell (rows_of journal) uncertain)
+      EachImage disks back (MaySpell (rows_of journal) uncertain)
   pub left : JournalBack disks rows journal uncertain back
   -- meanwhile an image is one that the opening may meet, or spells the rows handed in and the first
   -- of those that were accepted since, or these and one row more
   pub meanwhile :
       (start : List Row) → IsJournal start
-      → EachImage disks.tells disks.may_leave given (MayOpen start)
-      → IsTrue (disks.tells given)
-      → LeavesOnly disks.moment disks.left_since given back
-      (λ c. MayOpen start c ⊎ IsBetween rows (rows_of journal) c)
+      → EachImage disks given (MayOpen start) → IsTrue (disks.tells given)
+      → LeavesOnly disks given back (λ c. MayOpen start c ⊎ IsBetween rows (rows_of journal) c)
   -- nothing is written farther behind the closing gate than the longest row reaches
   pub reaches :
       disks.reach back ≤ max (disks.reach given) (length (journal_bytes (rows_of journal)) + 4110)
@@ -173,20 +169,17 @@ pub record NotOpened {D : Type 0} (disks : DiskWords D) (given back : D)
   -- unless the disk failed it was only looked at
   pub looked :
       IsNoFault fault
-      → OnlyLooks disks.tells disks.may_leave disks.moment disks.left_since disks.reach disks.room
-      disks.label given back
+      → OnlyLooks disks given back
       × (IsTrue (disks.tells given) → disks.seen back ≡ disks.seen given)
   pub gave : Gave input now []
   pub says : SaysFault fault output new status
   pub images :
       (rows : List Row) → IsJournal rows
-      → EachImage disks.tells disks.may_leave given (MayOpen rows)
-      → EachImage disks.tells disks.may_leave back (MayOpen rows)
+      → EachImage disks given (MayOpen rows) → EachImage disks back (MayOpen rows)
   pub meanwhile :
       (rows : List Row) → IsJournal rows
-      → EachImage disks.tells disks.may_leave given (MayOpen rows)
-      → IsTrue (disks.tells given)
-      → LeavesOnly disks.moment disks.left_since given back (MayOpen rows)
+      → EachImage disks given (MayOpen rows) → IsTrue (disks.tells given)
+      → LeavesOnly disks given back (MayOpen rows)
   pub reaches :
       IsTrue (disks.tells given)
       → ReachesGate (disks.seen given) (disks.reach given) (disks.reach back)

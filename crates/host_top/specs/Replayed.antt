@@ -38,8 +38,7 @@ pub record NotTranscribed {D : Type 0} (disks : DiskWords D) (given back : D)
 pub record ReplaysOver {D : Type 0} (disks : DiskWords D) (stories : List Story) (given back : D)
     (output new : SinkState) (status : Status) : Type 0 where
   pub looks :
-      LooksAlone disks.tells disks.may_leave disks.moment disks.left_since disks.reach disks.room
-      disks.label given back
+      LooksAlone disks given back
   -- unless it failed it reads as before
   pub seen :
       IsTrue (disks.tells given)

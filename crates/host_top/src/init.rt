@@ -1,7 +1,8 @@
 //! The command `init`, which makes the stores of a folder and begins its journal.
 ghost use Rattle.std.specs.Prelude.{◌≡◌, ◌≤◌, ◌<◌, ◌∷◌, [], ℕ, List, true, false, length, IsTrue};
 ghost use Rattle.std.specs.Prelude.{IfOk, OnOk, OnErr, IsErrOf};
-ghost use Rattle.disk_model.specs.Disk.{CountsErrors, NoneNew, SameDisk};
+ghost use Rattle.disk_model.specs.Disk.{CountsErrors, NoneNew};
+ghost use Rattle.disk_model.specs.Work.{SameDisk};
 ghost use Rattle.host_top.specs.Begun.{Inits, InitsOn, InitsOver, IsLookedAt, MakesStores};
 ghost use Rattle.host_top.specs.Begun.{TriesStores};
 ghost use Rattle.host_top.specs.Borrowed.{Lending, snap_in, snaps_below};
@@ -29,7 +30,7 @@ pub fn is_empty<D: Disk>(disk: &mut D) -> Result<bool, Failed>
         → NoneNew (D.may_leave disk.old) (D.may_leave disk.new) }
     ensures seen { OnOk result (IsTrue (D.tells disk.old) → D.seen disk.new ≡ D.seen disk.old) }
     ensures cause { CountsErrors result (D.faults disk.old) (D.faults disk.new) }
-    ensures kept { SameDisk D.tells D.room D.label disk.old disk.new }
+    ensures kept { SameDisk D.Disk disk.old disk.new }
 {
     let size = disk.size()?;
     Ok(size == 0)
@@ -39,7 +40,7 @@ pub fn is_empty<D: Disk>(disk: &mut D) -> Result<bool, Failed>
 fn init_over<D: Disk, K: Sink>(disk: &mut D, output: &mut K) -> Status
     ensures value { InitsOver D.Disk disk.old disk.new
         (K.sink output.old) (K.sink output.new) result }
-    ensures kept { SameDisk D.tells D.room D.label disk.old disk.new }
+    ensures kept { SameDisk D.Disk disk.old disk.new }
     ensures read_fault { ¬ (result ≡ Status.ReadFault) }
     ensures write_fault { result ≡ Status.WriteFault
         → Rose (K.sink output.old).faults (K.sink output.new).faults }
@@ -124,7 +125,7 @@ fn init_all<O: Outside, K: Sink>(
     ensures value { (stores : List (Lending O.Disk)) × Inits O.Disk.Disk folder.now
         disk.old disk.new stores stores (O.outside outside.old) (O.outside outside.new)
         (K.sink output.old) (K.sink output.new) result }
-    ensures kept { SameDisk O.Disk.tells O.Disk.room O.Disk.label disk.old disk.new }
+    ensures kept { SameDisk O.Disk.Disk disk.old disk.new }
     ensures read_fault { ¬ (result ≡ Status.ReadFault) }
     ensures write_fault { result ≡ Status.WriteFault
         → Rose (K.sink output.old).faults (K.sink output.new).faults }

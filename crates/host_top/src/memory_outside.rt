@@ -38,8 +38,7 @@ impl Shelf {
             to = None;
           });
         } }
-        ensures given { IsLentFrom ⟦<MemDisk as Disk>⟧.seen
-            ⟦<MemDisk as Disk>⟧.may_leave (told_of_all self.old.disk) result }
+        ensures given { IsLentFrom ⟦<MemDisk as Disk>⟧ (told_of_all self.old.disk) result }
         ensures label { ⟦<MemDisk as Disk>⟧.label result ≡ label }
     {
         let mut disk = match self.disk.take() {
@@ -127,8 +126,8 @@ fn lend(
           from = ⟦<MemDisk as Disk>⟧.faults disk;
           to = None;
         })) other) }
-    ensures given { IfSome result (λ disk. IsLentFrom ⟦<MemDisk as Disk>⟧.seen
-        ⟦<MemDisk as Disk>⟧.may_leave (disk_in shelves.old name.now) disk) }
+    ensures given { IfSome result (λ disk.
+        IsLentFrom ⟦<MemDisk as Disk>⟧ (disk_in shelves.old name.now) disk) }
     ensures label { IfSome result (λ disk. ⟦<MemDisk as Disk>⟧.label disk ≡ label) }
     ensures none { IfNone result (is_some (get_by_text shelves.old name.now) ≡ false) }
 {

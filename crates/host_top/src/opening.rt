@@ -36,10 +36,10 @@ pub fn open_host<'i, D: Disk + Drop, K: Sink>(
         × (IsTrue (D.tells disks.journal) → SpellsRows (D.seen disks.journal) rows)
         × IsOpenedHost stories.now budget rows
         (record { disk = disks.journal; found = length rows }) pair.0 pair.1) }
-    ensures stores { IfOk result (λ pair. AllZip (IsStoreOf D.tells D.may_leave D.seen D.moment
-        D.left_since D.faults D.reach D.room D.label) disks.snaps.items (opened_stores pair.0)) }
-    ensures sound { IfOk result (λ pair. AreAgreed D.tells D.seen stories.now
-        (rows_at_opening pair.0) disks.snaps.items → IsSound D.tells D.seen pair.0) }
+    ensures stores { IfOk result
+        (λ pair. AllZip (IsStoreOf D.Disk) disks.snaps.items (opened_stores pair.0)) }
+    ensures sound { IfOk result (λ pair. AreAgreed D.Disk stories.now
+        (rows_at_opening pair.0) disks.snaps.items → IsSound D.Disk pair.0) }
     ensures silent { IfOk result (λ _. K.sink output.new ≡ K.sink output.old) }
     ensures refused { IfErr result (λ refusal. (input : SourceState) → HostedOver (λ _ _. ⊥)
         D.Disk disks.journal disks.snaps.items refusal.1 input input

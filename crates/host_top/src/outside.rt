@@ -59,11 +59,10 @@ pub trait Outside {
     /// Lends the disk of that name, or an empty one where there is none. A disk that is lent
     /// already isn't lent again.
     fn disk(&mut self, alloc: Global, name: &str) -> Result<Self::Disk, Fetch>
-        ensures ok { IfOk result (λ disk. Lends Self.Disk.label Self.Disk.faults name.now disk
+        ensures ok { IfOk result (λ disk. Lends Self.Disk.Disk name.now disk
             (outside self.old) (outside self.new)) }
         ensures given { IfOk result (λ disk. IsTrue (Self.Disk.tells disk)
-            → IsLentFrom Self.Disk.seen Self.Disk.may_leave
-            ((outside self.old).disk name.now) disk) }
+            → IsLentFrom Self.Disk.Disk ((outside self.old).disk name.now) disk) }
         ensures err { OnErr result ((other : List ℕ)
             → ((outside self.new).disk other ≡ (outside self.old).disk other)
             × ((outside self.new).loan other ≡ (outside self.old).loan other)) }

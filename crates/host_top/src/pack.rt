@@ -1,7 +1,7 @@
 //! The command `pack`, which begins a folder with the games of another one that are in use.
 ghost use Rattle.std.specs.Prelude.{◌≡◌, ◌⊎◌, ◌<◌, [], IfOk, List, ℕ, false, string_bytes};
 ghost use Rattle.std.specs.Str.{bytes_eq};
-ghost use Rattle.disk_model.specs.Disk.{SameDisk};
+ghost use Rattle.disk_model.specs.Work.{SameDisk};
 ghost use Rattle.host_top.specs.Borrowed.{Lending, journal_in, snap_in};
 ghost use Rattle.host_top.specs.Calls.{DisksStand, NoneFailed, NoneIsListed};
 ghost use Rattle.host_top.specs.Files.{KeepsDoors, KeepsFiles, is_out};
@@ -53,8 +53,7 @@ fn pack_over<D: Disk, K: Sink>(alloc: Global, old: &mut D, new: &mut D, output: 
       new = new.old;
       new_back = new.new;
     }) (K.sink output.old) (K.sink output.new) result }
-    ensures kept { SameDisk D.tells D.room D.label old.old old.new
-        × SameDisk D.tells D.room D.label new.old new.new }
+    ensures kept { SameDisk D.Disk old.old old.new × SameDisk D.Disk new.old new.new }
     ensures read_fault { ¬ (result ≡ Status.ReadFault) }
     ensures write_fault { result ≡ Status.WriteFault
         → Rose (K.sink output.old).faults (K.sink output.new).faults }
@@ -88,8 +87,7 @@ fn pack_all<O: Outside, K: Sink>(
       new_back = new.new;
     }) stores stores (O.outside outside.old) (O.outside outside.new)
         (K.sink output.old) (K.sink output.new) result }
-    ensures kept { SameDisk O.Disk.tells O.Disk.room O.Disk.label old.old old.new
-        × SameDisk O.Disk.tells O.Disk.room O.Disk.label new.old new.new }
+    ensures kept { SameDisk O.Disk.Disk old.old old.new × SameDisk O.Disk.Disk new.old new.new }
     ensures read_fault { ¬ (result ≡ Status.ReadFault) }
     ensures write_fault { result ≡ Status.WriteFault
         → Rose (K.sink output.old).faults (K.sink output.new).faults }
@@ -126,7 +124,7 @@ fn pack_into<O: Outside, K: Sink>(
     ensures value { (input : SourceState) → PacksNew O.Disk.Disk folder.now old.old old.new
         (O.outside outside.old) (O.outside outside.new) input
         (K.sink output.old) (K.sink output.new) result }
-    ensures kept { SameDisk O.Disk.tells O.Disk.room O.Disk.label old.old old.new }
+    ensures kept { SameDisk O.Disk.Disk old.old old.new }
     ensures read_fault { ¬ (result ≡ Status.ReadFault) }
     ensures write_fault { result ≡ Status.WriteFault
         → Rose (K.sink output.old).faults (K.sink output.new).faults }

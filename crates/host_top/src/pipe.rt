@@ -32,7 +32,7 @@ fn answer_lines<'i, R: Wait, D: Disk + Drop, S: Source, K: Sink>(
     output: &mut K,
 ) -> Served
     requires passes { AreOf host.now passes.old }
-    ensures value { ServesBetween (IsSound D.tells D.seen host.now) host.now passes.old
+    ensures value { ServesBetween (IsSound D.Disk host.now) host.now passes.old
         passes.new (S.source input.old)
         (S.source input.new) (K.sink output.old) (K.sink output.new) result }
     ensures kept { AreOf host.now passes.new }

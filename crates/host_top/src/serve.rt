@@ -101,7 +101,7 @@ fn serve_door<'i, R: Threads + Wait + Sync, O: Outside>(
     ensures value { result ≡ Status.Done ⊎ (result ≡ Status.DoorFault) }
     ensures served { AtDoor result
         (WorkersServe O.Door.Door O.Door.Conn.source O.Door.Conn.sink O.Door.Conn.lent
-        (IsSound O.Disk.tells O.Disk.seen) host.now workers.old workers.new)
+        (IsSound O.Disk.Disk) host.now workers.old workers.new)
         (AreAllShut O.Door.Door O.Door.Conn.source O.Door.Conn.sink O.Door.Conn.lent)
         (workers.new ≡ workers.old) }
     ensures kept { Each (AreOf host.now) workers.new }
@@ -142,7 +142,7 @@ fn serve_links<'i, R: Threads + Wait + Sync, O: Outside>(
     ensures whole { AreAllHeld roots.new (roots.new ∷ []) }
     ensures served { AtDoor result
         (CrewRejoins O.Door.Door O.Door.Conn.source O.Door.Conn.sink O.Door.Conn.lent
-        (IsSound O.Disk.tells O.Disk.seen) host.now serving.workers roots.old roots.new)
+        (IsSound O.Disk.Disk) host.now serving.workers roots.old roots.new)
         (λ crew. AreAllShut O.Door.Door O.Door.Conn.source O.Door.Conn.sink O.Door.Conn.lent
         crew.0.serve) (SeeNoMore roots.old roots.new) }
     ensures kept { AreOf host.now roots.new }

@@ -2,8 +2,8 @@
 
 ghost use Rattle.std.specs.Prelude.{◌≡◌, ◌⊎◌, ◌+◌, ◌<◌, ◌≤◌, ◌++◌, [], ◌∷◌, List, length, max};
 ghost use Rattle.std.specs.Prelude.{ℕ, IsTrue, IfOk, IfErr, MatchResult};
-ghost use Rattle.disk_model.specs.Disk.{LeavesOnly, Only, OnlyLooks, SameDisk};
-ghost use Rattle.disk_model.specs.Work.{FailedCall, GoodCalls};
+ghost use Rattle.disk_model.specs.Disk.{Only};
+ghost use Rattle.disk_model.specs.Work.{LeavesOnly, OnlyLooks, SameDisk, FailedCall, GoodCalls};
 ghost use Rattle.gate_journal.specs.declared.row.Row.{Row};
 ghost use Rattle.gate_journal.specs.Faults.{Explains, UnlessFault, CountsOpening, IsDiskFault};
 ghost use Rattle.gate_journal.specs.Rows.{rows_behind_open_gates};
@@ -38,12 +38,11 @@ fn find<D: Disk>(alloc: Global, old: &mut D) -> Result<Found, JournalFault>
     ensures seen { UnlessFault result (IsTrue (D.tells old.old)
         → D.seen old.new ≡ D.seen old.old) }
     ensures calls { IsTrue (D.tells old.old) → MatchResult result
-        (λ _. GoodCalls D.fails_at D.moment 2 old.old old.new)
+        (λ _. GoodCalls D.Disk 2 old.old old.new)
         (λ e. IsDiskFault e → (k : ℕ) × (k < 2)
-        × FailedCall D.fails_at D.moment D.room 0 k old.old old.new) }
+        × FailedCall D.Disk 0 k old.old old.new) }
     ensures steady { IsTrue (D.steady old.old) → IsTrue (D.steady old.new) }
-    ensures kept { LooksAlone D.tells D.may_leave D.moment D.left_since D.reach D.room D.label
-        old.old old.new }
+    ensures kept { LooksAlone D.Disk old.old old.new }
 {
     let rows = scan(alloc, old)?;
     let all = rows.len() as u64;
@@ -74,15 +73,14 @@ pub fn pack<D: Disk>(alloc: Global, old: &mut D, new: &mut D) -> Result<Packed, 
         (record { old = D.faults old.new; new = D.faults new.new }) }
     // Unless the new disk fails a refusal leaves it as it was.
     ensures refused { IfErr result (λ e. IsBefore e
-        → OnlyLooks D.tells D.may_leave D.moment D.left_since D.reach D.room D.label
-        new.old new.new
+        → OnlyLooks D.Disk new.old new.new
         × (IsTrue (D.tells new.old) → D.seen new.new ≡ D.seen new.old)) }
     // A steady disk fails only where the packed journal would end past its room.
     ensures works { IsTrue (D.steady new.old) → IsTrue (D.steady new.new)
         × IfErr result (OnlyNewWhere ((rows : List Row)
         × AreRowsOf (D.tells old.old) (D.seen old.old) rows
         × (D.room new.old < length (closed_journal (packed rows))))) }
-    ensures kept { SameDisk D.tells D.room D.label new.old new.new }
+    ensures kept { SameDisk D.Disk new.old new.new }
     ensures reach { (D.reach new.new ≡ D.reach new.old) ⊎ ((rows : List Row)
         × AreRowsOf (D.tells old.old) (D.seen old.old) rows
         × (D.reach new.new
@@ -90,30 +88,28 @@ pub fn pack<D: Disk>(alloc: Global, old: &mut D, new: &mut D) -> Result<Packed, 
 
     // Where nothing is pending, each image meanwhile is no journal, or that of all live rows.
     ensures crash { IsTrue (D.tells new.old) → Only [] (D.may_leave new.old)
-        → LeavesOnly D.moment D.left_since new.old new.new
+        → LeavesOnly D.Disk new.old new.new
         (λ c. IsRefused c ⊎ ((rows : List Row)
         × AreRowsOf (D.tells old.old) (D.seen old.old) rows
         × NoneOrAll (packed rows) c)) }
 
     // After Ok seven device calls were made of it, all good; after a fault of it which of them failed.
     ensures calls { IsTrue (D.tells new.old) → MatchResult result
-        (λ _. GoodCalls D.fails_at D.moment 7 new.old new.new)
+        (λ _. GoodCalls D.Disk 7 new.old new.new)
         (λ e. IsNewFault e → (k : ℕ) × (k < 7)
-        × (FailedCall D.fails_at D.moment D.room 0 k new.old new.new
+        × (FailedCall D.Disk 0 k new.old new.new
         ⊎ ((rows : List Row) × AreRowsOf (D.tells old.old) (D.seen old.old) rows
-        × FailedCall D.fails_at D.moment D.room (length (closed_journal (packed rows))) k
-        new.old new.new))) }
+        × FailedCall D.Disk (length (closed_journal (packed rows))) k new.old new.new))) }
 
     // The old disk is only looked at: a size and a read.
-    ensures old { LooksAlone D.tells D.may_leave D.moment D.left_since D.reach D.room D.label
-        old.old old.new }
+    ensures old { LooksAlone D.Disk old.old old.new }
     ensures old_steady { IsTrue (D.steady old.old) → IsTrue (D.steady old.new) }
     ensures old_seen { UnlessOldFault result (IsTrue (D.tells old.old)
         → D.seen old.new ≡ D.seen old.old) }
     ensures old_calls { IsTrue (D.tells old.old) → MatchResult result
-        (λ _. GoodCalls D.fails_at D.moment 2 old.old old.new)
+        (λ _. GoodCalls D.Disk 2 old.old old.new)
         (λ e. IsOldFault e → (k : ℕ) × (k < 2)
-        × FailedCall D.fails_at D.moment D.room 0 k old.old old.new) }
+        × FailedCall D.Disk 0 k old.old old.new) }
 {
     let from = new.faults();
     let Ok(size) = new.size() else {

@@ -38,17 +38,15 @@ pub fn bytes_behind_header(alloc: Global, rows: &[Row]) -> Result<Vec<u8>, Alloc
 pub fn write_whole<D: Disk>(disk: &mut D, body: &[u8]) -> Result<(), Failed>
     ensures triple { (rows : List Row) → IsJournal rows
         → body.now ≡ rows_behind_open_gates rows ++ 0 ∷ []
-        → Triple D.tells D.may_leave D.moment D.left_since result disk.old disk.new
+        → Triple D.Disk result disk.old disk.new
         (λ c. c ≡ []) (NoneOrAll rows) (λ c. c ≡ closed_journal rows) }
     ensures ok { OnOk result ((rows : List Row)
         → body.now ≡ rows_behind_open_gates rows ++ 0 ∷ []
         → IsTrue (D.tells disk.old) → D.seen disk.old ≡ []
         → Only (closed_journal rows) (D.may_leave disk.new)) }
-    ensures ran { Ran D.tells D.steady D.room D.label D.faults D.reach (16 + length body.now)
-        result disk.old disk.new }
+    ensures ran { Ran D.Disk (16 + length body.now) result disk.old disk.new }
     ensures calls { IsTrue (D.tells disk.old)
-        → MakesCalls D.fails_at D.moment D.room (16 + length body.now) 6
-        result disk.old disk.new }
+        → MakesCalls D.Disk (16 + length body.now) 6 result disk.old disk.new }
 {
     let Ok(()) = write_through(disk, 0, &[0; 16]) else {
         return Err(Failed);

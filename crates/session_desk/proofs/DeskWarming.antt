@@ -1,9 +1,11 @@
 -- A desk that is made warm.
-use Rattle.std.proofs.Common.{◌≡◌, ◌≢◌, ℕ, ◌+◌, ◌≤◌, Bool, true, false, IsTrue, List, length}
+use Rattle.std.proofs.Common.{◌≡◌, ◌≢◌, ℕ, ◌+◌, ◌≤◌, true, false, IsTrue, List, length}
 use Rattle.std.proofs.Common.{Option, Some, IsSome, Result, Ok, Err, refl, sym, subst, ◌∙◌}
 use Rattle.std.specs.Prelude.{OnOk}
 use Rattle.std.proofs.lemmas.Bool.{and_parts}
-use Rattle.disk_model.specs.Disk.{OnlyLooks, Rose}
+use Rattle.disk_model.specs.Disk.{Rose}
+use Rattle.disk_model.specs.Work.{OnlyLooks}
+use Rattle.disk_model.specs.declared.disk.Disk.{Ghosts as DiskWords}
 use Rattle.turn_cell.specs.Passes.{seen}
 use Rattle.gate_journal.specs.Log.{rows_of}
 use Rattle.gate_journal.specs.declared.command.Command.{Command}
@@ -41,25 +43,22 @@ is_some : (o : Option ℕ) (q : ℕ) → o ≡ Some q → IsSome o
 is_some o q e = rw e refl
 
 -- it isn't cold to any request then
-warms_tell : {D : Type 0} (tells : D → Bool) (seen_of : D → List ℕ) (faults : D → ℕ)
-    (request : Request) (old new : SharedState D) (before after : ℕ)
-    → IsWarmed tells seen_of faults old new before after → verdict new.desk request ≢ Cold
-warms_tell tells seen_of faults request old new before after w =
+warms_tell : {D : Type 0} (disks : DiskWords D) (request : Request) (old new : SharedState D)
+    (before after : ℕ) → IsWarmed disks old new before after → verdict new.desk request ≢ Cold
+warms_tell disks request old new before after w =
     λ e. let no = warm_tells new.desk request (rw w.holds refl) e in absurd cc
 
-pub warms_tell_ok : {D T E : Type 0} (tells : D → Bool) (seen_of : D → List ℕ) (faults : D → ℕ)
-    (request : Request) (old new : SharedState D) (before after : ℕ) (done : Result T E)
-    → OnOk done (IsWarmed tells seen_of faults old new before after)
-    → OnOk done (verdict new.desk request ≢ Cold)
-warms_tell_ok tells seen_of faults request old new before after (Ok x) w =
-    warms_tell tells seen_of faults request old new before after w
-warms_tell_ok tells seen_of faults request old new before after (Err e) w = tt
+pub warms_tell_ok : {D T E : Type 0} (disks : DiskWords D) (request : Request)
+    (old new : SharedState D) (before after : ℕ) (done : Result T E)
+    → OnOk done (IsWarmed disks old new before after) → OnOk done (verdict new.desk request ≢ Cold)
+warms_tell_ok disks request old new before after (Ok x) w =
+    warms_tell disks request old new before after w
+warms_tell_ok disks request old new before after (Err e) w = tt
 
-module _ {D : Type 0} (tells : D → Bool) (seen_of : D → List ℕ) (moment : D → ℕ)
-    (left_since : D → ℕ → List ℕ → Type 0) (room label faults reach : D → ℕ) where
+module _ {D : Type 0} (disks : DiskWords D) where
   abbrev Whole : List Mark → Option ℕ → SharedState D → Type 0
   Whole l place state =
-      IsWhole tells seen_of moment left_since room label faults reach l place state
+      IsWhole disks l place state
 
   -- a session in use has an OPEN row
   pub has_place : (l : List Mark) (place : Option ℕ) (old : SharedState D)
@@ -77,9 +76,9 @@ module _ {D : Type 0} (tells : D → Bool) (seen_of : D → List ℕ) (moment : 
       → Whole l place old → place ≡ Some row
       → stories ≡ old.desk.stories → g ≡ game old.desk
       → o ≡ Some world → desk ≡ warmed old.desk world
-      → WarmsFrom (tells old.saves.store.disk) (seen_of old.saves.store.disk) row
-      (faults old.saves.store.disk) (faults saves.store.disk) stories g o before after
-      → IsWarmed tells seen_of faults old
+      → WarmsFrom (disks.tells old.saves.store.disk) (disks.seen old.saves.store.disk) row
+      (disks.faults old.saves.store.disk) (disks.faults saves.store.disk) stories g o before after
+      → IsWarmed disks old
       (record old { desk = desk; history = history; saves = saves }) before after
   warms_held l place old desk history saves stories g row o world
       before after w at same game_is is holds warms = record {
@@ -97,15 +96,14 @@ module _ {D : Type 0} (tells : D → Bool) (seen_of : D → List ℕ) (moment : 
       → stories ≡ old.desk.stories → g ≡ game old.desk
       → o ≡ Some world
       → is_other_story old.desk.stories (game old.desk) ≡ false
-      → ((rows : List ℕ) → IsTrue (tells old.saves.store.disk)
-      → last_row rows ≡ Some row
+      → ((rows : List ℕ) → IsTrue (disks.tells old.saves.store.disk) → last_row rows ≡ Some row
       → is_other_story stories g ≡ false
-      → IsAgreed seen_of stories rows g old.saves.store → o ≡ world_of stories g)
-      → IsSoundDesk tells seen_of (desk_tag old)
+      → IsAgreed disks.seen stories rows g old.saves.store → o ≡ world_of stories g)
+      → IsSoundDesk disks (desk_tag old)
       → HoldsOwnWorld old.desk.stories (game old.desk) (Current world)
   warm_own l place old stories g row o world w at same game_is is other value sound =
       let told =
-      still_tells old.store old.saves.store w.store sound.0 in
+      still_tells disks old.store old.saves.store w.store sound.0 in
       let own =
       sym (value (open_rows old) told (sym w.row ∙ at) (rw (same, game_is) other)
       (rw (same, game_is) (w.own sound).agreed)) ∙ is in
@@ -116,22 +114,22 @@ module _ {D : Type 0} (tells : D → Bool) (seen_of : D → List ℕ) (moment : 
       (stories : List Story) (g : List Command) (row : ℕ) (before after : ℕ)
       → Whole l place old → place ≡ Some row → stories ≡ old.desk.stories → g ≡ game old.desk
       → is_other_story old.desk.stories (game old.desk) ≡ false
-      → ((rows : List ℕ) → IsTrue (tells old.saves.store.disk)
-      → (Rose (faults old.saves.store.disk) (faults saves.store.disk) → ⊥)
+      → ((rows : List ℕ) → IsTrue (disks.tells old.saves.store.disk)
+      → (Rose (disks.faults old.saves.store.disk) (disks.faults saves.store.disk) → ⊥)
       → last_row rows ≡ Some row
-      → is_other_story stories g ≡ false → IsAgreed seen_of stories rows g old.saves.store
+      → is_other_story stories g ≡ false → IsAgreed disks.seen stories rows g old.saves.store
       → after ≡ before + turns_after stories g (count_in
-      (area_given (newest_area row (length (inputs_of g)) (seen_of old.saves.store.disk)))))
-      → (p : ℕ) → IsSoundDesk tells seen_of (desk_tag old)
-      → (Rose (faults old.saves.store.disk) (faults saves.store.disk) → ⊥)
+      (area_given (newest_area row (length (inputs_of g)) (disks.seen old.saves.store.disk)))))
+      → (p : ℕ) → IsSoundDesk disks (desk_tag old)
+      → (Rose (disks.faults old.saves.store.disk) (disks.faults saves.store.disk) → ⊥)
       → last_row (open_rows old) ≡ Some p
       → after ≡ before + turns_after old.desk.stories (game old.desk)
       (count_in (area_given
-      (newest_area p (length (inputs_of (game old.desk))) (seen_of old.saves.store.disk))))
+      (newest_area p (length (inputs_of (game old.desk))) (disks.seen old.saves.store.disk))))
   warm_cost l place old saves stories g row
       before after w at same game_is other cost p sound steady last =
       let told =
-      still_tells old.store old.saves.store w.store sound.0 in
+      still_tells disks old.store old.saves.store w.store sound.0 in
       let both = sym at ∙ w.row ∙ last in
       let is : row ≡ p = cc in
       let taken =
@@ -139,50 +137,49 @@ module _ {D : Type 0} (tells : D → Bool) (seen_of : D → List ℕ) (moment : 
       (rw (same, game_is) (w.own sound).agreed) in
       rw (same, game_is, is) at taken
 
-  pub whole_warmed : (may_leave : D → List ℕ → Type 0)
-      (counts_now : (d : D) (t : ℕ) (c : List ℕ) → t ≤ moment d → may_leave d c
-      → left_since d t c)
+  pub whole_warmed :
+      (counts_now : (d : D) (t : ℕ) (c : List ℕ) → t ≤ disks.moment d → disks.may_leave d c
+      → disks.left_since d t c)
       (l : List Mark) (place : Option ℕ) (old : SharedState D) (desk : DeskState)
       (saves : SavesState D) (world : WorldState)
       → Whole l place old
       → old.history ≡ commands_woven l old.desk.commands → desk ≡ warmed old.desk world
-      → OnlyLooks tells may_leave moment left_since reach room label old.saves.store.disk
-      saves.store.disk
-      → faults old.saves.store.disk ≤ faults saves.store.disk
-      → ((side : Side) → IsTrue (tells old.saves.store.disk)
-      → store_area seen_of saves.store side ≡ store_area seen_of old.saves.store side)
+      → OnlyLooks disks old.saves.store.disk saves.store.disk
+      → disks.faults old.saves.store.disk ≤ disks.faults saves.store.disk
+      → ((side : Side) → IsTrue (disks.tells old.saves.store.disk)
+      → store_area disks.seen saves.store side ≡ store_area disks.seen old.saves.store side)
       → (saves.store.made ≡ old.saves.store.made)
       × (saves.store.slots ≡ old.saves.store.slots)
       × (saves.missed ≡ old.saves.missed)
       × (saves.last ≡ old.saves.last)
-      → (IsSoundDesk tells seen_of (desk_tag old)
+      → (IsSoundDesk disks (desk_tag old)
       → HoldsOwnWorld old.desk.stories (game old.desk) (Current world))
       → Whole l place
       (record old { desk = desk; history = commands_woven l desk.commands; saves = saves })
-  whole_warmed may_leave counts_now l place old desk saves world w weaves is
+  whole_warmed counts_now l place old desk saves world w weaves is
       looks counts areas slots holds =
       rw is (subst (λ (h : List Entry).
       Whole l place (record old { desk = warmed old.desk world; history = h; saves = saves }))
       weaves
-      (whole-looked _ _ _ _ _ _ _ _ may_leave counts_now l place old (Current world) saves w looks
-      counts areas slots.0 slots.1 slots.2 holds))
+      (whole-looked disks counts_now l
+      place old (Current world) saves w looks counts areas slots.0 slots.1 slots.2 holds))
 
   -- where memory ran out
-  pub whole_cold : (may_leave : D → List ℕ → Type 0)
-      (counts_now : (d : D) (t : ℕ) (c : List ℕ) → t ≤ moment d → may_leave d c
-      → left_since d t c)
+  pub whole_cold :
+      (counts_now : (d : D) (t : ℕ) (c : List ℕ) → t ≤ disks.moment d → disks.may_leave d c
+      → disks.left_since d t c)
       (l : List Mark) (place : Option ℕ) (old : SharedState D) (saves : SavesState D)
       → Whole l place old
-      → OnlyLooks tells may_leave moment left_since reach room label old.saves.store.disk
-      saves.store.disk
-      → faults old.saves.store.disk ≤ faults saves.store.disk
-      → ((side : Side) → IsTrue (tells old.saves.store.disk)
-      → store_area seen_of saves.store side ≡ store_area seen_of old.saves.store side)
+      → OnlyLooks disks old.saves.store.disk saves.store.disk
+      → disks.faults old.saves.store.disk ≤ disks.faults saves.store.disk
+      → ((side : Side) → IsTrue (disks.tells old.saves.store.disk)
+      → store_area disks.seen saves.store side ≡ store_area disks.seen old.saves.store side)
       → (saves.store.made ≡ old.saves.store.made)
       × (saves.store.slots ≡ old.saves.store.slots)
       × (saves.missed ≡ old.saves.missed)
       × (saves.last ≡ old.saves.last)
       → Whole l place (record old { saves = saves })
-  whole_cold may_leave counts_now l place old saves w looks counts areas slots =
-      whole-looked _ _ _ _ _ _ _ _ may_leave counts_now l place old old.desk.held saves w looks
-      counts areas slots.0 slots.1 slots.2 (λ sound. (w.own sound).holds)
+  whole_cold counts_now l place old saves w looks counts areas slots =
+      whole-looked disks counts_now l
+      place old old.desk.held saves w looks counts areas slots.0 slots.1 slots.2
+      (λ sound. (w.own sound).holds)

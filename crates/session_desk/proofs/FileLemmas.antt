@@ -1,9 +1,10 @@
 -- What a desk keeps of its store's file, behind each of its steps.
-use Rattle.std.proofs.Common.{◌≡◌, ◌∙◌, ℕ, ◌≤◌, Bool, IsTrue, List, [], ◌∷◌, ◌++◌, length}
+use Rattle.std.proofs.Common.{◌≡◌, ◌∙◌, ℕ, ◌≤◌, IsTrue, List, [], ◌∷◌, ◌++◌, length}
 use Rattle.std.proofs.Common.{Option, Some, sym, ap, subst, append_assoc, arith}
 use Rattle.std.specs.List.{Contains}
 use Rattle.std.proofs.lemmas.List.{append-nil, length-append, nil_from_length}
-use Rattle.disk_model.specs.Disk.{EachImage, LeavesOnly}
+use Rattle.disk_model.specs.Work.{EachImage, LeavesOnly}
+use Rattle.disk_model.specs.declared.disk.Disk.{Ghosts as DiskWords}
 use Rattle.disk_model.proofs.Moments.{and_then, holds_now, started, weaker}
 use Rattle.turn_cell.specs.declared.pass.Pass.{Pass}
 use Rattle.turn_cell.specs.Passes.{seen}
@@ -82,19 +83,18 @@ no_open s rows mid new more later mid_is new_is same =
 some_same : (x y : ℕ) → Some x ≡ Some y → x ≡ y
 some_same x y e = cc
 
-module _ {D : Type 0} (moment : D → ℕ) (left_since : D → ℕ → List ℕ → Type 0) where
+module _ {D : Type 0} (disks : DiskWords D) where
   -- as more rows come
   pub file-behind : (old : SharedState D) (desk : DeskState) (history : List Entry)
       (pass : Pass (Log D) JournalEntry)
       → desk.stories ≡ old.desk.stories → desk.session ≡ old.desk.session
       → (more : List Row) × (rows_of (seen old.pass) ≡ old.rows ++ more)
       → (more : List Row) × (rows_of (seen pass) ≡ rows_of (seen old.pass) ++ more)
-      → KeepsFile moment left_since old
-      → KeepsFile moment left_since
+      → KeepsFile disks old → KeepsFile disks
       (record old { desk = desk; history = history; pass = pass })
   file-behind old desk history pass stories session before behind keeps = record {
     agreed =
-        weaker moment left_since old.store.disk old.saves.store.disk
+        weaker disks old.store.disk old.saves.store.disk
         (AgreesWithBeginning old.desk.stories (rows_of (seen old.pass)) old.desk.session)
         (AgreesWithBeginning desk.stories (rows_of (seen pass)) desk.session) keeps.agreed
         (λ file a.
@@ -122,22 +122,20 @@ module _ {D : Type 0} (moment : D → ℕ) (left_since : D → ℕ → List ℕ 
   }
 
   -- as the store is only looked at
-  module _ (may_leave : D → List ℕ → Type 0) (counts_now : (d : D) (t : ℕ) (c : List ℕ) → t ≤ moment d → may_leave d c
-      → left_since d t c) where
-    looked : (first old new : D) (P : List ℕ → Type 0) → LeavesOnly moment left_since first old P
-        → LeavesOnly moment left_since old new (may_leave old)
-        → LeavesOnly moment left_since first new P
+  module _
+      (counts_now : (d : D) (t : ℕ) (c : List ℕ) → t ≤ disks.moment d → disks.may_leave d c
+      → disks.left_since d t c) where
+    looked : (first old new : D) (P : List ℕ → Type 0) → LeavesOnly disks first old P
+        → LeavesOnly disks old new (disks.may_leave old) → LeavesOnly disks first new P
     looked first old new P leaves looks =
-        and_then moment left_since first old new P leaves
-        (weaker moment left_since old new (may_leave old) P looks
-        (holds_now moment left_since may_leave first old P (counts_now old) leaves))
+        and_then disks first old new P leaves
+        (weaker disks old new (disks.may_leave old) P looks
+        (holds_now disks first old P (counts_now old) leaves))
 
     pub file-looked : (old : SharedState D) (held : Held) (saves : SavesState D)
-        → LeavesOnly moment left_since old.saves.store.disk saves.store.disk
-        (may_leave old.saves.store.disk)
-        → saves.store.slots ≡ old.saves.store.slots
-        → KeepsFile moment left_since old
-        → KeepsFile moment left_since
+        → LeavesOnly disks old.saves.store.disk saves.store.disk
+        (disks.may_leave old.saves.store.disk) → saves.store.slots ≡ old.saves.store.slots
+        → KeepsFile disks old → KeepsFile disks
         (record old { desk = record old.desk { held = held }; saves = saves })
     file-looked old held saves looks slots keeps = record {
       agreed =
@@ -153,27 +151,24 @@ module _ {D : Type 0} (moment : D → ℕ) (left_since : D → ℕ → List ℕ 
     }
 
   -- as a snapshot of the session's own world is kept
-  pub file-kept : (seen_of : D → List ℕ) (old : SharedState D) (saves : SavesState D) (row count : ℕ)
-      (world : WorldState)
+  pub file-kept : (old : SharedState D) (saves : SavesState D) (row count : ℕ) (world : WorldState)
       → commands_of (rows_of (seen old.pass)) old.desk.session ≡ old.desk.commands
       → last_row (open_rows old) ≡ Some row
       → count ≡ length (inputs_of (game old.desk))
       → world_of old.desk.stories (game old.desk) ≡ Some world
-      → IsAgreed seen_of old.desk.stories (open_rows old) (game old.desk) old.saves.store
-      → LeavesOnly moment left_since old.saves.store.disk saves.store.disk
-      (MayStandMeanwhile seen_of world row count old.saves.store)
+      → IsAgreed disks.seen old.desk.stories (open_rows old) (game old.desk) old.saves.store
+      → LeavesOnly disks old.saves.store.disk saves.store.disk
+      (MayStandMeanwhile disks.seen world row count old.saves.store)
       → ((least : ℕ) → ((x : ℕ) → Contains (open_rows old) x → x ≤ row)
       → HasSince row least old.saves.store.slots
-      → KeepsOpen moment left_since row least old.saves.store saves.store)
-      → KeepsFile moment left_since old
-      → KeepsFile moment left_since (record old { saves = saves })
-  file-kept seen_of old saves row count world commands is_last counted own agreed crash keeps_open
+      → KeepsOpen disks row least old.saves.store saves.store) → KeepsFile disks old
+      → KeepsFile disks (record old { saves = saves })
+  file-kept old saves row count world commands is_last counted own agreed crash keeps_open
       keeps = record {
         agreed =
-            and_then moment left_since old.store.disk old.saves.store.disk saves.store.disk _
-            keeps.agreed
-            (weaker moment left_since old.saves.store.disk saves.store.disk
-            (MayStandMeanwhile seen_of world row count old.saves.store)
+            and_then disks old.store.disk old.saves.store.disk saves.store.disk _ keeps.agreed
+            (weaker disks old.saves.store.disk saves.store.disk
+            (MayStandMeanwhile disks.seen world row count old.saves.store)
             (AgreesWithBeginning old.desk.stories (rows_of (seen old.pass)) old.desk.session)
             crash (λ image stands. record {
               first = rows_of (seen old.pass);
@@ -183,10 +178,10 @@ module _ {D : Type 0} (moment : D → ℕ) (left_since : D → ℕ → List ℕ 
                   subst (λ (cs : List Command).
                   IsAgreedFile old.desk.stories (open_rows old) (game_of cs) image)
                   (sym commands)
-                  (images seen_of old.desk.stories (open_rows old) (game old.desk) world row
+                  (images disks.seen old.desk.stories (open_rows old) (game old.desk) world row
                   old.saves.store image is_last own agreed
                   (subst (λ (n : ℕ).
-                  MayStandMeanwhile seen_of world row n old.saves.store image) counted stands));
+                  MayStandMeanwhile disks.seen world row n old.saves.store image) counted stands));
             }));
         newest = λ journal same place least last has.
             let so_far = keeps.newest journal same place least last has in
@@ -196,29 +191,27 @@ module _ {D : Type 0} (moment : D → ℕ) (left_since : D → ℕ → List ℕ 
             (opens_last old.desk.session (rows_of (seen old.pass)) journal row is_last)
             (subst (λ (p : ℕ). HasSince p least old.saves.store.slots) at so_far.known) in
             let then_ =
-            subst (λ (p : ℕ). KeepsOpen moment left_since p least old.saves.store saves.store)
+            subst (λ (p : ℕ). KeepsOpen disks p least old.saves.store saves.store)
             (sym at) next in
             record {
               known = then_.known;
               images =
-                  and_then moment left_since old.store.disk old.saves.store.disk
+                  and_then disks old.store.disk old.saves.store.disk
                   saves.store.disk (HasOpenSince place least) so_far.images then_.images;
             };
       }
 
   -- as a desk is opened
-  pub file-opened : (tells : D → Bool) (may_leave : D → List ℕ → Type 0) (seen_of : D → List ℕ)
-      (s : ℕ) (stories : List Story) (budget : ℕ) (rows : List Row)
+  pub file-opened : (s : ℕ) (stories : List Story) (budget : ℕ) (rows : List Row)
       (pass : Pass (Log D) JournalEntry) (store : Snapshots D)
-      → ((d : D) (c : List ℕ) → left_since d (moment d) c → may_leave d c)
+      → ((d : D) (c : List ℕ) → disks.left_since d (disks.moment d) c → disks.may_leave d c)
       → rows_of (seen pass) ≡ rows
-      → EachImage tells may_leave store.disk (IsImageOf seen_of store)
-      → IsTrue (tells store.disk)
-      → IsAgreed seen_of stories (opens_of rows s) (game_of (commands_of rows s)) store
-      → KeepsFile moment left_since (as_opened s stories budget rows pass store)
-  file-opened tells may_leave seen_of s stories budget rows pass store only_now same are told agreed = record {
+      → EachImage disks store.disk (IsImageOf disks.seen store) → IsTrue (disks.tells store.disk)
+      → IsAgreed disks.seen stories (opens_of rows s) (game_of (commands_of rows s)) store
+      → KeepsFile disks (as_opened s stories budget rows pass store)
+  file-opened s stories budget rows pass store only_now same are told agreed = record {
     agreed =
-        started moment left_since store.disk (AgreesWithBeginning stories (rows_of (seen pass)) s)
+        started disks store.disk (AgreesWithBeginning stories (rows_of (seen pass)) s)
         (λ file left. record {
           first = rows;
           more = [];
@@ -230,7 +223,7 @@ module _ {D : Type 0} (moment : D → ℕ) (left_since : D → ℕ → List ℕ 
     newest = λ journal none place least last has. record {
       known = has;
       images =
-          started moment left_since store.disk (HasOpenSince place least)
+          started disks store.disk (HasOpenSince place least)
           (λ file left.
           let there =
           (are told file (only_now store.disk file left)).synced has.side place has.count

@@ -2,6 +2,7 @@
 use Rattle.std.proofs.Common.{◌≡◌, ◌≢◌, inl, inr, ℕ, ◌+◌, Bool, true, false, List, [], ◌∷◌, ◌++◌}
 use Rattle.std.proofs.Common.{Option, Some, None, refl, sym, ap, subst, ◌∙◌}
 use Rattle.std.proofs.lemmas.List.{append-nil}
+use Rattle.disk_model.specs.declared.disk.Disk.{Ghosts as DiskWords}
 use Rattle.turn_cell.specs.History.{Continues, IsForeign}
 use Rattle.gate_journal.specs.Log.{entry_number}
 use Rattle.gate_journal.specs.declared.command.Command.{Command}
@@ -96,51 +97,47 @@ lacks-not desk request warm = either (lacks_world desk request) refl
     either true e = absurd (warm ((cold_alone desk request).1 e))
     either false e = refl
 
-pub decides-held : {D : Type 0} (tells : D → Bool) (seen_of : D → List ℕ) (request : Request)
+pub decides-held : {D : Type 0} (disks : DiskWords D) (request : Request)
     (old : SharedState D) (held : Held)
     → lacks_world (record old.desk { held = held }) request ≡ false
-    → (IsSoundDesk tells seen_of (desk_tag old)
-    → HoldsOwnWorld old.desk.stories (game old.desk) held)
-    → Decides tells seen_of request old (decision_by_desk (record old.desk { held = held }) request)
-decides-held tells seen_of request old held lacks holds =
+    → (IsSoundDesk disks (desk_tag old) → HoldsOwnWorld old.desk.stories (game old.desk) held)
+    → Decides disks request old (decision_by_desk (record old.desk { held = held }) request)
+decides-held disks request old held lacks holds =
     let b = is_by old.desk.stories old.desk.commands held request lacks in
     record { now = b.now; own = λ sound. b.own (holds sound); decides = b.same }
 
-pub decides-rested : {D : Type 0} (tells : D → Bool) (seen_of : D → List ℕ)
-    (request : Request) (old new : SharedState D)
-    → Rests old new
-    → verdict new.desk request ≢ Cold
-    → (IsSoundDesk tells seen_of (desk_tag new)
+pub decides-rested : {D : Type 0} (disks : DiskWords D) (request : Request)
+    (old new : SharedState D) → Rests old new → verdict new.desk request ≢ Cold
+    → (IsSoundDesk disks (desk_tag new)
     → HoldsOwnWorld new.desk.stories (game new.desk) new.desk.held)
-    → Decides tells seen_of request old (decision_by_desk new.desk request)
-decides-rested {D = D} tells seen_of request old new rests warm holds =
+    → Decides disks request old (decision_by_desk new.desk request)
+decides-rested {D = D} disks request old new rests warm holds =
     let same = rests.desk in
-    subst (λ (d : DeskState). Decides tells seen_of request old (decision_by_desk d request))
+    subst (λ (d : DeskState). Decides disks request old (decision_by_desk d request))
     (sym same)
-    (decides-held tells seen_of request old new.desk.held
+    (decides-held disks request old new.desk.held
     (subst (λ (d : DeskState). lacks_world d request ≡ false) same
     (lacks-not new.desk request warm))
     (λ sound. subst (λ (d : DeskState). HoldsOwnWorld d.stories (game d) d.held) same
-    (holds (subst (λ (t : DeskTag D). IsSoundDesk tells seen_of t) (sym rests.tag) sound))))
+    (holds (subst (λ (t : DeskTag D). IsSoundDesk disks t) (sym rests.tag) sound))))
 
 -- memory may run out, whatever is decided
-pub decides-any : {D : Type 0} (tells : D → Bool) (seen_of : D → List ℕ) (request : Request)
-    (old : SharedState D)
-    → Decides tells seen_of request old (answer_in old.desk.stories old.desk.commands
+pub decides-any : {D : Type 0} (disks : DiskWords D) (request : Request) (old : SharedState D)
+    → Decides disks request old (answer_in old.desk.stories old.desk.commands
     (world_of old.desk.stories (game_of old.desk.commands)) request)
-decides-any tells seen_of request old = record {
+decides-any disks request old = record {
   now = world_of old.desk.stories (game_of old.desk.commands);
   own = λ sound. refl;
   decides = refl;
 }
 
-pub turns-by : {D : Type 0} (tells : D → Bool) (seen_of : D → List ℕ) (request : Request)
-    (by : ℕ) (old new : SharedState D) (t : Turned) (d : Decision)
-    → Decides tells seen_of request old d → TurnsTo d by old.history t new.history
+pub turns-by : {D : Type 0} (disks : DiskWords D) (request : Request) (by : ℕ)
+    (old new : SharedState D) (t : Turned) (d : Decision)
+    → Decides disks request old d → TurnsTo d by old.history t new.history
     → GoesOn old.desk.session d.accepted t.outcome (seen old.pass) (seen new.pass)
     → (d.accepted ≡ None → new.pass ≡ old.pass)
-    → TurnsBy tells seen_of request by old t new
-turns-by tells seen_of request by old new t d decides turns goes idle = record {
+    → TurnsBy disks request by old t new
+turns-by disks request by old new t d decides turns goes idle = record {
   now = decides.now;
   own = decides.own;
   met = rw decides.decides at turns.met;
@@ -151,13 +148,12 @@ turns-by tells seen_of request by old new t d decides turns goes idle = record {
 }
 
 -- a turn that makes the session accept nothing
-pub turns-by-quiet : {D : Type 0} (tells : D → Bool) (seen_of : D → List ℕ)
-    (request : Request) (by : ℕ) (old new : SharedState D) (t : Turned)
-    → Rests old new
-    → ((d : Decision) × Decides tells seen_of request old d × AcceptsNothing d t)
-    → TurnsBy tells seen_of request by old t new
-turns-by-quiet tells seen_of request by old new t rests (d, decides, quiet) =
-    turns-by tells seen_of request by old new t d decides
+pub turns-by-quiet : {D : Type 0} (disks : DiskWords D) (request : Request) (by : ℕ)
+    (old new : SharedState D) (t : Turned) → Rests old new
+    → ((d : Decision) × Decides disks request old d × AcceptsNothing d t)
+    → TurnsBy disks request by old t new
+turns-by-quiet disks request by old new t rests (d, decides, quiet) =
+    turns-by disks request by old new t d decides
     (rw rests.history (turns-quiet d by old.history t quiet))
     (rw rests.pass (goes-quiet d old.desk.session (seen old.pass) t quiet)) (λ e. rests.pass)
 
@@ -173,18 +169,18 @@ accepts_some : {P : Type 0} (d : Decision) (c : Command) → d.accepted ≡ Some
 accepts_some d c is e = absurd (let both = sym is ∙ e in cc)
 
 -- a turn of a command, behind the steps that leave the session
-pub turns-by-fresh : {D : Type 0} (tells : D → Bool) (seen_of : D → List ℕ)
-    (request : Request) (by : ℕ) (old mid new : SharedState D) (t : Turned)
-    → Rests old mid → Decides tells seen_of request old (decision_by_desk mid.desk request)
+pub turns-by-fresh : {D : Type 0} (disks : DiskWords D) (request : Request) (by : ℕ)
+    (old mid new : SharedState D) (t : Turned)
+    → Rests old mid → Decides disks request old (decision_by_desk mid.desk request)
     → TurnsTo (decision_by_desk mid.desk request) by mid.history t new.history
     → GoesOn mid.desk.session (decision_by_desk mid.desk request).accepted t.outcome
     (seen mid.pass) (seen new.pass)
     → AnswersFresh mid.desk request
-    → TurnsBy tells seen_of request by old t new
-turns-by-fresh tells seen_of request by old mid new t rests decides turns goes fresh =
+    → TurnsBy disks request by old t new
+turns-by-fresh disks request by old mid new t rests decides turns goes fresh =
     let session : mid.desk.session ≡ old.desk.session =
     ap (λ (d : DeskState). d.session) rests.desk in
-    turns-by tells seen_of request by old new t (decision_by_desk mid.desk request) decides
+    turns-by disks request by old new t (decision_by_desk mid.desk request) decides
     (rw rests.history at turns) (rw (rests.pass, session) at goes)
     (accepts_some (decision_by_desk mid.desk request) fresh.0 (ap (λ (d : Decision). d.accepted) fresh.2))
 

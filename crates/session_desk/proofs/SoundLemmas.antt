@@ -5,7 +5,8 @@ use Rattle.std.proofs.Common.{subst, ◌∙◌, append_assoc, arith}
 use Rattle.std.specs.Prelude.{OnErr, OnOk}
 use Rattle.std.specs.List.{Contains}
 use Rattle.std.proofs.lemmas.List.{append-nil}
-use Rattle.disk_model.specs.Disk.{EachImage, LeavesOnly, OnlyLooks, SameDisk}
+use Rattle.disk_model.specs.Work.{EachImage, LeavesOnly, OnlyLooks, SameDisk}
+use Rattle.disk_model.specs.declared.disk.Disk.{Ghosts as DiskWords}
 use Rattle.turn_cell.specs.declared.pass.Pass.{Pass}
 use Rattle.turn_cell.specs.Passes.{seen}
 use Rattle.gate_journal.specs.Rows.{is_open, commands_of}
@@ -54,8 +55,8 @@ rows_of-kept : (rows : List Row) → rows_of (rows_kept rows) ≡ rows
 rows_of-kept [] = refl
 rows_of-kept (r ∷ rows) = ap (λ (x : List Row). r ∷ x) (rows_of-kept rows)
 
-module _ {D : Type 0} {tells : D → Bool} {room label faults reach : D → ℕ} where
-  pub same-store : (store : Snapshots D) → IsSameStore tells room label faults reach store store
+module _ {D : Type 0} (disks : DiskWords D) where
+  pub same-store : (store : Snapshots D) → IsSameStore disks store store
   same-store store = record {
     same = record { telling = refl; size = refl; name = refl };
     counts = omega arith;
@@ -64,12 +65,10 @@ module _ {D : Type 0} {tells : D → Bool} {room label faults reach : D → ℕ}
   }
 
   pub store-kept : (old mid new : Snapshots D)
-      → IsSameStore tells room label faults reach old mid
-      → SameDisk tells room label mid.disk new.disk
-      → faults mid.disk ≤ faults new.disk
-      → reach new.disk ≤ max (reach mid.disk) 16781344
-      → new.made ≡ mid.made
-      → IsSameStore tells room label faults reach old new
+      → IsSameStore disks old mid → SameDisk disks mid.disk new.disk
+      → disks.faults mid.disk ≤ disks.faults new.disk
+      → disks.reach new.disk ≤ max (disks.reach mid.disk) 16781344 → new.made ≡ mid.made
+      → IsSameStore disks old new
   store-kept old mid new first same counts reaches made = record {
     same = record {
       telling = same.telling ∙ first.same.telling;
@@ -82,17 +81,15 @@ module _ {D : Type 0} {tells : D → Bool} {room label faults reach : D → ℕ}
   }
 
   pub still_tells : (old new : Snapshots D)
-      → IsSameStore tells room label faults reach old new
-      → IsTrue (tells old.disk) → IsTrue (tells new.disk)
+      → IsSameStore disks old new → IsTrue (disks.tells old.disk) → IsTrue (disks.tells new.disk)
   still_tells old new same told = subst (λ (t : Bool). IsTrue t) (sym same.same.telling) told
 
 -- ---- what holds of the fields
 
-module _ {D : Type 0} (tells : D → Bool) (seen_of : D → List ℕ) (moment : D → ℕ)
-    (left_since : D → ℕ → List ℕ → Type 0) (room label faults reach : D → ℕ) where
+module _ {D : Type 0} (disks : DiskWords D) where
   abbrev Whole : List Mark → Option ℕ → SharedState D → Type 0
   Whole l place state =
-      IsWhole tells seen_of moment left_since room label faults reach l place state
+      IsWhole disks l place state
 
   -- the state with another world held and other snapshots
   abbrev rested : SharedState D → Held → SavesState D → SharedState D
@@ -101,14 +98,12 @@ module _ {D : Type 0} (tells : D → Bool) (seen_of : D → List ℕ) (moment : 
   pub whole-rested : (l : List Mark) (place : Option ℕ) (old : SharedState D) (held : Held)
       (saves : SavesState D)
       → Whole l place old
-      → IsSameStore tells room label faults reach old.store saves.store
-      → (IsSoundDesk tells seen_of (desk_tag old)
-      → HoldsOwnWorld old.desk.stories (game old.desk) held)
-      → (IsSoundDesk tells seen_of (desk_tag old)
-      → IsAgreed seen_of old.desk.stories (open_rows old) (game old.desk) saves.store)
+      → IsSameStore disks old.store saves.store
+      → (IsSoundDesk disks (desk_tag old) → HoldsOwnWorld old.desk.stories (game old.desk) held)
+      → (IsSoundDesk disks (desk_tag old)
+      → IsAgreed disks.seen old.desk.stories (open_rows old) (game old.desk) saves.store)
       → AreKeptUp (rested old held saves)
-      → (IsSoundDesk tells seen_of (desk_tag old)
-      → KeepsFile moment left_since (rested old held saves))
+      → (IsSoundDesk disks (desk_tag old) → KeepsFile disks (rested old held saves))
       → Whole l place (rested old held saves)
   whole-rested l place old held saves w store holds agreed kept file = record {
     marked = record {
@@ -131,8 +126,7 @@ module _ {D : Type 0} (tells : D → Bool) (seen_of : D → List ℕ) (moment : 
       → Whole l place old
       → old.history ≡ commands_woven l old.desk.commands
       → desk ≡ record old.desk { held = held }
-      → (IsSoundDesk tells seen_of (desk_tag old)
-      → HoldsOwnWorld old.desk.stories (game old.desk) held)
+      → (IsSoundDesk disks (desk_tag old) → HoldsOwnWorld old.desk.stories (game old.desk) held)
       → Whole l place (record old { desk = desk; history = commands_woven l desk.commands })
   whole-held l place old desk held w weaves is holds =
       rw is (subst (λ (h : List Entry).
@@ -207,7 +201,7 @@ module _ {D : Type 0} (tells : D → Bool) (seen_of : D → List ℕ) (moment : 
               rw (
                 is,
                 ok,
-              ) (agreed-behind seen_of old.desk.stories places old.desk.commands c row
+              ) (agreed-behind disks.seen old.desk.stories places old.desk.commands c row
               (is_open c) old.saves.store refl did.opens.before o.agreed);
         };
         kept_up =
@@ -217,7 +211,7 @@ module _ {D : Type 0} (tells : D → Bool) (seen_of : D → List ℕ) (moment : 
             (w.kept_up (subst (λ (s : ℕ). commands_of old.rows s ≡ []) session none)));
         rows = more_behind old pass w behind;
         file =
-            λ sound. file-behind moment left_since old desk
+            λ sound. file-behind disks old desk
             (commands_woven m desk.commands) pass stories session w.rows behind
             (w.file (rw ok at sound));
       }
@@ -240,86 +234,83 @@ module _ {D : Type 0} (tells : D → Bool) (seen_of : D → List ℕ) (moment : 
             rw (is, err) (w.kept_up (subst (λ (s : ℕ). commands_of old.rows s ≡ []) session none));
         rows = more_behind old pass w behind;
         file =
-            λ sound. file-behind moment left_since old desk
+            λ sound. file-behind disks old desk
             (commands_woven m desk.commands) pass stories session w.rows behind
             (w.file (rw err at sound));
       }
 
   -- as a store was only looked at
-  pub whole-looked : (may_leave : D → List ℕ → Type 0)
-      (counts_now : (d : D) (t : ℕ) (c : List ℕ) → t ≤ moment d → may_leave d c
-      → left_since d t c)
-      (l : List Mark) (place : Option ℕ) (old : SharedState D) (held : Held) (saves : SavesState D)
-      → Whole l place old
-      → OnlyLooks tells may_leave moment left_since reach room label old.saves.store.disk
+  pub whole-looked :
+      (counts_now : (d : D) (t : ℕ) (c : List ℕ) → t ≤ disks.moment d → disks.may_leave d c
+      → disks.left_since d t c)
+      (l : List Mark) (place : Option ℕ) (old : SharedState D) (held : Held)
+      (saves : SavesState D) → Whole l place old → OnlyLooks disks old.saves.store.disk
       saves.store.disk
-      → faults old.saves.store.disk ≤ faults saves.store.disk
-      → ((side : Side) → IsTrue (tells old.saves.store.disk)
-      → store_area seen_of saves.store side ≡ store_area seen_of old.saves.store side)
+      → disks.faults old.saves.store.disk ≤ disks.faults saves.store.disk
+      → ((side : Side) → IsTrue (disks.tells old.saves.store.disk)
+      → store_area disks.seen saves.store side ≡ store_area disks.seen old.saves.store side)
       → saves.store.made ≡ old.saves.store.made
       → saves.store.slots ≡ old.saves.store.slots
       → saves.missed ≡ old.saves.missed
-      → (IsSoundDesk tells seen_of (desk_tag old)
-      → HoldsOwnWorld old.desk.stories (game old.desk) held)
+      → (IsSoundDesk disks (desk_tag old) → HoldsOwnWorld old.desk.stories (game old.desk) held)
       → Whole l place (rested old held saves)
-  whole-looked may_leave counts_now l place old held saves w looks counts areas
+  whole-looked counts_now l place old held saves w looks counts areas
       made slots missed holds =
       whole-rested l place old held saves w
-      (store-kept old.store old.saves.store saves.store w.store looks.same counts
+      (store-kept disks old.store old.saves.store saves.store w.store looks.same counts
       (let asked = looks.asked in omega (arith, asked)) made)
       holds
       (λ sound side area e. (w.own sound).agreed side area
       (sym (areas side
-      (still_tells old.store old.saves.store w.store sound.0))
-      ∙ e))
+      (still_tells disks old.store old.saves.store w.store sound.0)) ∙ e))
       (λ none place last. rw (slots, missed) (w.kept_up none place last))
-      (λ sound. file-looked moment left_since may_leave counts_now old held saves
-      (looks.moments (still_tells old.store old.saves.store w.store sound.0)) slots (w.file sound))
+      (λ sound. file-looked disks counts_now old held saves
+      (looks.moments (still_tells disks old.store old.saves.store w.store
+      sound.0)) slots (w.file sound))
 
   -- as a snapshot was kept
   pub whole-kept : (l : List Mark) (place : Option ℕ) (old : SharedState D) (saves : SavesState D)
       → Whole l place old
-      → SameDisk tells room label old.saves.store.disk saves.store.disk
+      → SameDisk disks old.saves.store.disk saves.store.disk
       × (saves.store.made ≡ old.saves.store.made)
-      → faults old.saves.store.disk ≤ faults saves.store.disk
-      → reach saves.store.disk ≤ max (reach old.saves.store.disk) 16781344
+      → disks.faults old.saves.store.disk ≤ disks.faults saves.store.disk
+      → disks.reach saves.store.disk ≤ max (disks.reach old.saves.store.disk) 16781344
       → (row count : ℕ) (world : WorldState) → place ≡ Some row
       → count ≡ length (inputs_of (game old.desk))
       → old.desk.held ≡ Current world
       → (IsKeptUp row count old.saves.store.slots old.saves.missed
       → IsKeptUp row count saves.store.slots saves.missed)
       → ((stories : List Story) (rows : List ℕ) (g : List Command)
-      → IsTrue (tells old.saves.store.disk)
+      → IsTrue (disks.tells old.saves.store.disk)
       → last_row rows ≡ Some row → length (inputs_of g) ≡ count
       → world_of stories g ≡ Some world
-      → IsAgreed seen_of stories rows g old.saves.store
-      → IsAgreed seen_of stories rows g saves.store)
-      → (IsTrue (tells old.saves.store.disk)
-      → LeavesOnly moment left_since old.saves.store.disk saves.store.disk
-      (MayStandMeanwhile seen_of world row count old.saves.store))
+      → IsAgreed disks.seen stories rows g old.saves.store
+      → IsAgreed disks.seen stories rows g saves.store) → (IsTrue (disks.tells old.saves.store.disk)
+      → LeavesOnly disks old.saves.store.disk saves.store.disk
+      (MayStandMeanwhile disks.seen world row count old.saves.store))
       → ((stories : List Story) (rows : List ℕ) (g : List Command) (least : ℕ)
-      → IsTrue (tells old.saves.store.disk)
-      → ((x : ℕ) → Contains rows x → x ≤ row)
-      → IsAgreed seen_of stories rows g old.saves.store
+      → IsTrue (disks.tells old.saves.store.disk) → ((x : ℕ) → Contains rows x → x ≤ row)
+      → IsAgreed disks.seen stories rows g old.saves.store
       → HasSince row least old.saves.store.slots
-      → KeepsOpen moment left_since row least old.saves.store saves.store)
+      → KeepsOpen disks row least old.saves.store saves.store)
       → Whole l place (record old { saves = saves })
   whole-kept l place old saves w same counts reaches row count world at counted held keeps agrees
       crash newest =
       whole-rested l place old old.desk.held saves w
-      (store-kept old.store old.saves.store saves.store w.store same.0 counts reaches same.1)
+      (store-kept disks old.store old.saves.store saves.store w.store same.0 counts reaches same.1)
       (λ sound. (w.own sound).holds)
       (λ sound. let o = w.own sound in
       agrees old.desk.stories (open_rows old) (game old.desk)
-      (still_tells old.store old.saves.store w.store sound.0)
+      (still_tells disks old.store old.saves.store w.store sound.0)
       (sym w.row ∙ at) (sym counted) (rw held at o.holds) o.agreed)
       (λ none p last. let both = sym last ∙ sym w.row ∙ at in
       let same_row : p ≡ row = cc in
       let before = w.kept_up none p last in
       rw (same_row, sym counted) (keeps (rw (same_row, sym counted) at before)))
       (λ sound. let o = w.own sound in
-      let told = still_tells old.store old.saves.store w.store sound.0 in
-      let f = file-kept moment left_since seen_of old saves row count world
+      let told = still_tells disks old.store old.saves.store w.store
+      sound.0 in
+      let f = file-kept disks old saves row count world
       (rows-seen l old.desk old.pass w.marked) (sym w.row ∙ at) counted (rw held at o.holds)
       o.agreed (crash told)
       (λ least last has. newest old.desk.stories (open_rows old) (game old.desk) least told last
@@ -327,26 +318,27 @@ module _ {D : Type 0} (tells : D → Bool) (seen_of : D → List ℕ) (moment : 
       record { agreed = f.agreed; newest = f.newest })
 
   -- as a desk was opened
-  pub whole-opened : (may_leave : D → List ℕ → Type 0)
-      (only_now : (d : D) (c : List ℕ) → left_since d (moment d) c → may_leave d c)
-      (l : List Mark) (s : ℕ) (stories : List Story) (budget : ℕ)
-      (rows : List Row) (pass : Pass (Log D) JournalEntry) (store : Snapshots D)
+  pub whole-opened :
+      (only_now : (d : D) (c : List ℕ) → disks.left_since d (disks.moment d) c
+      → disks.may_leave d c)
+      (l : List Mark) (s : ℕ) (stories : List Story) (budget : ℕ) (rows : List Row)
+      (pass : Pass (Log D) JournalEntry) (store : Snapshots D)
       → IsMarked l (cold_desk s stories budget (commands_of rows s)) pass
       → seen pass ≡ rows_kept rows
-      → EachImage tells may_leave store.disk (IsImageOf seen_of store)
+      → EachImage disks store.disk (IsImageOf disks.seen store)
       → Whole l (last_row (opens_of rows s)) (as_opened s stories budget rows pass store)
-  whole-opened may_leave only_now l s stories budget rows pass store marked saw are =
+  whole-opened only_now l s stories budget rows pass store marked saw are =
       let same : rows_of (seen pass) ≡ rows = ap rows_of saw ∙ rows_of-kept rows in
       record {
         marked = marked;
         row = ap (λ (x : List Row). last_row (opens_of x s)) (sym same);
-        store = same-store store;
+        store = same-store disks store;
         own =
             λ sound. record {
               holds = tt;
               agreed =
                   subst (λ (x : List Row).
-                  IsAgreed seen_of stories (opens_of x s) (game_of (commands_of rows s)) store)
+                  IsAgreed disks.seen stories (opens_of x s) (game_of (commands_of rows s)) store)
                   (sym same) sound.1;
             };
         kept_up =
@@ -356,26 +348,26 @@ module _ {D : Type 0} (tells : D → Bool) (seen_of : D → List ℕ) (moment : 
             cc);
         rows = ([], same ∙ sym (append-nil rows));
         file =
-            λ sound. file-opened moment left_since tells may_leave seen_of s stories budget rows
+            λ sound. file-opened disks s stories budget rows
             pass store only_now same are sound.0 sound.1;
       }
 
-  pub whole-open : (may_leave : D → List ℕ → Type 0)
-      (only_now : (d : D) (c : List ℕ) → left_since d (moment d) c → may_leave d c)
-      (l : List Mark) (place : Option ℕ) (desk : DeskState) (s : ℕ)
-      (stories : List Story) (budget : ℕ) (rows : List Row) (pass : Pass (Log D) JournalEntry)
-      (saves : SavesState D) (given : Snapshots D) (first : Pass (Log D) JournalEntry)
-      (store : Snapshots D)
+  pub whole-open :
+      (only_now : (d : D) (c : List ℕ) → disks.left_since d (disks.moment d) c
+      → disks.may_leave d c)
+      (l : List Mark) (place : Option ℕ) (desk : DeskState) (s : ℕ) (stories : List Story)
+      (budget : ℕ) (rows : List Row) (pass : Pass (Log D) JournalEntry) (saves : SavesState D)
+      (given : Snapshots D) (first : Pass (Log D) JournalEntry) (store : Snapshots D)
       → l ≡ replicate (length desk.commands) (marks.Accepted 0)
       → desk ≡ cold_desk s stories budget (commands_of rows s)
       → IsPassOf s pass → seen pass ≡ rows_kept rows
       → place ≡ last_row (opens_of rows s)
       → saves ≡ own.saves_of_opened_store store → given ≡ store
       → first ≡ pass
-      → EachImage tells may_leave store.disk (IsImageOf seen_of store)
+      → EachImage disks store.disk (IsImageOf disks.seen store)
       → Whole l place (state_of desk l pass saves given first)
       × (state_of desk l pass saves given first ≡ as_opened s stories budget rows pass store)
-  whole-open may_leave only_now l place desk s stories budget rows pass saves given first store
+  whole-open only_now l place desk s stories budget rows pass saves given first store
       all has of saw lies clear is was are =
       let m = marked-opened l desk s stories budget rows pass all has of saw in
       let opened : rows_of (seen first) ≡ rows =
@@ -385,18 +377,16 @@ module _ {D : Type 0} (tells : D → Bool) (seen_of : D → List ℕ) (moment : 
       ≡ as_opened s stories budget rows pass store =
       rw (m.1, has, clear, is, opened) refl in (
         subst (λ (x : SharedState D). Whole l place x) (sym same)
-            (rw lies (whole-opened may_leave only_now l s stories budget rows pass store
+            (rw lies (whole-opened only_now l s stories budget rows pass store
             (subst (λ (d : DeskState). IsMarked l d pass) has m.0) saw are)),
         same,
       )
 
   -- what is left of the store
-  pub ends_store : (may_leave : D → List ℕ → Type 0) (l : List Mark) (place : Option ℕ)
-      (old : SharedState D)
-      → Whole l place old
-      → EachImage tells may_leave old.saves.store.disk (IsImageOf seen_of old.saves.store)
-      → EndsStore tells may_leave seen_of moment left_since room label faults reach old
-  ends_store may_leave l place old w images = record {
+  pub ends_store : (l : List Mark) (place : Option ℕ) (old : SharedState D) → Whole l place old
+      → EachImage disks old.saves.store.disk (IsImageOf disks.seen old.saves.store)
+      → EndsStore disks old
+  ends_store l place old w images = record {
     store = w.store;
     agreed =
         λ sound told image may side area e.

@@ -1,7 +1,8 @@
 -- A command that a desk commits to a journal (own).
-use Rattle.std.specs.Prelude.{◌≡◌, ◌⊎◌, ℕ, Bool, IsTrue, List, [], ◌∷◌, ◌++◌}
+use Rattle.std.specs.Prelude.{◌≡◌, ◌⊎◌, ℕ, IsTrue, List, [], ◌∷◌, ◌++◌}
 use Rattle.std.specs.Prelude.{length, Result, Ok, Err, Some, None, OnErr, OnOk}
-use Rattle.disk_model.specs.Disk.{LeavesOnly}
+use Rattle.disk_model.specs.Work.{LeavesOnly}
+use Rattle.disk_model.specs.declared.disk.Disk.{Ghosts as DiskWords}
 use Rattle.gate_journal.specs.Command.{IsCommand}
 use Rattle.gate_journal.specs.Faults.{IsFault}
 use Rattle.gate_journal.specs.Log.{Log, rows_of, next_row, Meanwhile, SameLog}
@@ -68,11 +69,9 @@ WhereBegun (Err NoMemory) P = Unit {0}
 -- the new one.
 abbrev pub StopLeaves :
     {D : Type 0}
-    → (D → Bool) → (D → ℕ) → (D → ℕ → List ℕ → Type 0)
-    → ℕ → Command → Log D → Log D → Type 0
-StopLeaves tells moment left_since session command old new =
-    IsTrue (tells old.disk)
-    → LeavesOnly moment left_since old.disk new.disk
+    → DiskWords D → ℕ → Command → Log D → Log D → Type 0
+StopLeaves disks session command old new =
+    IsTrue (disks.tells old.disk) → LeavesOnly disks old.disk new.disk
     (Meanwhile (rows_of old.entries) old.uncertain
     (next_row (rows_of old.entries) session command))
 

@@ -1,5 +1,6 @@
 -- When a desk's snapshot is due, and what becomes of it; and how a desk is made warm (own).
-use Rattle.std.specs.Prelude.{◌≡◌, ◌⊎◌, ℕ, Bool, false, List, length, Option, Some}
+use Rattle.std.specs.Prelude.{◌≡◌, ◌⊎◌, ℕ, Bool, false, length, Option, Some}
+use Rattle.disk_model.specs.declared.disk.Disk.{Ghosts as DiskWords}
 use Rattle.story_run.specs.World.{WorldState}
 use Rattle.session_saves.specs.Agreement.{last_row}
 use Rattle.session_saves.specs.Game.{inputs_of}
@@ -24,36 +25,26 @@ snapshot_due state =
 
 -- the snapshot of the world that is held was put into the store, or was missed and counted exactly
 pub record KeepsSnapshot
-    {D : Type 0}
-    (tells : D → Bool)
-    (may_leave : D → List ℕ → Type 0)
-    (faults : D → ℕ)
-    (old new : SharedState D) : Type 0 where
+    {D : Type 0} (disks : DiskWords D) (old new : SharedState D) : Type 0 where
   pub world : WorldState
   pub held : old.desk.held ≡ Current world
   pub place : ℕ
   pub row : last_row (open_rows old) ≡ Some place
   pub came :
-      IsPut tells may_leave faults world place (length (inputs_of (game old.desk)))
-      old.saves new.saves
-      ⊎ IsMissed faults world place (length (inputs_of (game old.desk))) old.saves new.saves
+      IsPut disks world place (length (inputs_of (game old.desk))) old.saves new.saves
+      ⊎ IsMissed disks.faults world place (length (inputs_of (game old.desk))) old.saves new.saves
   pub exact :
       CountsExactly world place (length (inputs_of (game old.desk))) old.saves new.saves
 
 -- the desk was made warm: with a world of an area of the last OPEN row, or from the start, and with
 -- the inputs behind that
 pub record IsWarmed
-    {D : Type 0}
-    (tells : D → Bool)
-    (seen_of : D → List ℕ)
-    (faults : D → ℕ)
-    (old new : SharedState D)
-    (before after : ℕ) : Type 0 where
+    {D : Type 0} (disks : DiskWords D) (old new : SharedState D) (before after : ℕ) : Type 0 where
   pub world : WorldState
   pub holds : new.desk ≡ warmed old.desk world
   pub place : ℕ
   pub row : last_row (open_rows old) ≡ Some place
   pub warms :
-      WarmsFrom (tells old.saves.store.disk) (seen_of old.saves.store.disk) place
-      (faults old.saves.store.disk) (faults new.saves.store.disk)
+      WarmsFrom (disks.tells old.saves.store.disk) (disks.seen old.saves.store.disk) place
+      (disks.faults old.saves.store.disk) (disks.faults new.saves.store.disk)
       old.desk.stories (game old.desk) (Some world) before after

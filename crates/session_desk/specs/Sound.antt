@@ -1,7 +1,8 @@
 -- A sound desk answers as a session that is played from the start (own).
-use Rattle.std.specs.Prelude.{◌≡◌, ◌≤◌, ℕ, max, Bool, IsTrue, List, length, [], ◌++◌}
+use Rattle.std.specs.Prelude.{◌≡◌, ◌≤◌, ℕ, max, IsTrue, List, length, [], ◌++◌}
 use Rattle.std.specs.Prelude.{Option, Some, None}
-use Rattle.disk_model.specs.Disk.{EachImage, LeavesOnly, SameDisk}
+use Rattle.disk_model.specs.Work.{EachImage, LeavesOnly, SameDisk}
+use Rattle.disk_model.specs.declared.disk.Disk.{Ghosts as DiskWords}
 use Rattle.turn_cell.specs.Passes.{seen}
 use Rattle.gate_journal.specs.Log.{rows_of}
 use Rattle.gate_journal.specs.Rows.{IsJournal, commands_of}
@@ -25,10 +26,10 @@ use Rattle.session_desk.specs.Shared.{DeskTag, desk_tag, GoesOn, IsMarked, Share
 
 -- a desk is sound where its store's disk tells its bytes, and as the desk was opened the store's
 -- areas agreed with the journal's rows
-abbrev pub IsSoundDesk : {D : Type 0} → (D → Bool) → (D → List ℕ) → DeskTag D → Type 0
-IsSoundDesk tells seen_of tag =
-    IsTrue (tells tag.store.disk)
-    × IsAgreed seen_of tag.stories (opens_of tag.rows tag.session)
+abbrev pub IsSoundDesk : {D : Type 0} → DiskWords D → DeskTag D → Type 0
+IsSoundDesk disks tag =
+    IsTrue (disks.tells tag.store.disk)
+    × IsAgreed disks.seen tag.stories (opens_of tag.rows tag.session)
     (game_of (commands_of tag.rows tag.session)) tag.store
 
 -- the places of the session's OPEN rows in what its desk has seen of the journal
@@ -45,13 +46,10 @@ pub record IsOwnState {D : Type 0} (seen_of : D → List ℕ) (state : SharedSta
 -- what became of a store: it is on the same disk, which wasn't written farther than the end of the
 -- longest area of B
 pub record IsSameStore
-    {D : Type 0}
-    (tells : D → Bool)
-    (room label faults reach : D → ℕ)
-    (old new : Snapshots D) : Type 0 where
-  pub same : SameDisk tells room label old.disk new.disk
-  pub counts : faults old.disk ≤ faults new.disk
-  pub reaches : reach new.disk ≤ max (reach old.disk) 16781344
+    {D : Type 0} (disks : DiskWords D) (old new : Snapshots D) : Type 0 where
+  pub same : SameDisk disks old.disk new.disk
+  pub counts : disks.faults old.disk ≤ disks.faults new.disk
+  pub reaches : disks.reach new.disk ≤ max (disks.reach old.disk) 16781344
   pub made : new.made ≡ old.made
 
 -- while nothing was missed, on a desk whose session had no command as it was opened, the snapshots
@@ -67,69 +65,47 @@ AreKeptUp state =
 -- opened agrees with the first of the rows that its pass has seen of the journal. While no OPEN
 -- comes, an open area of the session's last game is never lost.
 pub record KeepsFile
-    {D : Type 0}
-    (moment : D → ℕ)
-    (left_since : D → ℕ → List ℕ → Type 0)
-    (state : SharedState D) : Type 0 where
+    {D : Type 0} (disks : DiskWords D) (state : SharedState D) : Type 0 where
   pub agreed :
-      LeavesOnly moment left_since state.store.disk state.saves.store.disk
+      LeavesOnly disks state.store.disk state.saves.store.disk
       (AgreesWithBeginning state.desk.stories (rows_of (seen state.pass)) state.desk.session)
   pub newest :
       IsJournal (rows_of (seen state.pass))
       → open_rows state ≡ opens_of state.rows state.desk.session
       → (place least : ℕ) → last_row (open_rows state) ≡ Some place
       → HasSince place least state.store.slots
-      → KeepsOpen moment left_since place least state.store state.saves.store
+      → KeepsOpen disks place least state.store state.saves.store
 
 -- what holds of each desk, with its marks and the place of its session's last OPEN row
 pub record IsWhole
-    {D : Type 0}
-    (tells : D → Bool)
-    (seen_of : D → List ℕ)
-    (moment : D → ℕ)
-    (left_since : D → ℕ → List ℕ → Type 0)
-    (room label faults reach : D → ℕ)
-    (marks : List Mark)
-    (place : Option ℕ)
+    {D : Type 0} (disks : DiskWords D) (marks : List Mark) (place : Option ℕ)
     (state : SharedState D) : Type 0 where
   pub marked : IsMarked marks state.desk state.pass
   pub row : place ≡ last_row (open_rows state)
-  pub store : IsSameStore tells room label faults reach state.store state.saves.store
-  pub own : IsSoundDesk tells seen_of (desk_tag state) → IsOwnState seen_of state
+  pub store : IsSameStore disks state.store state.saves.store
+  pub own : IsSoundDesk disks (desk_tag state) → IsOwnState disks.seen state
   pub kept_up : AreKeptUp state
   -- the journal's rows go on from those of the opening
   pub rows : (more : List Row) × (rows_of (seen state.pass) ≡ state.rows ++ more)
-  pub file : IsSoundDesk tells seen_of (desk_tag state) → KeepsFile moment left_since state
+  pub file : IsSoundDesk disks (desk_tag state) → KeepsFile disks state
 
 -- The session decides so on a request by a world `now`, which is its own where the desk is sound.
 pub record Decides
-    {D : Type 0}
-    (tells : D → Bool)
-    (seen_of : D → List ℕ)
-    (request : Request)
-    (old : SharedState D)
+    {D : Type 0} (disks : DiskWords D) (request : Request) (old : SharedState D)
     (decision : Decision) : Type 0 where
   pub now : Option WorldState
   pub own :
-      IsSoundDesk tells seen_of (desk_tag old)
-      → now ≡ world_of old.desk.stories (game_of old.desk.commands)
+      IsSoundDesk disks (desk_tag old) → now ≡ world_of old.desk.stories (game_of old.desk.commands)
   pub decides : decision ≡ answer_in old.desk.stories old.desk.commands now request
 
 -- The turn of a session on a request, by what it met. It is made on a world `now`, which is the
 -- session's own where the desk is sound.
 pub record TurnsBy
-    {D : Type 0}
-    (tells : D → Bool)
-    (seen_of : D → List ℕ)
-    (request : Request)
-    (by : ℕ)
-    (old : SharedState D)
-    (turned : Turned)
-    (new : SharedState D) : Type 0 where
+    {D : Type 0} (disks : DiskWords D) (request : Request) (by : ℕ) (old : SharedState D)
+    (turned : Turned) (new : SharedState D) : Type 0 where
   pub now : Option WorldState
   pub own :
-      IsSoundDesk tells seen_of (desk_tag old)
-      → now ≡ world_of old.desk.stories (game_of old.desk.commands)
+      IsSoundDesk disks (desk_tag old) → now ≡ world_of old.desk.stories (game_of old.desk.commands)
   pub met :
       MayMeet (answer_in old.desk.stories old.desk.commands now request).accepted
       turned.outcome
@@ -157,17 +133,9 @@ pub record TurnsBy
 -- What a desk leaves of its store: the disk that it was given, and, where the desk is sound, images
 -- that agree with the session's commands, now and at each moment since it was opened.
 pub record EndsStore
-    {D : Type 0}
-    (tells : D → Bool)
-    (may_leave : D → List ℕ → Type 0)
-    (seen_of : D → List ℕ)
-    (moment : D → ℕ)
-    (left_since : D → ℕ → List ℕ → Type 0)
-    (room label faults reach : D → ℕ)
-    (state : SharedState D) : Type 0 where
-  pub store : IsSameStore tells room label faults reach state.store state.saves.store
+    {D : Type 0} (disks : DiskWords D) (state : SharedState D) : Type 0 where
+  pub store : IsSameStore disks state.store state.saves.store
   pub agreed :
-      IsSoundDesk tells seen_of (desk_tag state)
-      → EachImage tells may_leave state.saves.store.disk
+      IsSoundDesk disks (desk_tag state) → EachImage disks state.saves.store.disk
       (IsAgreedFile state.desk.stories (open_rows state) (game state.desk))
-  pub file : IsSoundDesk tells seen_of (desk_tag state) → KeepsFile moment left_since state
+  pub file : IsSoundDesk disks (desk_tag state) → KeepsFile disks state

@@ -2,7 +2,7 @@
 
 ghost use Rattle.std.specs.Prelude.{◌≡◌, ◌+◌, ◌<◌, ◌≤◌, ◌++◌, ◌∷◌, [], Some, None, IfOk, IfErr};
 ghost use Rattle.std.specs.Prelude.{OnOk, IsSome, max, MatchResult, length, vec_len, vec_capacity};
-ghost use Rattle.disk_model.specs.Disk.{SameDisk};
+ghost use Rattle.disk_model.specs.Work.{SameDisk};
 ghost use Rattle.gate_journal.specs.Command.{IsCommand};
 ghost use Rattle.gate_journal.specs.Log.{rows_of, next_row};
 ghost use Rattle.gate_journal.specs.Rows.{MayStand, journal_bytes};
@@ -74,10 +74,10 @@ pub fn write_down<D: Disk>(
         (λ _. rows_of journal.new.entries ≡ rows_of journal.old.entries
         ++ next_row (rows_of journal.old.entries) session command.now ∷ [])
         (λ _. rows_of journal.new.entries ≡ rows_of journal.old.entries) }
-    ensures kept { SameDisk D.tells D.room D.label journal.old.disk journal.new.disk
+    ensures kept { SameDisk D.Disk journal.old.disk journal.new.disk
         × (journal.new.opening ≡ journal.old.opening) }
     ensures crash { WhereBegun result
-        (StopLeaves D.tells D.moment D.left_since session command.now journal.old journal.new) }
+        (StopLeaves D.Disk session command.now journal.old journal.new) }
     ensures certain { OnOk result (journal.new.uncertain ≡ None) }
     ensures gate { IfErr result (λ why.
         LeavesGate session command.now journal.old journal.new why) }

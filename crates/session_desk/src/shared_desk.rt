@@ -2,7 +2,8 @@
 
 ghost use Rattle.std.specs.Prelude.{◌≡◌, ◌≤◌, ◌<◌, length, IsTrue, IfOk, OnOk, OnErr};
 ghost use Rattle.std.specs.Prelude.{MatchOption, ⊤, ◌+◌, true, false, max, ℕ, [], Some};
-ghost use Rattle.disk_model.specs.Disk.{LeavesOnly, OnlyLooks, Rose};
+ghost use Rattle.disk_model.specs.Disk.{Rose};
+ghost use Rattle.disk_model.specs.Work.{LeavesOnly, OnlyLooks};
 ghost use Rattle.turn_cell.specs.Passes.{seen};
 ghost use Rattle.gate_journal.specs.Log.{rows_kept};
 ghost use Rattle.gate_journal.specs.Rows.{commands_of};
@@ -71,8 +72,7 @@ impl<'i, D: Disk> Model for SharedDesk<'i, D> {
 
     ghost view = { λ d. state_of d.desk d.marks.items d.pass d.saves d.store.value d.first.value };
 
-    ghost invariant = { λ d. IsWhole D.tells D.seen D.moment D.left_since
-        D.room D.label D.faults D.reach d.marks.items d.place
+    ghost invariant = { λ d. IsWhole D.Disk d.marks.items d.place
         (state_of d.desk d.marks.items d.pass d.saves d.store.value d.first.value) };
 }
 
@@ -157,7 +157,7 @@ impl<'i, D: Disk + Drop> SharedDesk<'i, D> {
         ensures cold { result ≡ Cold → IsTrue (is_cold self.now.desk) }
 
         // a sound desk holds the session's own world
-        ensures own { IsSoundDesk D.tells D.seen (desk_tag self.now)
+        ensures own { IsSoundDesk D.Disk (desk_tag self.now)
             → HoldsOwnWorld self.now.desk.stories (game self.now.desk) self.now.desk.held }
     {
         self.desk.check(request)
@@ -169,14 +169,14 @@ impl<'i, D: Disk + Drop> SharedDesk<'i, D> {
         requires cold { IsTrue (is_cold self.old.desk) }
         requires story { is_other_story self.old.desk.stories (game self.old.desk) ≡ false }
         ensures found { OnOk result
-            (IsWarmed D.tells D.seen D.faults self.old self.new steps.old steps.new) }
+            (IsWarmed D.Disk self.old self.new steps.old steps.new) }
 
         // on a sound desk it is the session's own world, and the inputs behind the newest area are
         // all that is played
-        ensures own { IsSoundDesk D.tells D.seen (desk_tag self.old)
+        ensures own { IsSoundDesk D.Disk (desk_tag self.old)
             → HoldsOwnWorld self.new.desk.stories (game self.new.desk) self.new.desk.held }
         ensures cost { (place : ℕ)
-            → IsSoundDesk D.tells D.seen (desk_tag self.old)
+            → IsSoundDesk D.Disk (desk_tag self.old)
             → (Rose (D.faults self.old.saves.store.disk) (D.faults self.new.saves.store.disk)
             → ⊥)
             → last_row (open_rows self.old) ≡ Some place
@@ -188,8 +188,7 @@ impl<'i, D: Disk + Drop> SharedDesk<'i, D> {
         ensures err { OnErr result (self.new.desk ≡ self.old.desk) }
         ensures rests { Rests self.old self.new }
         ensures counts { D.faults self.old.saves.store.disk ≤ D.faults self.new.saves.store.disk }
-        ensures looks { OnlyLooks D.tells D.may_leave D.moment D.left_since D.reach D.room D.label
-            self.old.saves.store.disk self.new.saves.store.disk }
+        ensures looks { OnlyLooks D.Disk self.old.saves.store.disk self.new.saves.store.disk }
         ensures slots { (self.new.saves.store.slots ≡ self.old.saves.store.slots)
             × (self.new.saves.missed ≡ self.old.saves.missed)
             × (self.new.saves.last ≡ self.old.saves.last) }
@@ -232,7 +231,7 @@ impl<'i, D: Disk + Drop> SharedDesk<'i, D> {
     pub fn keep(&mut self, alloc: Global)
         ensures idle { snapshot_due self.old ≡ false → self.new ≡ self.old }
         ensures ok { snapshot_due self.old ≡ true
-            → KeepsSnapshot D.tells D.may_leave D.faults self.old self.new }
+            → KeepsSnapshot D.Disk self.old self.new }
         ensures due { snapshot_due self.new ≡ false }
         ensures kept { self.new ≡ record self.old { saves = self.new.saves } }
 
@@ -241,7 +240,7 @@ impl<'i, D: Disk + Drop> SharedDesk<'i, D> {
             → self.old.desk.held ≡ Current world
             → last_row (open_rows self.old) ≡ Some place
             → IsTrue (D.tells self.old.saves.store.disk)
-            → LeavesOnly D.moment D.left_since self.old.saves.store.disk self.new.saves.store.disk
+            → LeavesOnly D.Disk self.old.saves.store.disk self.new.saves.store.disk
             (MayStandMeanwhile D.seen world place (length (inputs_of (game self.old.desk)))
             self.old.saves.store) }
 
@@ -289,8 +288,7 @@ impl<'i, D: Disk + Drop> SharedDesk<'i, D> {
     pub fn into_parts(self) -> (Pass<Journal<D>>, Store<D>)
         ensures value { result ≡ (self.entry.pass, self.entry.saves.store) }
         ensures shared { IsShared self.entry }
-        ensures store { EndsStore D.tells D.may_leave D.seen D.moment D.left_since
-            D.room D.label D.faults D.reach self.entry }
+        ensures store { EndsStore D.Disk self.entry }
     {
         let SharedDesk {
             desk: _,

@@ -1,8 +1,9 @@
 -- What a put leaves of a store: its areas, its images, and how far it writes.
-use Rattle.std.proofs.Common.{◌≡◌, ◌⊎◌, ◌∙◌, ◌+◌, ◌≤◌, ℕ, Bool, List, max, length, Option, Some}
+use Rattle.std.proofs.Common.{◌≡◌, ◌⊎◌, ◌∙◌, ◌+◌, ◌≤◌, ℕ, List, max, length, Option, Some}
 use Rattle.std.proofs.Common.{None, inl, inr, true, false, sym, ap, subst, arith}
 use Rattle.std.specs.Prelude.{IsTrue}
-use Rattle.disk_model.specs.Disk.{EachImage, LeavesOnly}
+use Rattle.disk_model.specs.Work.{EachImage, LeavesOnly}
+use Rattle.disk_model.specs.declared.disk.Disk.{Ghosts as DiskWords}
 use Rattle.disk_model.proofs.Moments.{started, weaker}
 use Rattle.story_run.specs.World.{WorldState}
 use Rattle.story_snap.specs.Bytes.{HasBytes}
@@ -73,34 +74,31 @@ adds_only seen world place count bytes old new has left beside side area e =
 
 -- ---- its images
 
-module _ {D : Type 0} (tells : D → Bool) (may_leave : D → List ℕ → Type 0) (moment : D
-    → ℕ) (left_since : D → ℕ → List ℕ → Type 0) (seen : D → List ℕ) where
-  pub untouched : ((d : D) (c : List ℕ) → left_since d (moment d) c → may_leave d c)
+module _ {D : Type 0} (disks : DiskWords D) where
+  pub untouched : ((d : D) (c : List ℕ) → disks.left_since d (disks.moment d) c
+      → disks.may_leave d c)
       → (world : WorldState) (place count : ℕ) (store : Snapshots D)
-      → EachImage tells may_leave store.disk (IsImageOf seen store) → IsTrue (tells store.disk)
-      → LeavesOnly moment left_since store.disk store.disk
-      (MayStandMeanwhile seen world place count store)
+      → EachImage disks store.disk (IsImageOf disks.seen store) → IsTrue (disks.tells store.disk)
+      → LeavesOnly disks store.disk store.disk
+      (MayStandMeanwhile disks.seen world place count store)
   untouched only_now world place count store images told =
-      started moment left_since store.disk (MayStandMeanwhile seen world place count store)
+      started disks store.disk (MayStandMeanwhile disks.seen world place count store)
       (λ c left. inl (images told c (only_now store.disk c left)))
 
   pub put_crash : (world : WorldState) (place count : ℕ) (bytes : List ℕ) (old : Snapshots D)
       (new : D) → HasBytes world.image bytes world
-      → LeavesOnly moment left_since old.disk new
-      (IsPutImage seen old (area_with place count bytes))
-      → LeavesOnly moment left_since old.disk new (MayStandMeanwhile seen world place count old)
+      → LeavesOnly disks old.disk new (IsPutImage disks.seen old (area_with place count bytes))
+      → LeavesOnly disks old.disk new (MayStandMeanwhile disks.seen world place count old)
   put_crash world place count bytes old new has leaves =
-      weaker moment left_since old.disk new (IsPutImage seen old (area_with place count bytes))
-      (MayStandMeanwhile seen world place count old) leaves
-      (λ c put. inr (bytes, has, put))
+      weaker disks old.disk new (IsPutImage disks.seen old (area_with place count bytes))
+      (MayStandMeanwhile disks.seen world place count old) leaves (λ c put. inr (bytes, has, put))
 
 -- ---- what is stored
 
-pub put_stored : {D : Type 0} (tells : D → Bool) (may_leave : D → List ℕ → Type 0) (faults : D
-    → ℕ) (world : WorldState) (place count : ℕ) (old new : Snapshots D)
-    → PutsWorld tells may_leave faults world place count old new
+pub put_stored : {D : Type 0} (disks : DiskWords D) (world : WorldState) (place count : ℕ)
+    (old new : Snapshots D) → PutsWorld disks world place count old new
     → is_stored place count new.slots ≡ true
-put_stored tells may_leave faults world place count old new puts =
+put_stored disks world place count old new puts =
     ap (λ (s : Slots). is_stored place count s) puts.slots
     ∙ stored_with old.slots (taken_side old.slots) place count
 
@@ -117,7 +115,7 @@ not_long world bytes long one fits is =
     ap (λ (l : List ℕ). length l) (one world.image bytes long world fits.of_world is.of_world) in
     omega (arith, fits.short, is.long, same)
 
-module _ {D : Type 0} (faults : D → ℕ) (one : WorldsHaveOneSpelling) (world : WorldState)
+module _ {D : Type 0} (disks : DiskWords D) (one : WorldsHaveOneSpelling) (world : WorldState)
     (place count : ℕ) (old new : SavesState D) where
   abbrev point : Option Point
   point = Some (record { place = place; count = count })
@@ -133,10 +131,8 @@ module _ {D : Type 0} (faults : D → ℕ) (one : WorldsHaveOneSpelling) (world 
         last = l;
       }) last
 
-  pub put_counts : (tells : D → Bool) (may_leave : D → List ℕ → Type 0)
-      → IsPut tells may_leave faults world place count old new
-      → CountsExactly world place count old new
-  put_counts tells may_leave put = record {
+  pub put_counts : IsPut disks world place count old new → CountsExactly world place count old new
+  put_counts put = record {
     unmade = λ unmade. absurd (true_false (sym put.store.made ∙ unmade));
     made = λ _. ap (λ (m : Missed). m.none) put.missed;
     long = λ _ bytes is. absurd (not_long world put.store.bytes bytes one put.store.fits is);
@@ -144,7 +140,8 @@ module _ {D : Type 0} (faults : D → ℕ) (one : WorldsHaveOneSpelling) (world 
   }
 
   by_cause : (cause : Cause)
-      → Prevents cause old.store.made world (faults old.store.disk) (faults new.store.disk)
+      → Prevents cause old.store.made world (disks.faults old.store.disk)
+      (disks.faults new.store.disk)
       → FailedPutLeaves cause old.store new.store → new.missed ≡ with_cause cause old.missed
       → new.last ≡ point → CountsExactly world place count old new
   by_cause NotMade prevents leaves missed last = record {
@@ -172,7 +169,7 @@ module _ {D : Type 0} (faults : D → ℕ) (one : WorldsHaveOneSpelling) (world 
     short = λ _. ap (λ (m : Missed). m.size) missed;
   }
 
-  pub missed_counts : IsMissed faults world place count old new
+  pub missed_counts : IsMissed disks.faults world place count old new
       → CountsExactly world place count old new
   missed_counts missed =
       by_cause missed.cause missed.prevents missed.leaves missed.counted missed.last

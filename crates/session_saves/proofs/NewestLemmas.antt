@@ -5,7 +5,8 @@ use Rattle.std.specs.Prelude.{IsTrue, nat_lt, ◌==◌}
 use Rattle.std.specs.List.{Contains}
 use Rattle.std.proofs.lemmas.Bool.{cases_order}
 use Rattle.std.proofs.lemmas.Bool.Decides.{nat_tests}
-use Rattle.disk_model.specs.Disk.{EachImage, LeavesOnly}
+use Rattle.disk_model.specs.Work.{EachImage, LeavesOnly}
+use Rattle.disk_model.specs.declared.disk.Disk.{Ghosts as DiskWords}
 use Rattle.disk_model.proofs.Moments.{weaker}
 use Rattle.gate_journal.specs.declared.command.Command.{Command}
 use Rattle.story_run.specs.declared.story.Story.{Story}
@@ -239,26 +240,21 @@ module _ {D : Type 0} (seen : D → List ℕ) (stories : List Story) (rows : Lis
             let more = same.1 in omega (arith, c, more, enough);
       }
 
-pub keeps_open : {D : Type 0} (tells : D → Bool) (may_leave : D → List ℕ → Type 0)
-    (seen : D → List ℕ) (moment : D → ℕ) (left_since : D → ℕ → List ℕ → Type 0)
-    (stories : List Story) (rows : List ℕ) (game : List Command) (place least : ℕ)
-    (world : WorldState) (put inputs : ℕ) (old new : Snapshots D)
-    → ((d : D) → may_leave d (seen d))
-    → EachImage tells may_leave old.disk (IsImageOf seen old)
-    → LeavesOnly moment left_since old.disk new.disk
-    (MayStandMeanwhile seen world put inputs old)
-    → ChangesTaken old.slots new.slots
-    → IsTrue (tells old.disk)
-    → ((row : ℕ) → Contains rows row → row ≤ place)
-    → IsAgreed seen stories rows game old
-    → HasSince place least old.slots
-    → KeepsOpen moment left_since place least old new
-keeps_open tells may_leave seen moment left_since stories rows game place least world put inputs
+pub keeps_open : {D : Type 0} (disks : DiskWords D) (stories : List Story) (rows : List ℕ)
+    (game : List Command) (place least : ℕ) (world : WorldState) (put inputs : ℕ)
+    (old new : Snapshots D) → ((d : D) → disks.may_leave d (disks.seen d))
+    → EachImage disks old.disk (IsImageOf disks.seen old) → LeavesOnly disks old.disk new.disk
+    (MayStandMeanwhile disks.seen world put inputs old) → ChangesTaken old.slots new.slots
+    → IsTrue (disks.tells old.disk) → ((row : ℕ) → Contains rows row → row ≤ place)
+    → IsAgreed disks.seen stories rows game old → HasSince place least old.slots
+    → KeepsOpen disks place least old new
+keeps_open disks stories rows game place least world put inputs
     old new stays images crash changes told last agreed has =
-    let file = seen old.disk in
+    let file = disks.seen old.disk in
     let is = images told file (stays old.disk) in
     let n = newest_of old.slots place least has in
-    let same = newest_row seen stories rows game place least old file is last agreed has.count n in
+    let same =
+    newest_row disks.seen stories rows game place least old file is last agreed has.count n in
     record {
       known = record {
         side = n.side;
@@ -269,19 +265,18 @@ keeps_open tells may_leave seen moment left_since stories rows game place least 
         since = let s = has.since in let m = same.1 in omega (arith, s, m);
       };
       images =
-          weaker moment left_since old.disk new.disk (MayStandMeanwhile seen world put inputs old)
+          weaker disks old.disk new.disk (MayStandMeanwhile disks.seen world put inputs old)
           (HasOpenSince place least) crash
-          (newest_there seen stories rows game place least old file is has.count n same has.since
-          world put inputs);
+          (newest_there disks.seen stories rows game place least old file is has.count n same
+          has.since world put inputs);
     }
 
 -- ---- what was put, or wasn't
 
-pub put_changes : {D : Type 0} (tells : D → Bool) (may_leave : D → List ℕ → Type 0)
-    (faults : D → ℕ) (world : WorldState) (place count : ℕ) (old new : Snapshots D)
-    → PutsWorld tells may_leave faults world place count old new
+pub put_changes : {D : Type 0} (disks : DiskWords D) (world : WorldState) (place count : ℕ)
+    (old new : Snapshots D) → PutsWorld disks world place count old new
     → ChangesTaken old.slots new.slots
-put_changes tells may_leave faults world place count old new puts =
+put_changes disks world place count old new puts =
     inr (Open place count, puts.slots)
 
 pub failed_changes : {D : Type 0} (cause : Cause) (old new : Snapshots D)

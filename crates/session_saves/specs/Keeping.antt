@@ -1,6 +1,8 @@
 -- What becomes of a snapshot that is due (own).
 use Rattle.std.specs.Prelude.{◌≡◌, ◌⊎◌, ◌≤◌, ◌<◌, ℕ, Bool, true, false, List, length, Option, Some}
-use Rattle.disk_model.specs.Disk.{EachImage, LeavesOnly, Rose}
+use Rattle.disk_model.specs.Disk.{Rose}
+use Rattle.disk_model.specs.Work.{EachImage, LeavesOnly}
+use Rattle.disk_model.specs.declared.disk.Disk.{Ghosts as DiskWords}
 use Rattle.story_run.specs.World.{WorldState}
 use Rattle.story_snap.specs.Bytes.{HasBytes}
 use Rattle.snap_store.specs.File.{Stored, area_with, open_area}
@@ -86,32 +88,22 @@ pub record CountsExactly
 
 -- it was put into a store: its area is known to be open, and is in each image
 pub record PutsWorld
-    {D : Type 0}
-    (tells : D → Bool)
-    (may_leave : D → List ℕ → Type 0)
-    (faults : D → ℕ)
-    (world : WorldState)
-    (place count : ℕ)
+    {D : Type 0} (disks : DiskWords D) (world : WorldState) (place count : ℕ)
     (old new : Snapshots D) : Type 0 where
   pub bytes : List ℕ
   pub fits : Fits world bytes
   pub made : old.made ≡ true
   pub slots : new.slots ≡ with_slot old.slots (taken_side old.slots) (Open place count)
   pub durable :
-      EachImage tells may_leave new.disk (λ image.
+      EachImage disks new.disk (λ image.
       open_area (taken_side old.slots) image ≡ Some (area_with place count bytes))
-  pub same_faults : faults new.disk ≡ faults old.disk
+  pub same_faults : disks.faults new.disk ≡ disks.faults old.disk
 
 -- and nothing was missed
 pub record IsPut
-    {D : Type 0}
-    (tells : D → Bool)
-    (may_leave : D → List ℕ → Type 0)
-    (faults : D → ℕ)
-    (world : WorldState)
-    (place count : ℕ)
+    {D : Type 0} (disks : DiskWords D) (world : WorldState) (place count : ℕ)
     (old new : SavesState D) : Type 0 where
-  pub store : PutsWorld tells may_leave faults world place count old.store new.store
+  pub store : PutsWorld disks world place count old.store new.store
   pub missed : new.missed ≡ old.missed
   pub last : new.last ≡ old.last
 
@@ -141,10 +133,6 @@ MayStandMeanwhile seen world place count store image =
 -- An area of this OPEN row and of at least so many inputs isn't lost: one is still known to be open,
 -- and one is open in each image since.
 pub record KeepsOpen
-    {D : Type 0}
-    (moment : D → ℕ)
-    (left_since : D → ℕ → List ℕ → Type 0)
-    (place least : ℕ)
-    (old new : Snapshots D) : Type 0 where
+    {D : Type 0} (disks : DiskWords D) (place least : ℕ) (old new : Snapshots D) : Type 0 where
   pub known : HasSince place least new.slots
-  pub images : LeavesOnly moment left_since old.disk new.disk (HasOpenSince place least)
+  pub images : LeavesOnly disks old.disk new.disk (HasOpenSince place least)

@@ -3,7 +3,8 @@
 ghost use Rattle.std.specs.Prelude.{◌≡◌, ◌⊎◌, ◌+◌, ◌≤◌, ℕ, IsTrue, true, false};
 ghost use Rattle.std.specs.Prelude.{List, length, max, None, Some, IfOk, OnOk};
 ghost use Rattle.std.specs.List.{Contains};
-ghost use Rattle.disk_model.specs.Disk.{EachImage, LeavesOnly, OnlyLooks, Rose, SameDisk};
+ghost use Rattle.disk_model.specs.Disk.{Rose};
+ghost use Rattle.disk_model.specs.Work.{EachImage, LeavesOnly, OnlyLooks, SameDisk};
 ghost use Rattle.gate_journal.specs.declared.command.Command.{Command};
 ghost use Rattle.story_run.specs.declared.story.Story.{Story};
 ghost use Rattle.session_core.specs.Checks.{is_other_story};
@@ -84,8 +85,7 @@ impl<D: Disk> Saves<D> {
     #[tactic(auto, unfolding(crate::specs::Saves::due_in))]
     pub fn is_due(&self, place: u64, count: u32) -> bool
         ensures value { result ≡ is_due self.now place count }
-        ensures images { EachImage D.tells D.may_leave self.now.store.disk
-            (IsImageOf D.seen self.now.store) }
+        ensures images { EachImage D.Disk self.now.store.disk (IsImageOf D.seen self.now.store) }
     {
         let is_stored = self.store.is_stored(place, count);
         falls_due(count) && !is_stored && !is_at(&self.last, place, count)
@@ -95,7 +95,7 @@ impl<D: Disk> Saves<D> {
     pub fn keep(&mut self, alloc: Global, world: &World<'_>, place: u64, count: u32)
         ensures idle { is_due self.old place count ≡ false → self.new ≡ self.old }
         ensures ok { is_due self.old place count ≡ true
-            → IsPut D.tells D.may_leave D.faults world.now place count self.old self.new
+            → IsPut D.Disk world.now place count self.old self.new
             ⊎ IsMissed D.faults world.now place count self.old self.new }
         ensures exact { is_due self.old place count ≡ true
             → CountsExactly world.now place count self.old self.new }
@@ -117,10 +117,9 @@ impl<D: Disk> Saves<D> {
 
         // what a stop may leave meanwhile, and after it
         ensures crash { IsTrue (D.tells self.old.store.disk)
-            → LeavesOnly D.moment D.left_since self.old.store.disk self.new.store.disk
+            → LeavesOnly D.Disk self.old.store.disk self.new.store.disk
             (MayStandMeanwhile D.seen world.now place count self.old.store) }
-        ensures images { EachImage D.tells D.may_leave self.new.store.disk
-            (IsImageOf D.seen self.new.store) }
+        ensures images { EachImage D.Disk self.new.store.disk (IsImageOf D.seen self.new.store) }
 
         // an open area of the last OPEN row is never lost
         ensures newest { (stories : List Story) (rows : List ℕ) (game : List Command) (least : ℕ)
@@ -128,10 +127,10 @@ impl<D: Disk> Saves<D> {
             → ((row : ℕ) → Contains rows row → row ≤ place)
             → IsAgreed D.seen stories rows game self.old.store
             → HasSince place least self.old.store.slots
-            → KeepsOpen D.moment D.left_since place least self.old.store self.new.store }
+            → KeepsOpen D.Disk place least self.old.store self.new.store }
 
         ensures reach { D.reach self.new.store.disk ≤ max (D.reach self.old.store.disk) 16781344 }
-        ensures kept { SameDisk D.tells D.room D.label self.old.store.disk self.new.store.disk
+        ensures kept { SameDisk D.Disk self.old.store.disk self.new.store.disk
             × (self.new.store.made ≡ self.old.store.made) }
     {
         // so some bytes of the world are too many for a store exactly where its own are
@@ -187,10 +186,8 @@ impl<D: Disk> Saves<D> {
         ensures counts { D.faults self.old.store.disk ≤ D.faults self.new.store.disk }
         ensures areas { (side : Side) → IsTrue (D.tells self.old.store.disk)
             → store_area D.seen self.new.store side ≡ store_area D.seen self.old.store side }
-        ensures images { EachImage D.tells D.may_leave self.new.store.disk
-            (IsImageOf D.seen self.new.store) }
-        ensures kept { OnlyLooks D.tells D.may_leave D.moment D.left_since D.reach D.room D.label
-            self.old.store.disk self.new.store.disk }
+        ensures images { EachImage D.Disk self.new.store.disk (IsImageOf D.seen self.new.store) }
+        ensures kept { OnlyLooks D.Disk self.old.store.disk self.new.store.disk }
         ensures slots { (self.new.store.made ≡ self.old.store.made)
             × (self.new.store.slots ≡ self.old.store.slots)
             × (self.new.missed ≡ self.old.missed) × (self.new.last ≡ self.old.last) }

@@ -1,7 +1,7 @@
 //! A snapshot that is put (own).
 
 ghost use Rattle.std.specs.Prelude.{◌≡◌, ◌≤◌, ◌+◌, IsTrue, max, IfErr, OnOk, true};
-ghost use Rattle.disk_model.specs.Disk.{EachImage, LeavesOnly, SameDisk};
+ghost use Rattle.disk_model.specs.Work.{EachImage, LeavesOnly, SameDisk};
 ghost use Rattle.snap_store.specs.Store.{IsImageOf};
 ghost use Rattle.session_saves.specs.Keeping.{AddsOnly, FailedPutLeaves, MayStandMeanwhile};
 ghost use Rattle.session_saves.specs.Keeping.{Prevents, PutsWorld};
@@ -21,8 +21,7 @@ pub fn put<D: Disk>(
     place: u64,
     count: u32,
 ) -> Result<(), Cause>
-    ensures ok { OnOk result (PutsWorld D.tells D.may_leave D.faults world.now place count
-        store.old store.new) }
+    ensures ok { OnOk result (PutsWorld D.Disk world.now place count store.old store.new) }
     ensures cause { IfErr result (λ cause. Prevents cause store.old.made world.now
         (D.faults store.old.disk) (D.faults store.new.disk)) }
     ensures err { IfErr result (λ cause. FailedPutLeaves cause store.old store.new) }
@@ -30,11 +29,11 @@ pub fn put<D: Disk>(
     ensures areas { IsTrue (D.tells store.old.disk)
         → AddsOnly D.seen world.now place count store.old store.new }
     ensures crash { IsTrue (D.tells store.old.disk)
-        → LeavesOnly D.moment D.left_since store.old.disk store.new.disk
+        → LeavesOnly D.Disk store.old.disk store.new.disk
         (MayStandMeanwhile D.seen world.now place count store.old) }
-    ensures images { EachImage D.tells D.may_leave store.new.disk (IsImageOf D.seen store.new) }
+    ensures images { EachImage D.Disk store.new.disk (IsImageOf D.seen store.new) }
     ensures reach { D.reach store.new.disk ≤ max (D.reach store.old.disk) 16781344 }
-    ensures kept { SameDisk D.tells D.room D.label store.old.disk store.new.disk
+    ensures kept { SameDisk D.Disk store.old.disk store.new.disk
         × (store.new.made ≡ store.old.made) }
 {
     if !store.is_made() {

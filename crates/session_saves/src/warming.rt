@@ -1,7 +1,7 @@
 //! A world made again from a snapshot and the inputs behind it (own).
 
 ghost use Rattle.std.specs.Prelude.{◌≡◌, ◌≤◌, IsTrue, IfOk, IfSome, MatchOption};
-ghost use Rattle.disk_model.specs.Disk.{EachImage, OnlyLooks};
+ghost use Rattle.disk_model.specs.Work.{EachImage, OnlyLooks};
 ghost use Rattle.story_snap.specs.Bytes.{HasBytes, HasNoWorld};
 ghost use Rattle.snap_store.specs.Store.{IsGiven, IsImageOf, store_area};
 ghost use Rattle.snap_store.specs.declared.side.Side.{Side};
@@ -33,9 +33,8 @@ pub fn found<D: Disk>(
     ensures counts { D.faults store.old.disk ≤ D.faults store.new.disk }
     ensures areas { (side : Side) → IsTrue (D.tells store.old.disk)
         → store_area D.seen store.new side ≡ store_area D.seen store.old side }
-    ensures images { EachImage D.tells D.may_leave store.new.disk (IsImageOf D.seen store.new) }
-    ensures kept { OnlyLooks D.tells D.may_leave D.moment D.left_since D.reach D.room D.label
-        store.old.disk store.new.disk }
+    ensures images { EachImage D.Disk store.new.disk (IsImageOf D.seen store.new) }
+    ensures kept { OnlyLooks D.Disk store.old.disk store.new.disk }
     ensures slots { (store.new.made ≡ store.old.made) × (store.new.slots ≡ store.old.slots) }
 {
     match store.newest(alloc, place, most) {

@@ -2,8 +2,9 @@
 use Rattle.std.proofs.Common.{◌≡◌, ◌⊎◌, ◌≤◌, ◌+◌, inl, inr, ℕ, Bool, true, List, refl}
 use Rattle.std.proofs.Common.{sym, ◌∙◌, ap, subst}
 use Rattle.std.specs.Prelude.{Option, Some, None, IsTrue, Result, Ok}
-use Rattle.disk_model.specs.Disk.{EachImage, Elapses, Follows, LeavesOnly, Torn}
-use Rattle.disk_model.specs.Work.{Triple}
+use Rattle.disk_model.specs.Disk.{Elapses, Follows, Torn}
+use Rattle.disk_model.specs.Work.{EachImage, LeavesOnly, Triple}
+use Rattle.disk_model.specs.declared.disk.Disk.{Ghosts as DiskWords}
 use Rattle.disk_model.proofs.Moments.{weaker}
 use Rattle.disk_model.proofs.WorkLaws.{called}
 use Rattle.snap_store.specs.declared.side.Side.{Side}
@@ -68,14 +69,14 @@ held_loosened side slot file file' stands = stands
 
 -- a first write in an area behind its closed gate
 pub area_begun :
-    {D : Type 0} {tells : D → Bool} {may_leave : D → List ℕ → Type 0} {moment : D → ℕ}
-    {left_since : D → ℕ → List ℕ → Type 0} {old new : D}
-    (side : Side) {area beside_area : Option Stored} {beside : Slot} {at n : ℕ}
+    {D : Type 0} {disks : DiskWords D} {old new : D} (side : Side)
+    {area beside_area : Option Stored} {beside : Slot} {at n : ℕ}
     → Spares side beside → side_start side ≤ at → at + n ≤ side_start side + 16 + 8388608
-    → ((c : List ℕ) → left_since old (moment old) c → may_leave old c)
-    → Elapses (moment old) (moment new) (left_since old) (left_since new) (may_leave new)
-    → (IsTrue (tells old) → Follows (Torn at n) (may_leave old) (may_leave new))
-    → Triple {T = Unit {0}} {E = Unit {0}} tells may_leave moment left_since (Ok tt) old new
+    → ((c : List ℕ) → disks.left_since old (disks.moment old) c → disks.may_leave old c)
+    → Elapses (disks.moment old) (disks.moment new) (disks.left_since old) (disks.left_since new)
+    (disks.may_leave new)
+    → (IsTrue (disks.tells old) → Follows (Torn at n) (disks.may_leave old) (disks.may_leave new))
+    → Triple {T = Unit {0}} {E = Unit {0}} disks (Ok tt) old new
     (IsLaid side Closed area beside beside_area) (IsLaid side Closed area beside beside_area)
     (IsLaid side Closed area beside beside_area)
 area_begun side {area} {beside_area} {beside} {at} {n} spares from to only time crash =
@@ -86,29 +87,19 @@ area_begun side {area} {beside_area} {beside} {at} {n} spares from to only time 
 
 -- a put on a side is one on a side that is the same
 pub put_on_side :
-    {D T E : Type 0} {tells : D → Bool} {may_leave : D → List ℕ → Type 0} {moment : D → ℕ}
-    {left_since : D → ℕ → List ℕ → Type 0} {result : Result T E} {old new : D}
-    {side side' : Side} {slot slot' now : Slot} {area beside_area : Option Stored} {beside : Slot}
-    {put : Stored}
-    → side ≡ side' → slot ≡ slot'
-    → Triple tells may_leave moment left_since result old new
+    {D T E : Type 0} {disks : DiskWords D} {result : Result T E} {old new : D}
+    {side side' : Side} {slot slot' now : Slot} {area beside_area : Option Stored}
+    {beside : Slot} {put : Stored} → side ≡ side' → slot ≡ slot' → Triple disks result old new
     (IsLaid side slot area beside beside_area) (DuringPut side slot area put beside beside_area)
     (IsLaid side now (Some put) beside beside_area)
-    → Triple tells may_leave moment left_since result old new
+    → Triple disks result old new
     (IsLaid side' slot' area beside beside_area) (DuringPut side' slot' area put beside beside_area)
     (IsLaid side' now (Some put) beside beside_area)
 put_on_side side_is slot_is triple = rw (side_is, slot_is) at triple
 
-module _
-    {D : Type 0}
-    {tells : D → Bool}
-    {may_leave : D → List ℕ → Type 0}
-    {seen : D → List ℕ}
-    (stays : (d : D) → may_leave d (seen d))
-    {store : Snapshots D}
-    (sound : IsSoundStore tells may_leave seen store)
-    (made : store.made ≡ true)
-    (put : Stored) where
+module _ {D : Type 0} {disks : DiskWords D}
+    (stays : (d : D) → disks.may_leave d (disks.seen d)) {store : Snapshots D}
+    (sound : IsSoundStore disks store) (made : store.made ≡ true) (put : Stored) where
   abbrev side : Side
   side = taken_side store.slots
 
@@ -116,149 +107,147 @@ module _
   slot = slot_of store.slots side
 
   abbrev area : Option Stored
-  area = whole_area side (seen store.disk)
+  area = whole_area side (disks.seen store.disk)
 
   abbrev beside : Slot
   beside = slot_of store.slots (opposite_side side)
 
   abbrev beside_area : Option Stored
-  beside_area = whole_area (opposite_side side) (seen store.disk)
+  beside_area = whole_area (opposite_side side) (disks.seen store.disk)
 
   -- before a put
-  pub laid_before : EachImage tells may_leave store.disk (IsLaid side slot area beside beside_area)
+  pub laid_before : EachImage disks store.disk (IsLaid side slot area beside beside_area)
   laid_before told c now =
-      laid_turned side store.slots (seen store.disk) c (sound.laid made told c now)
+      laid_turned side store.slots (disks.seen store.disk) c (sound.laid made told c now)
 
   -- while it goes on
   put_image_of :
       (c : List ℕ) → has_header c ≡ true
       → StandsOnSide (opposite_side side) beside beside_area c
       → ((x : Stored) → openable_area side c ≡ Some x
-      → (store_area seen store side ≡ Some x) ⊎ (x ≡ put))
-      → IsPutImage seen store put c
+      → (store_area disks.seen store side ≡ Some x) ⊎ (x ≡ put)) → IsPutImage disks.seen store put c
   put_image_of c header stands own = record {
     header = header;
-    newest = λ side' is. open_at seen store c side' header is
+    newest = λ side' is. open_at disks.seen store c side' header is
         (rw (newest_is_beside store.slots side' is) at stands);
     taken = own;
-    beside = λ x is. stands_openable (opposite_side side) beside (seen store.disk) c x stands is;
+    beside = λ x is.
+        stands_openable (opposite_side side) beside (disks.seen store.disk) c x stands is;
   }
 
   pub put_image :
       (c : List ℕ) → DuringPut side slot area put beside beside_area c
-      → IsPutImage seen store put c
+      → IsPutImage disks.seen store put c
   put_image c (inl laid) = put_image_of c laid.header laid.there (λ x is.
-      inl (closing_openable side slot (seen store.disk) c x laid.here is))
+      inl (closing_openable side slot (disks.seen store.disk) c x laid.here is))
   put_image c (inr (inl laid)) = put_image_of c laid.header laid.there (λ x is.
       absurd (shut_closed side c x laid.here is))
   put_image c (inr (inr laid)) = put_image_of c laid.header laid.there (λ x is.
       inr (cc ((openable_is side c x is).2, laid.here)))
 
   pub crash_of :
-      {T E : Type 0} {moment : D → ℕ} {left_since : D → ℕ → List ℕ → Type 0}
-      {result : Result T E} {new : D} {after : List ℕ → Type 0} {view : Snapshots D}
-      → store ≡ view
-      → Triple tells may_leave moment left_since result store.disk new
+      {T E : Type 0} {result : Result T E} {new : D} {after : List ℕ → Type 0}
+      {view : Snapshots D} → store ≡ view → Triple disks result store.disk new
       (IsLaid side slot area beside beside_area)
       (DuringPut side slot area put beside beside_area) after
-      → view.made ≡ true → IsTrue (tells view.disk)
-      → LeavesOnly moment left_since view.disk new (IsPutImage seen view put)
-  crash_of {moment = moment} {left_since = left_since} {new = new} view_is triple =
+      → view.made ≡ true → IsTrue (disks.tells view.disk)
+      → LeavesOnly disks view.disk new (IsPutImage disks.seen view put)
+  crash_of {new = new} view_is triple =
       rw (← view_is) (λ is told.
-      weaker moment left_since store.disk new (DuringPut side slot area put beside beside_area)
-      (IsPutImage seen store put) (triple.meanwhile told (laid_before told)) put_image)
+      weaker disks store.disk new (DuringPut side slot area put beside beside_area)
+      (IsPutImage disks.seen store put) (triple.meanwhile told (laid_before told)) put_image)
 
-  module _ {new : D} (telling : tells new ≡ tells store.disk) {slots : Slots}
+  module _ {new : D} (telling : disks.tells new ≡ disks.tells store.disk) {slots : Slots}
       {now : Slot} {left : Option Stored}
       (set : slots ≡ with_slot store.slots side now)
-      (laid : EachImage tells may_leave new (IsLaid side now left beside beside_area)) where
+      (laid : EachImage disks new (IsLaid side now left beside beside_area)) where
     abbrev after : Snapshots D
     after = record { disk = new; made = store.made; slots = slots }
 
     -- after it
-    pub sound_after : IsSoundStore tells may_leave seen after
+    pub sound_after : IsSoundStore disks after
     sound_after = record {
       header = λ told c at. (laid told c at).header ∙ sym made;
       laid = λ is_made told c at.
-          rw set (laid_back side store.slots now (seen new) c
-          (laid_seen side now left beside beside_area (seen new) c
-          (laid told (seen new) (stays new)) (laid told c at)));
+          rw set (laid_back side store.slots now (disks.seen new) c
+          (laid_seen side now left beside beside_area (disks.seen new) c
+          (laid told (disks.seen new) (stays new)) (laid told c at)));
       unmade = λ unmade. absurd (cc (made, unmade));
     }
 
-    told_after : IsTrue (tells store.disk) → IsTrue (tells new)
+    told_after : IsTrue (disks.tells store.disk) → IsTrue (disks.tells new)
     told_after told = subst (λ (b : Bool). IsTrue b) (sym telling) told
 
-    shows : IsTrue (tells store.disk) → IsLaid side now left beside beside_area (seen new)
-    shows told = laid (told_after told) (seen new) (stays new)
+    shows : IsTrue (disks.tells store.disk)
+        → IsLaid side now left beside beside_area (disks.seen new)
+    shows told = laid (told_after told) (disks.seen new) (stays new)
 
     kept_beside :
-        IsTrue (tells store.disk)
-        → store_area seen after (opposite_side side) ≡ store_area seen store (opposite_side side)
+        IsTrue (disks.tells store.disk) → store_area disks.seen after (opposite_side side)
+        ≡ store_area disks.seen store (opposite_side side)
     kept_beside told =
         ap
-        (λ (s : Slots). area_held (opposite_side side) (slot_of s (opposite_side side)) (seen new))
-        set
-        ∙ ap (λ (s : Slot). area_held (opposite_side side) s (seen new))
+        (λ (s : Slots). area_held (opposite_side side) (slot_of s (opposite_side side))
+        (disks.seen new)) set
+        ∙ ap (λ (s : Slot). area_held (opposite_side side) s (disks.seen new))
         (slot_kept side store.slots now)
-        ∙ held_is (opposite_side side) beside beside_area (seen new) (seen store.disk)
+        ∙ held_is (opposite_side side) beside beside_area (disks.seen new) (disks.seen store.disk)
         (shows told).there
-        (laid_before told (seen store.disk) (stays store.disk)).there
+        (laid_before told (disks.seen store.disk) (stays store.disk)).there
 
-    here_after : store_area seen after side ≡ area_held side now (seen new)
+    here_after : store_area disks.seen after side ≡ area_held side now (disks.seen new)
     here_after =
-        ap (λ (s : Slots). area_held side (slot_of s side) (seen new)) set
-        ∙ ap (λ (s : Slot). area_held side s (seen new)) (slot_set side store.slots now)
+        ap (λ (s : Slots). area_held side (slot_of s side) (disks.seen new)) set
+        ∙ ap (λ (s : Slot). area_held side s (disks.seen new)) (slot_set side store.slots now)
 
     put_there :
-        {place count : ℕ} → now ≡ Open place count → left ≡ Some put → IsTrue (tells store.disk)
-        → store_area seen after side ≡ Some put
+        {place count : ℕ} → now ≡ Open place count → left ≡ Some put
+        → IsTrue (disks.tells store.disk)
+        → store_area disks.seen after side ≡ Some put
     put_there is is_left told =
         here_after
-        ∙ ap (λ (s : Slot). area_held side s (seen new)) is
-        ∙ (rw is at (shows told).here).1
+        ∙ ap (λ (s : Slot). area_held side s (disks.seen new)) is ∙ (rw is at (shows told).here).1
         ∙ is_left
 
     left_there :
-        IsLeft slot area put now left → IsTrue (tells store.disk)
-        → (store_area seen after side ≡ store_area seen store side)
-        ⊎ (store_area seen after side ≡ None)
-        ⊎ (store_area seen after side ≡ Some put)
+        IsLeft slot area put now left → IsTrue (disks.tells store.disk)
+        → (store_area disks.seen after side ≡ store_area disks.seen store side)
+        ⊎ (store_area disks.seen after side ≡ None) ⊎ (store_area disks.seen after side ≡ Some put)
     left_there (inl is) told =
-        inl (here_after ∙ ap (λ (s : Slot). area_held side s (seen new)) is.0
-        ∙ held_loosened side slot (seen store.disk) (seen new)
+        inl (here_after ∙ ap (λ (s : Slot). area_held side s (disks.seen new)) is.0
+        ∙ held_loosened side slot (disks.seen store.disk) (disks.seen new)
         (rw (is.0, is.1) at (shows told).here))
     left_there (inr (inl is)) told =
-        inr (inl (here_after ∙ ap (λ (s : Slot). area_held side s (seen new)) is.0))
+        inr (inl (here_after ∙ ap (λ (s : Slot). area_held side s (disks.seen new)) is.0))
     left_there (inr (inr is)) told =
-        inr (inr (here_after ∙ held_stands side now left (seen new) is.0 (shows told).here ∙ is.1))
+        inr (inr (here_after ∙ held_stands side now left (disks.seen new) is.0 (shows told).here
+        ∙ is.1))
 
     -- the same of the store as it is seen
     module _ {view : Snapshots D} (view_is : store ≡ view) where
       pub beside_after :
-          IsTrue (tells view.disk)
-          → store_area seen after (opposite_side (taken_side view.slots))
-          ≡ store_area seen view (opposite_side (taken_side view.slots))
+          IsTrue (disks.tells view.disk)
+          → store_area disks.seen after (opposite_side (taken_side view.slots))
+          ≡ store_area disks.seen view (opposite_side (taken_side view.slots))
       beside_after = rw (← view_is) kept_beside
 
       pub put_after :
           {place count : ℕ} → now ≡ Open place count → left ≡ Some put
-          → view.made ≡ true → IsTrue (tells view.disk)
-          → store_area seen after (taken_side view.slots) ≡ Some put
+          → view.made ≡ true → IsTrue (disks.tells view.disk)
+          → store_area disks.seen after (taken_side view.slots) ≡ Some put
       put_after is is_left = rw (← view_is) (λ made_then. put_there is is_left)
 
       pub left_after :
-          IsLeft slot area put now left → view.made ≡ true → IsTrue (tells view.disk)
-          → (store_area seen after (taken_side view.slots)
-          ≡ store_area seen view (taken_side view.slots))
-          ⊎ (store_area seen after (taken_side view.slots) ≡ None)
-          ⊎ (store_area seen after (taken_side view.slots) ≡ Some put)
+          IsLeft slot area put now left → view.made ≡ true → IsTrue (disks.tells view.disk)
+          → (store_area disks.seen after (taken_side view.slots)
+          ≡ store_area disks.seen view (taken_side view.slots))
+          ⊎ (store_area disks.seen after (taken_side view.slots) ≡ None)
+          ⊎ (store_area disks.seen after (taken_side view.slots) ≡ Some put)
       left_after is = rw (← view_is) (λ made_then. left_there is)
 
       pub opened_after :
           {place count : ℕ} → now ≡ Open place count → left ≡ Some put → view.made ≡ true
-          → EachImage tells may_leave new
-          (λ (c : List ℕ). open_area (taken_side view.slots) c ≡ Some put)
+          → EachImage disks new (λ (c : List ℕ). open_area (taken_side view.slots) c ≡ Some put)
       opened_after is is_left =
           rw (← view_is) (λ made_then told c at. let there = laid told c at in
           let here = rw is at there.here in

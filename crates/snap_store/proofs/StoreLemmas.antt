@@ -4,7 +4,9 @@ use Rattle.std.proofs.Common.{List, refl, sym, ◌∙◌, ap, subst, arith}
 use Rattle.std.specs.Prelude.{◌&&◌, ◌==◌, not, if◌then◌else◌, Option, Some, None, IsTrue}
 use Rattle.std.proofs.lemmas.Bool.{cases_Bool}
 use Rattle.std.proofs.lemmas.Bool.Decides.{nat_tests}
-use Rattle.disk_model.specs.Disk.{EachImage, NoneNew}
+use Rattle.disk_model.specs.Disk.{NoneNew}
+use Rattle.disk_model.specs.Work.{EachImage}
+use Rattle.disk_model.specs.declared.disk.Disk.{Ghosts as DiskWords}
 use Rattle.snap_store.specs.declared.side.Side.{Side}
 use Rattle.snap_store.specs.declared.side.Side.TheVariants.{A, B}
 use Rattle.snap_store.specs.declared.slot.Slot.{Slot}
@@ -183,19 +185,15 @@ module _ {D : Type 0} (seen : D → List ℕ) (store : Snapshots D) (c : List �
       none_opens : (side : Side) (area : Stored) → openable_area side c ≡ Some area → ⊥
       none_opens side area is = cc (openable_is side c area is).0
 
-module _
-    {D : Type 0}
-    (tells : D → Bool)
-    (may_leave : D → List ℕ → Type 0)
-    (seen : D → List ℕ) where
+module _ {D : Type 0} (disks : DiskWords D) where
   -- each image shows the store
   pub sound_images :
-      (store : Snapshots D) → IsSoundStore tells may_leave seen store
-      → EachImage tells may_leave store.disk (IsImageOf seen store)
+      (store : Snapshots D) → IsSoundStore disks store
+      → EachImage disks store.disk (IsImageOf disks.seen store)
   sound_images store sound told c now = elim (cases_Bool store.made) [
-    | inl made ↦ image_of seen store c made (sound.header told c now ∙ made)
-        (λ side. laid_side side store.slots (seen store.disk) c (sound.laid made told c now))
-    | inr unmade ↦ image_unmade seen store c unmade (sound.header told c now ∙ unmade)
+    | inl made ↦ image_of disks.seen store c made (sound.header told c now ∙ made)
+        (λ side. laid_side side store.slots (disks.seen store.disk) c (sound.laid made told c now))
+    | inr unmade ↦ image_unmade disks.seen store c unmade (sound.header told c now ∙ unmade)
         (sound.unmade unmade).0 (sound.unmade unmade).1
   ]
 
@@ -253,27 +251,19 @@ module _ (side : Side) (file : List ℕ) where
 
 -- what an opening has read of a file of which nothing is pending
 pub record IsRead
-    {D : Type 0}
-    (may_leave : D → List ℕ → Type 0)
-    (seen : D → List ℕ)
-    (store : Snapshots D)
-    (file : List ℕ) : Type 0 where
+    {D : Type 0} (disks : DiskWords D) (store : Snapshots D) (file : List ℕ) : Type 0 where
   pub made : store.made ≡ has_header file
   pub a : store.slots.a ≡ slot_in A file
   pub b : store.slots.b ≡ slot_in B file
-  pub sees : seen store.disk ≡ file
-  pub only : (c : List ℕ) → may_leave store.disk c → c ≡ file
+  pub sees : disks.seen store.disk ≡ file
+  pub only : (c : List ℕ) → disks.may_leave store.disk c → c ≡ file
 
-module _
-    {D : Type 0}
-    (tells : D → Bool)
-    (may_leave : D → List ℕ → Type 0)
-    (seen : D → List ℕ) where
+module _ {D : Type 0} (disks : DiskWords D) where
   pub sound_read :
       (store : Snapshots D) (file : List ℕ)
-      → (IsTrue (tells store.disk) → IsRead may_leave seen store file)
+      → (IsTrue (disks.tells store.disk) → IsRead disks store file)
       → (store.made ≡ false → (store.slots.a ≡ Closed) × (store.slots.b ≡ Closed))
-      → IsSoundStore tells may_leave seen store
+      → IsSoundStore disks store
   sound_read store file read unmade = record {
     header = λ told c now.
         let is = read told in ap has_header (is.only c now) ∙ sym is.made;
@@ -322,30 +312,25 @@ held_is side Closed area file file' stands stands' = refl
 held_is side Unsure area file file' stands stands' = stands ∙ sym stands'
 held_is side (Open place count) area file file' stands stands' = stands.1 ∙ sym stands'.1
 
-module _
-    {D : Type 0}
-    (tells : D → Bool)
-    (may_leave : D → List ℕ → Type 0)
-    (seen : D → List ℕ)
-    (stays : (d : D) → may_leave d (seen d))
-    (store : Snapshots D)
-    (sound : IsSoundStore tells may_leave seen store)
-    (new : D)
-    (telling : tells new ≡ tells store.disk)
-    (none_new : IsTrue (tells store.disk) → NoneNew (may_leave store.disk) (may_leave new)) where
+module _ {D : Type 0} (disks : DiskWords D)
+    (stays : (d : D) → disks.may_leave d (disks.seen d)) (store : Snapshots D)
+    (sound : IsSoundStore disks store) (new : D)
+    (telling : disks.tells new ≡ disks.tells store.disk)
+    (none_new : IsTrue (disks.tells store.disk) → NoneNew (disks.may_leave store.disk)
+    (disks.may_leave new)) where
   abbrev looked : Snapshots D
   looked = record { disk = new; made = store.made; slots = store.slots }
 
   -- nothing was written
-  pub sound_looked : IsSoundStore tells may_leave seen looked
+  pub sound_looked : IsSoundStore disks looked
   sound_looked = record {
     header = λ told_new c now.
         let told = rw telling at told_new in sound.header told c (none_new told c now);
     laid = λ made told_new c now.
         let told = rw telling at told_new in
-        laid_seen A store.slots.a (whole_area A (seen store.disk)) store.slots.b
-        (whole_area B (seen store.disk)) (seen new) c
-        (sound.laid made told (seen new) (none_new told (seen new) (stays new)))
+        laid_seen A store.slots.a (whole_area A (disks.seen store.disk)) store.slots.b
+        (whole_area B (disks.seen store.disk)) (disks.seen new) c
+        (sound.laid made told (disks.seen new) (none_new told (disks.seen new) (stays new)))
         (sound.laid made told c (none_new told c now));
     unmade = sound.unmade;
   }

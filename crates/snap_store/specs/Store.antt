@@ -1,6 +1,7 @@
 -- A store as contracts see it: whole areas, at most one for A and one for B (own).
 use Rattle.std.specs.Prelude.{◌≡◌, ◌⊎◌, ◌≤◌, ℕ, Bool, true, false, List, Option, Some, None}
-use Rattle.disk_model.specs.Disk.{EachImage}
+use Rattle.disk_model.specs.Work.{EachImage}
+use Rattle.disk_model.specs.declared.disk.Disk.{Ghosts as DiskWords}
 use Rattle.snap_store.specs.declared.side.Side.{Side}
 use Rattle.snap_store.specs.declared.side.Side.TheVariants.{A, B}
 use Rattle.snap_store.specs.declared.slot.Slot.{Slot}
@@ -103,14 +104,10 @@ pub record IsGiven
 
 -- what is true of each store
 pub record IsSoundStore
-    {D : Type 0}
-    (tells : D → Bool)
-    (may_leave : D → List ℕ → Type 0)
-    (seen : D → List ℕ)
-    (store : Snapshots D) : Type 0 where
-  pub header : EachImage tells may_leave store.disk (λ image. has_header image ≡ store.made)
+    {D : Type 0} (disks : DiskWords D) (store : Snapshots D) : Type 0 where
+  pub header : EachImage disks store.disk (λ image. has_header image ≡ store.made)
   pub laid :
-      store.made ≡ true → EachImage tells may_leave store.disk
-      (IsLaid A store.slots.a (whole_area A (seen store.disk))
-      store.slots.b (whole_area B (seen store.disk)))
+      store.made ≡ true → EachImage disks store.disk
+      (IsLaid A store.slots.a (whole_area A (disks.seen store.disk))
+      store.slots.b (whole_area B (disks.seen store.disk)))
   pub unmade : store.made ≡ false → (store.slots.a ≡ Closed) × (store.slots.b ≡ Closed)

@@ -1,8 +1,8 @@
 //! A new snapshot file (own).
 
 ghost use Rattle.std.specs.Prelude.{◌≡◌, ◌≤◌, ◌++◌, IsTrue, IsOk, OnOk, IfErr, length, max, drop};
-ghost use Rattle.disk_model.specs.Disk.{Only, file_written, LeavesOnly, AfterWrite, SameDisk};
-ghost use Rattle.disk_model.specs.Work.{MakesCalls};
+ghost use Rattle.disk_model.specs.Disk.{Only, file_written, AfterWrite};
+ghost use Rattle.disk_model.specs.Work.{LeavesOnly, SameDisk, MakesCalls};
 ghost use Rattle.snap_store.specs.File.{snapshot_header, empty_snapshot_file};
 ghost use Rattle.snap_store.specs.Frames.{IsFaultOfDisk};
 
@@ -43,14 +43,12 @@ pub fn make<D: Disk>(disk: &mut D) -> Result<(), DiskFault>
 
     // meanwhile each image is one from before, with any bytes in the first 4,096
     ensures crash { IsTrue (D.tells disk.old)
-        → LeavesOnly D.moment D.left_since disk.old disk.new
-        (AfterWrite 0 4096 (D.may_leave disk.old)) }
+        → LeavesOnly D.Disk disk.old disk.new (AfterWrite 0 4096 (D.may_leave disk.old)) }
     ensures reach { D.reach disk.new ≡ max (D.reach disk.old) 4096 }
-    ensures kept { SameDisk D.tells D.room D.label disk.old disk.new }
+    ensures kept { SameDisk D.Disk disk.old disk.new }
     // by two device calls, or the first of them up to one that failed
     ensures calls { IsTrue (D.tells disk.old)
-        → MakesCalls D.fails_at D.moment D.room 4096 2
-        result disk.old disk.new }
+        → MakesCalls D.Disk 4096 2 result disk.old disk.new }
 {
     let from = disk.faults();
     let Ok(()) = write_through(disk, 0, &first_page()) else {

@@ -3,7 +3,7 @@
 ghost use Rattle.std.specs.Prelude.{◌≡◌, ◌+◌, ◌≤◌, ℕ, IsTrue, IfOk, IfErr, OnOk};
 ghost use Rattle.std.specs.Prelude.{length, take, drop};
 ghost use Rattle.snap_store.specs.File.{newest_area, area_given};
-ghost use Rattle.disk_model.specs.Disk.{OnlyLooks};
+ghost use Rattle.disk_model.specs.Work.{OnlyLooks};
 ghost use Rattle.snap_store.specs.Frames.{HasNewestCause};
 
 use crate::area::Area;
@@ -37,8 +37,7 @@ fn read_bytes<D: Disk>(
         → IfErr result (λ e. e ≡ NewestFault.NoMemory) }
     ensures cause { IfErr result (HasNewestCause (D.faults disk.old) (D.faults disk.new)) }
     ensures faults { IfOk result (λ _. D.faults disk.new ≡ D.faults disk.old) }
-    ensures kept { OnlyLooks D.tells D.may_leave D.moment D.left_since D.reach D.room D.label
-        disk.old disk.new }
+    ensures kept { OnlyLooks D.Disk disk.old disk.new }
 {
     let from = disk.faults();
     let Ok(mut bytes) = vec![in alloc; 0; count as usize] else {
@@ -64,8 +63,7 @@ pub fn find<D: Disk>(
         → IfErr result (λ e. e ≡ NewestFault.NoMemory) }
     ensures cause { IfErr result (HasNewestCause (D.faults disk.old) (D.faults disk.new)) }
     ensures faults { IfOk result (λ _. D.faults disk.new ≡ D.faults disk.old) }
-    ensures kept { OnlyLooks D.tells D.may_leave D.moment D.left_since D.reach D.room D.label
-        disk.old disk.new }
+    ensures kept { OnlyLooks D.Disk disk.old disk.new }
 {
     let from = disk.faults();
     let Ok(outline) = outline_in(disk) else {

@@ -2,8 +2,8 @@
 
 ghost use Rattle.std.specs.Prelude.{◌≡◌, ◌<◌, ◌≤◌, ◌^◌, ◌&&◌, IsTrue, IsOk, IfOk, OnOk, List, ℕ};
 ghost use Rattle.std.specs.Prelude.{length, false, option_map, IfSome};
-ghost use Rattle.disk_model.specs.Work.{MakesCalls};
-ghost use Rattle.disk_model.specs.Disk.{CountsErrors, ReadsFile, Only, OnlyLooks};
+ghost use Rattle.disk_model.specs.Work.{OnlyLooks, MakesCalls};
+ghost use Rattle.disk_model.specs.Disk.{CountsErrors, ReadsFile, Only};
 ghost use Rattle.snap_store.specs.File.{has_header, gate_byte, area_head, is_whole, is_open_area};
 ghost use Rattle.snap_store.specs.File.{newest_area, area_on_side, is_wanted_area};
 ghost use Rattle.snap_store.specs.Outline.{outline_of};
@@ -51,10 +51,9 @@ fn read_head<D: Disk>(disk: &mut D, side: Side) -> Result<Head, Failed>
     ensures works { IsTrue (D.steady disk.old) → IsOk result × IsTrue (D.steady disk.new) }
     ensures cause { CountsErrors result (D.faults disk.old) (D.faults disk.new) }
     ensures seen { OnOk result (IsTrue (D.tells disk.old) → D.seen disk.new ≡ D.seen disk.old) }
-    ensures kept { OnlyLooks D.tells D.may_leave D.moment D.left_since D.reach D.room D.label
-        disk.old disk.new }
+    ensures kept { OnlyLooks D.Disk disk.old disk.new }
     ensures calls { IsTrue (D.tells disk.old)
-        → MakesCalls D.fails_at D.moment D.room 0 1 result disk.old disk.new }
+        → MakesCalls D.Disk 0 1 result disk.old disk.new }
 {
     let mut bytes = [0; 16];
     disk.read_at(side.start(), &mut bytes)?;
@@ -81,10 +80,9 @@ pub fn outline_in<D: Disk>(disk: &mut D) -> Result<Outline, Failed>
     ensures works { IsTrue (D.steady disk.old) → IsOk result × IsTrue (D.steady disk.new) }
     ensures cause { CountsErrors result (D.faults disk.old) (D.faults disk.new) }
     ensures seen { OnOk result (IsTrue (D.tells disk.old) → D.seen disk.new ≡ D.seen disk.old) }
-    ensures kept { OnlyLooks D.tells D.may_leave D.moment D.left_since D.reach D.room D.label
-        disk.old disk.new }
+    ensures kept { OnlyLooks D.Disk disk.old disk.new }
     ensures calls { IsTrue (D.tells disk.old)
-        → MakesCalls D.fails_at D.moment D.room 0 4 result disk.old disk.new }
+        → MakesCalls D.Disk 0 4 result disk.old disk.new }
 {
     let size = disk.size()?;
     let mut bytes = [0; 12];
@@ -108,10 +106,9 @@ pub fn synced_outline<D: Disk>(disk: &mut D) -> Result<Outline, Failed>
     ensures works { IsTrue (D.steady disk.old) → IsOk result }
     ensures cause { CountsErrors result (D.faults disk.old) (D.faults disk.new) }
     ensures seen { OnOk result (IsTrue (D.tells disk.old) → D.seen disk.new ≡ D.seen disk.old) }
-    ensures kept { OnlyLooks D.tells D.may_leave D.moment D.left_since D.reach D.room D.label
-        disk.old disk.new }
+    ensures kept { OnlyLooks D.Disk disk.old disk.new }
     ensures calls { IsTrue (D.tells disk.old)
-        → MakesCalls D.fails_at D.moment D.room 0 5 result disk.old disk.new }
+        → MakesCalls D.Disk 0 5 result disk.old disk.new }
 {
     disk.sync()?;
     let outline = outline_in(disk)?;

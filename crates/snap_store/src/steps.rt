@@ -2,8 +2,7 @@
 
 ghost use Rattle.std.specs.Prelude.{◌≡◌, ◌⊎◌, ◌+◌, ◌≤◌, ℕ, List, OnOk, OnErr, IfErr, IsTrue};
 ghost use Rattle.std.specs.Prelude.{Option, Some, None, length};
-ghost use Rattle.disk_model.specs.Disk.{EachImage};
-ghost use Rattle.disk_model.specs.Work.{MakesCalls, Ran, Triple};
+ghost use Rattle.disk_model.specs.Work.{EachImage, MakesCalls, Ran, Triple};
 ghost use Rattle.snap_store.specs.File.{Stored, area_with, gate_of, side_start, head_bytes};
 ghost use Rattle.snap_store.specs.Slots.{slot_of, with_slot, taken_side, opposite_side};
 ghost use Rattle.snap_store.specs.Slots.{closing_calls};
@@ -20,15 +19,12 @@ use disk_model::{Disk, Failed, write_through};
 // Closes a gate: 0 is written where it isn't known to be 0, and a sync follows. At most two calls.
 fn close_gate<D: Disk>(disk: &mut D, side: Side, slot: Slot) -> Result<(), Failed>
     ensures triple { (area beside_area : Option Stored) (beside : Slot)
-        → Triple D.tells D.may_leave D.moment D.left_since result disk.old disk.new
-        (IsLaid side slot area beside beside_area)
+        → Triple D.Disk result disk.old disk.new (IsLaid side slot area beside beside_area)
         (IsLaid side (loosened slot) area beside beside_area)
         (IsLaid side Closed area beside beside_area) }
-    ensures ran { Ran D.tells D.steady D.room D.label D.faults D.reach
-        (gate_of side + 1) result disk.old disk.new }
+    ensures ran { Ran D.Disk (gate_of side + 1) result disk.old disk.new }
     ensures calls { IsTrue (D.tells disk.old)
-        → MakesCalls D.fails_at D.moment D.room (gate_of side + 1) (closing_calls slot)
-        result disk.old disk.new }
+        → MakesCalls D.Disk (gate_of side + 1) (closing_calls slot) result disk.old disk.new }
 {
     if slot.is_closed() {
         disk.sync()?;
@@ -47,14 +43,12 @@ fn fill<D: Disk>(
 ) -> Result<(), Failed>
     requires { length bytes.now ≤ MAX_SNAPSHOT }
     ensures triple { (area beside_area : Option Stored) (beside : Slot) → Spares side beside
-        → Triple D.tells D.may_leave D.moment D.left_since result disk.old disk.new
+        → Triple D.Disk result disk.old disk.new
         (IsLaid side Closed area beside beside_area) (IsLaid side Closed area beside beside_area)
         (IsLaid side Unsure (Some (area_with place count bytes.now)) beside beside_area) }
-    ensures ran { Ran D.tells D.steady D.room D.label D.faults D.reach
-        (side_start side + 16 + length bytes.now) result disk.old disk.new }
+    ensures ran { Ran D.Disk (side_start side + 16 + length bytes.now) result disk.old disk.new }
     ensures calls { IsTrue (D.tells disk.old)
-        → MakesCalls D.fails_at D.moment D.room (side_start side + 16 + length bytes.now) 3
-        result disk.old disk.new }
+        → MakesCalls D.Disk (side_start side + 16 + length bytes.now) 3 result disk.old disk.new }
 {
     disk.write_at(side.start(), &head_bytes(place, count, bytes.len() as u32))?;
     write_through(disk, side.start() + 16, bytes)
@@ -63,15 +57,12 @@ fn fill<D: Disk>(
 // Opens the gate of an area that is synced, and syncs it.
 fn open_gate<D: Disk>(disk: &mut D, side: Side) -> Result<(), Failed>
     ensures triple { (area : Stored) (beside_area : Option Stored) (beside : Slot)
-        → Triple D.tells D.may_leave D.moment D.left_since result disk.old disk.new
-        (IsLaid side Unsure (Some area) beside beside_area)
+        → Triple D.Disk result disk.old disk.new (IsLaid side Unsure (Some area) beside beside_area)
         (IsLaid side Unsure (Some area) beside beside_area)
         (IsLaid side (Open area.place area.count) (Some area) beside beside_area) }
-    ensures ran { Ran D.tells D.steady D.room D.label D.faults D.reach
-        (gate_of side + 1) result disk.old disk.new }
+    ensures ran { Ran D.Disk (gate_of side + 1) result disk.old disk.new }
     ensures calls { IsTrue (D.tells disk.old)
-        → MakesCalls D.fails_at D.moment D.room (gate_of side + 1) 2
-        result disk.old disk.new }
+        → MakesCalls D.Disk (gate_of side + 1) 2 result disk.old disk.new }
 {
     write_through(disk, side.gate(), &[1])
 }
@@ -99,21 +90,19 @@ fn write_area<D: Disk>(
 ) -> Result<(), Slot>
     requires { length bytes.now ≤ MAX_SNAPSHOT }
     ensures triple { (area beside_area : Option Stored) (beside : Slot) → Spares side beside
-        → Triple D.tells D.may_leave D.moment D.left_since result disk.old disk.new
-        (IsLaid side slot area beside beside_area)
+        → Triple D.Disk result disk.old disk.new (IsLaid side slot area beside beside_area)
         (DuringPut side slot area (area_with place count bytes.now) beside beside_area)
         (IsLaid side (Open place count) (Some (area_with place count bytes.now))
         beside beside_area) }
     ensures err { IfErr result (λ now. (area beside_area : Option Stored) (beside : Slot)
         → Spares side beside
-        → EachImage D.tells D.may_leave disk.old (IsLaid side slot area beside beside_area)
+        → EachImage D.Disk disk.old (IsLaid side slot area beside beside_area)
         → (left : Option Stored) × IsLeft slot area (area_with place count bytes.now) now left
-        × EachImage D.tells D.may_leave disk.new (IsLaid side now left beside beside_area)) }
+        × EachImage D.Disk disk.new (IsLaid side now left beside beside_area)) }
     ensures gate { IfErr result (λ now. (now ≡ Closed) ⊎ (now ≡ Unsure)) }
-    ensures ran { Ran D.tells D.steady D.room D.label D.faults D.reach
-        (side_start side + 16 + length bytes.now) result disk.old disk.new }
+    ensures ran { Ran D.Disk (side_start side + 16 + length bytes.now) result disk.old disk.new }
     ensures calls { IsTrue (D.tells disk.old)
-        → MakesCalls D.fails_at D.moment D.room (side_start side + 16 + length bytes.now)
+        → MakesCalls D.Disk (side_start side + 16 + length bytes.now)
         (closing_calls slot + 5) result disk.old disk.new }
 {
     let Ok(()) = close_gate(disk, side, slot) else {
@@ -140,7 +129,7 @@ pub fn replace<D: Disk>(
     ensures ok { OnOk result (slots.new
         ≡ with_slot slots.old (taken_side slots.old) (Open place count)) }
     ensures triple { (area beside_area : Option Stored)
-        → Triple D.tells D.may_leave D.moment D.left_since result disk.old disk.new
+        → Triple D.Disk result disk.old disk.new
         (IsLaidTaken slots.old (slot_of slots.old (taken_side slots.old)) area beside_area)
         (DuringPut (taken_side slots.old) (slot_of slots.old (taken_side slots.old)) area
         (area_with place count bytes.now)
@@ -150,21 +139,19 @@ pub fn replace<D: Disk>(
     ensures err { OnErr result ((now : Slot)
         × (slots.new ≡ with_slot slots.old (taken_side slots.old) now)
         × ((area beside_area : Option Stored)
-        → EachImage D.tells D.may_leave disk.old
+        → EachImage D.Disk disk.old
         (IsLaidTaken slots.old (slot_of slots.old (taken_side slots.old)) area beside_area)
         → (left : Option Stored)
         × IsLeft (slot_of slots.old (taken_side slots.old)) area
         (area_with place count bytes.now) now left
-        × EachImage D.tells D.may_leave disk.new
-        (IsLaidTaken slots.old now left beside_area))) }
+        × EachImage D.Disk disk.new (IsLaidTaken slots.old now left beside_area))) }
     ensures gate { OnErr result
         ((slots.new ≡ with_slot slots.old (taken_side slots.old) Closed)
         ⊎ (slots.new ≡ with_slot slots.old (taken_side slots.old) Unsure)) }
-    ensures ran { Ran D.tells D.steady D.room D.label D.faults D.reach
+    ensures ran { Ran D.Disk
         (side_start (taken_side slots.old) + 16 + length bytes.now) result disk.old disk.new }
     ensures calls { IsTrue (D.tells disk.old)
-        → MakesCalls D.fails_at D.moment D.room
-        (side_start (taken_side slots.old) + 16 + length bytes.now)
+        → MakesCalls D.Disk (side_start (taken_side slots.old) + 16 + length bytes.now)
         (closing_calls (slot_of slots.old (taken_side slots.old)) + 5) result disk.old disk.new }
 {
     let side = slots.taken();

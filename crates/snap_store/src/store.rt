@@ -3,7 +3,8 @@
 ghost use Rattle.std.specs.Prelude.{◌≡◌, ◌⊎◌, ◌+◌, ◌<◌, ◌≤◌, ℕ, Bool, IsTrue, IsOk, IfOk, IfErr};
 ghost use Rattle.std.specs.Prelude.{OnOk, OnErr, MatchResult, Ok, Some, None, IfSome, length, max};
 ghost use Rattle.std.specs.Prelude.{true, false};
-ghost use Rattle.disk_model.specs.Disk.{Only, LeavesOnly, EachImage, SameDisk, OnlyLooks};
+ghost use Rattle.disk_model.specs.Disk.{Only};
+ghost use Rattle.disk_model.specs.Work.{LeavesOnly, EachImage, SameDisk, OnlyLooks};
 ghost use Rattle.disk_model.specs.Work.{FailedCall, GoodCalls, MakesCalls};
 ghost use Rattle.snap_store.specs.Frames.{IsFaultOfDisk, HasNewestCause};
 ghost use Rattle.snap_store.specs.declared.outline.TheConstants.{MAX_SNAPSHOT};
@@ -36,7 +37,7 @@ impl<D: Disk> Model for Store<D> {
 
     ghost view = { λ s. record { disk = s.disk; made = s.made; slots = s.slots } };
 
-    ghost invariant = { λ s. IsSoundStore D.tells D.may_leave D.seen
+    ghost invariant = { λ s. IsSoundStore D.Disk
         (record { disk = s.disk; made = s.made; slots = s.slots }) };
 }
 
@@ -62,7 +63,7 @@ impl<D: Disk> Store<D> {
         ensures seen { IfOk result (λ s. IsTrue (D.tells disk)
             → (D.seen s.disk ≡ D.seen disk) × Only (D.seen disk) (D.may_leave s.disk)) }
         ensures images { IfOk result (λ s.
-            EachImage D.tells D.may_leave s.disk (IsImageOf D.seen s)) }
+            EachImage D.Disk s.disk (IsImageOf D.seen s)) }
         ensures works { IsTrue (D.steady disk) → IsOk result }
 
         // only where the disk failed in this call
@@ -70,14 +71,12 @@ impl<D: Disk> Store<D> {
         ensures faults { IfOk result (λ s. D.faults s.disk ≡ D.faults disk) }
 
         ensures kept { MatchResult result
-            (λ s. OnlyLooks D.tells D.may_leave D.moment D.left_since D.reach D.room D.label
-            disk s.disk)
-            (λ e. OnlyLooks D.tells D.may_leave D.moment D.left_since D.reach D.room D.label
-            disk e.1) }
+            (λ s. OnlyLooks D.Disk disk s.disk)
+            (λ e. OnlyLooks D.Disk disk e.1) }
         // by five device calls, or the first of them up to one that failed
         ensures calls { IsTrue (D.tells disk) → MatchResult result
-            (λ s. GoodCalls D.fails_at D.moment 5 disk s.disk)
-            (λ e. (k : ℕ) × (k < 5) × FailedCall D.fails_at D.moment D.room 0 k disk e.1) }
+            (λ s. GoodCalls D.Disk 5 disk s.disk)
+            (λ e. (k : ℕ) × (k < 5) × FailedCall D.Disk 0 k disk e.1) }
     {
         let from = disk.faults();
         let Ok(outline) = synced_outline(&mut disk) else {
@@ -97,7 +96,7 @@ impl<D: Disk> Store<D> {
     /// The file has its header. Without it no area is open, and a put does nothing.
     pub fn is_made(&self) -> bool
         ensures value { result ≡ self.now.made }
-        ensures images { EachImage D.tells D.may_leave self.now.disk (IsImageOf D.seen self.now) }
+        ensures images { EachImage D.Disk self.now.disk (IsImageOf D.seen self.now) }
     {
         self.made
     }
@@ -105,7 +104,7 @@ impl<D: Disk> Store<D> {
     /// The area of this OPEN row after so many inputs is known to be open, so it is in each image.
     pub fn is_stored(&self, place: u64, count: u32) -> bool
         ensures value { result ≡ is_stored place count self.now.slots }
-        ensures images { EachImage D.tells D.may_leave self.now.disk (IsImageOf D.seen self.now) }
+        ensures images { EachImage D.Disk self.now.disk (IsImageOf D.seen self.now) }
     {
         self.slots.has(place, count)
     }
@@ -119,8 +118,7 @@ impl<D: Disk> Store<D> {
         ensures ok { OnOk result (self.old.made ≡ true → self.new.slots
             ≡ with_slot self.old.slots (taken_side self.old.slots) (Open place count)) }
         ensures durable { OnOk result (self.old.made ≡ true
-            → EachImage D.tells D.may_leave self.new.disk (λ image.
-            open_area (taken_side self.old.slots) image
+            → EachImage D.Disk self.new.disk (λ image. open_area (taken_side self.old.slots) image
             ≡ Some (area_with place count bytes.now))) }
         ensures unmade { self.old.made ≡ false → IsOk result × (self.new ≡ self.old) }
         ensures works { IsTrue (D.steady self.old.disk)
@@ -152,20 +150,19 @@ impl<D: Disk> Store<D> {
 
         // what a stop may leave meanwhile, and after it
         ensures crash { self.old.made ≡ true → IsTrue (D.tells self.old.disk)
-            → LeavesOnly D.moment D.left_since self.old.disk self.new.disk
+            → LeavesOnly D.Disk self.old.disk self.new.disk
             (IsPutImage D.seen self.old
             (area_with place count bytes.now)) }
-        ensures images { EachImage D.tells D.may_leave self.new.disk (IsImageOf D.seen self.new) }
+        ensures images { EachImage D.Disk self.new.disk (IsImageOf D.seen self.new) }
 
         ensures reach { D.reach self.new.disk ≤ max (D.reach self.old.disk)
             (side_start (taken_side self.old.slots) + 16 + length bytes.now) }
         // by six or seven device calls, or the first of them up to one that failed
         ensures calls { self.old.made ≡ true → IsTrue (D.tells self.old.disk)
-            → MakesCalls D.fails_at D.moment D.room
-            (side_start (taken_side self.old.slots) + 16 + length bytes.now)
+            → MakesCalls D.Disk (side_start (taken_side self.old.slots) + 16 + length bytes.now)
             (closing_calls (slot_of self.old.slots (taken_side self.old.slots)) + 5)
             result self.old.disk self.new.disk }
-        ensures kept { SameDisk D.tells D.room D.label self.old.disk self.new.disk
+        ensures kept { SameDisk D.Disk self.old.disk self.new.disk
             × (self.new.made ≡ self.old.made) }
     {
         if !self.made {
@@ -201,9 +198,8 @@ impl<D: Disk> Store<D> {
 
         ensures areas { (side : Side) → IsTrue (D.tells self.old.disk)
             → store_area D.seen self.new side ≡ store_area D.seen self.old side }
-        ensures images { EachImage D.tells D.may_leave self.new.disk (IsImageOf D.seen self.new) }
-        ensures kept { OnlyLooks D.tells D.may_leave D.moment D.left_since D.reach D.room D.label
-            self.old.disk self.new.disk }
+        ensures images { EachImage D.Disk self.new.disk (IsImageOf D.seen self.new) }
+        ensures kept { OnlyLooks D.Disk self.old.disk self.new.disk }
         ensures slots { (self.new.made ≡ self.old.made) × (self.new.slots ≡ self.old.slots) }
     {
         if !self.made {
@@ -216,7 +212,7 @@ impl<D: Disk> Store<D> {
     /// Its disk.
     pub fn into_disk(self) -> D
         ensures value { result ≡ self.disk }
-        ensures images { EachImage D.tells D.may_leave self.disk (IsImageOf D.seen self) }
+        ensures images { EachImage D.Disk self.disk (IsImageOf D.seen self) }
     {
         let Store {
             disk,

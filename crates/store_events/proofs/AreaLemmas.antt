@@ -30,7 +30,7 @@ use Rattle.store_events.specs.Events.{file_after, store_called, store_comes_up}
 use Rattle.store_events.specs.Events.{next_store_call, begins_opening}
 use Rattle.store_events.specs.Events.{put_begins, put_call, put_onward, slots_in, store_stopped}
 use Rattle.store_events.specs.Steady.{HasStage, HasStep, IsPutting, IsSteady}
-use Rattle.store_events.specs.Steady.{seen_of, store_of, always_tells}
+use Rattle.store_events.specs.Steady.{state_words, store_of}
 use Rattle.store_events.specs.Areas.{Brings, EachArea, EachOpenable, area_being_put}
 use Rattle.store_events.proofs.ImageLemmas.{stays_after}
 use Rattle.store_events.proofs.EventLemmas.{bad_call, bad_reading, good_call, good_reading, keeps}
@@ -187,9 +187,7 @@ module _ (P : Stored → Type 0) where
       → IsDiskImage w.disk image → EachOpenable P image
   in_image w steady all image is side area there =
       all.held side area
-      ((sound_images always_tells IsDiskImage seen_of
-      (store_of w) steady.sound refl image is).openable side area
-      there)
+      (sound_images state_words (store_of w) steady.sound refl image is).openable side area there
 
   up_areas : (w : StoreState) → IsSteady w → EachArea P w → EachArea P (store_comes_up w)
   up_areas w steady all = record {

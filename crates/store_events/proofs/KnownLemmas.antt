@@ -33,7 +33,7 @@ use Rattle.store_events.specs.declared.state.StoreState.{StoreState}
 use Rattle.store_events.specs.Disk.{disk_after}
 use Rattle.store_events.specs.Events.{file_after, store_called, store_comes_up, next_store_call}
 use Rattle.store_events.specs.Events.{put_call, put_onward}
-use Rattle.store_events.specs.Steady.{HasStep, IsPutting, IsSteady, seen_of, store_of, always_tells}
+use Rattle.store_events.specs.Steady.{HasStep, IsPutting, IsSteady, seen_of, state_words, store_of}
 use Rattle.store_events.specs.Areas.{EachArea}
 use Rattle.store_events.proofs.AreaLemmas.{same_or_other, shown_side}
 use Rattle.store_events.proofs.EventLemmas.{bad_call, bad_reading, good_call, good_reading, keeps}
@@ -141,7 +141,7 @@ beside_has place least slots side slot count at le =
 pub shown : (w : StoreState) → IsSteady w → (image : List ℕ) → IsDiskImage w.disk image
     → IsImageOf seen_of (store_of w) image
 shown w steady image is =
-    sound_images always_tells IsDiskImage seen_of (store_of w) steady.sound refl image is
+    sound_images state_words (store_of w) steady.sound refl image is
 
 -- what is known to be open is open in each image
 pub has_open : (place least : ℕ) (w : StoreState) → IsSteady w → HasSince place least w.slots

@@ -30,12 +30,12 @@ use Rattle.store_events.specs.declared.state.StoreState.{StoreState}
 use Rattle.store_events.specs.Disk.{disk_after}
 use Rattle.store_events.specs.Events.{has_room, comes_to, knows, put_call, put_onward, slots_in}
 use Rattle.store_events.specs.Steady.{HasStage, IsPutting, IsSettled}
-use Rattle.store_events.specs.Steady.{IsSteady, seen_of, always_tells}
+use Rattle.store_events.specs.Steady.{IsSteady, state_words}
 use Rattle.store_events.proofs.ImageLemmas.{stays_after, sync_leaves, write_leaves}
 
 abbrev pub Sound : DiskState → Bool → Slots → Type 0
 Sound p made slots =
-    IsSoundStore always_tells IsDiskImage seen_of (record { disk = p; made = made; slots = slots })
+    IsSoundStore state_words (record { disk = p; made = made; slots = slots })
 
 true_false : true ≡ false → ⊥
 true_false is = cc
@@ -117,7 +117,7 @@ closed_in side file is = rw is refl
 
 pub sound_shown : (p : DiskState) → IsSettled p → Sound p (has_header p.seen) (slots_in p.seen)
 sound_shown p only =
-    sound_read always_tells IsDiskImage seen_of
+    sound_read state_words
     (record { disk = p; made = has_header p.seen; slots = slots_in p.seen }) p.seen
     (λ told. record { made = refl; a = refl; b = refl; sees = refl; only = only })
     (λ unmade. (closed_in A p.seen unmade, closed_in B p.seen unmade))

@@ -1,7 +1,8 @@
 -- What holds of a session's snapshot file at any time (own).
-use Rattle.std.specs.Prelude.{◌≡◌, ℕ, Bool, true, List, length, Some}
+use Rattle.std.specs.Prelude.{◌≡◌, ◌^◌, ℕ, true, false, List, length, Some}
 use Rattle.disk_model.specs.Disk.{file_written}
 use Rattle.disk_model.specs.DiskState.{DiskState, IsDiskImage}
+use Rattle.disk_model.specs.declared.disk.Disk.{Ghosts as DiskWords}
 use Rattle.snap_store.specs.declared.side.Side.{Side}
 use Rattle.snap_store.specs.declared.slot.Slot.TheVariants.{Closed, Open, Unsure}
 use Rattle.snap_store.specs.File.{Stored, gate_byte, head_bytes, side_start, whole_area}
@@ -19,12 +20,26 @@ use Rattle.store_events.specs.declared.state.FileStep.TheVariants.{Idle, Put, Op
 use Rattle.store_events.specs.declared.state.StoreState.{StoreState}
 use Rattle.store_events.specs.Events.{has_room}
 
--- what a disk reads as; and each disk tells its bytes here
+-- what a disk reads as
 abbrev pub seen_of : DiskState → List ℕ
 seen_of p = p.seen
 
-abbrev pub always_tells : DiskState → Bool
-always_tells p = true
+-- a disk's state by the words of a disk: it tells its bytes, and there is one moment
+abbrev pub state_words : DiskWords DiskState
+state_words = record {
+  tells = λ p. true;
+  steady = λ p. false;
+  fails_at = λ p t. false;
+  seen = seen_of;
+  may_leave = IsDiskImage;
+  moment = λ p. 0;
+  left_since = λ p t. IsDiskImage p;
+  faults = λ p. 0;
+  reach = λ p. 0;
+  room = λ p. 2 ^ 40;
+  label = λ p. 0;
+  makes = λ old asked good new. Unit {0};
+}
 
 -- the store, as snap_store's contracts see one
 abbrev pub store_of : StoreState → Snapshots DiskState
@@ -72,5 +87,5 @@ HasStep w (Opening ReadB) = IsSettled w.disk
 -- under way included.
 pub record IsSteady (w : StoreState) : Type 0 where
   pub reads : IsDiskImage w.disk w.disk.seen
-  pub sound : IsSoundStore always_tells IsDiskImage seen_of (store_of w)
+  pub sound : IsSoundStore state_words (store_of w)
   pub step : HasStep w w.step

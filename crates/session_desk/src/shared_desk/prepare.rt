@@ -73,7 +73,7 @@ impl<'i, D: Disk + Drop> SharedDesk<'i, D> {
         ensures value { IfOk result (λ said. said ≡ verdict self.new.desk request.now) }
         ensures warm { OnOk result (verdict self.new.desk request.now ≢ Cold) }
         ensures due { OnOk result (snapshot_due self.new ≡ false) }
-        ensures own { OnOk result (IsSoundDesk D.tells D.seen (desk_tag self.new)
+        ensures own { OnOk result (IsSoundDesk D.Disk (desk_tag self.new)
             → HoldsOwnWorld self.new.desk.stories (game self.new.desk) self.new.desk.held) }
         ensures rests { Rests self.old self.new }
     {
@@ -102,11 +102,9 @@ impl<'i, D: Disk + Drop> SharedDesk<'i, D> {
     pub(super) fn unless_fresh(&mut self, alloc: Global, request: &Request) -> Option<Turned>
         ensures value { MatchOption result
             ((verdict self.new.desk request.now ≡ Fresh)
-            × Decides D.tells D.seen request.now self.old
-            (decision_by_desk self.new.desk request.now))
+            × Decides D.Disk request.now self.old (decision_by_desk self.new.desk request.now))
             (λ turned. (decision : Decision)
-            × Decides D.tells D.seen request.now self.old decision
-            × AcceptsNothing decision turned) }
+            × Decides D.Disk request.now self.old decision × AcceptsNothing decision turned) }
         ensures due { MatchOption result (snapshot_due self.new ≡ false) (λ _. ⊤) }
         ensures rests { Rests self.old self.new }
     {

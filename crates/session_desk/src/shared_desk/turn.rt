@@ -118,7 +118,7 @@ impl<'i, D: Disk + Drop> SharedDesk<'i, D> {
     ) -> Turned
         requires cell { IsOf journal.now self.old.pass }
         requires ranges { IsInRange request.now }
-        ensures turn { TurnsBy D.tells D.seen request.now by self.old result self.new }
+        ensures turn { TurnsBy D.Disk request.now by self.old result self.new }
         ensures forgets { result.outcome ≡ Outcome.Forgotten
             → world_now self.new.desk.held ≡ None }
         ensures kept { desk_tag self.new ≡ desk_tag self.old }
@@ -145,7 +145,7 @@ impl<'i, D: Disk + Drop> SharedDesk<'i, D> {
         requires cell { IsOf journal.now self.old.pass }
         requires ranges { IsInRange request.now }
         ensures commands { commands_in self.old.history ≡ self.old.desk.commands }
-        ensures turn { TurnsBy D.tells D.seen request.now by self.old result self.new }
+        ensures turn { TurnsBy D.Disk request.now by self.old result self.new }
         ensures adds { AddsTo self.old.history by self.new.history }
         ensures due { snapshot_due self.new ≡ false }
 

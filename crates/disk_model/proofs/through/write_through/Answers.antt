@@ -13,9 +13,9 @@ returns-in_err-write_at-clause-crash g c told =
     let P : List ℕ → Type 0 =
     AfterWrite c.args.place (length c.args.piece.now) (g.D.Disk.may_leave d) in
     let at_start =
-    started g.D.Disk.moment g.D.Disk.left_since d P
+    started g.D.Disk d P
     (λ f left. (f, g.met.D.Disk.only_now d f left, torn_same _ _ f)) in
-    goes_on g.D.Disk.moment g.D.Disk.left_since d d c.write_at.new.self P _ at_start
+    goes_on g.D.Disk d d c.write_at.new.self P _ at_start
     c.write_at.ensures.time (c.write_at.ensures.crash told)
 
 pub returns-in_err-sync-clause-crash : goal.returns-in_err-sync-clause-crash
@@ -25,12 +25,12 @@ returns-in_err-sync-clause-crash g c told =
     let P : List ℕ → Type 0 =
     AfterWrite c.args.place (length c.args.piece.now) (g.D.Disk.may_leave d) in
     let at_start =
-    started g.D.Disk.moment g.D.Disk.left_since d P
+    started g.D.Disk d P
     (λ f left. (f, g.met.D.Disk.only_now d f left, torn_same _ _ f)) in
     let wrote =
-    goes_on g.D.Disk.moment g.D.Disk.left_since d d c.write_at.new.self P _ at_start
+    goes_on g.D.Disk d d c.write_at.new.self P _ at_start
     c.write_at.ensures.time (c.write_at.ensures.crash told) in
-    goes_on g.D.Disk.moment g.D.Disk.left_since d
+    goes_on g.D.Disk d
     c.write_at.new.self c.sync.new.self P _ wrote c.sync.ensures.time
     (λ f now. c.write_at.ensures.crash told f (c.sync.ensures.crash told_then f now))
 
@@ -41,12 +41,12 @@ returns-clause-crash g c told =
     let P : List ℕ → Type 0 =
     AfterWrite c.args.place (length c.args.piece.now) (g.D.Disk.may_leave d) in
     let at_start =
-    started g.D.Disk.moment g.D.Disk.left_since d P
+    started g.D.Disk d P
     (λ f left. (f, g.met.D.Disk.only_now d f left, torn_same _ _ f)) in
     let wrote =
-    goes_on g.D.Disk.moment g.D.Disk.left_since d d c.write_at.new.self P _ at_start
+    goes_on g.D.Disk d d c.write_at.new.self P _ at_start
     c.write_at.ensures.time (c.write_at.ensures.crash told) in
-    goes_on g.D.Disk.moment g.D.Disk.left_since d
+    goes_on g.D.Disk d
     c.write_at.new.self c.sync.new.self P _ wrote c.sync.ensures.time
     (λ f now. c.write_at.ensures.crash told f (c.sync.ensures.crash told_then f now))
 

@@ -1,21 +1,23 @@
 use Rattle.std.proofs.Common.{List, ℕ, Bool, arith, inl, inr, refl, subst, sym, ⊎_elim}
 use Rattle.std.specs.Prelude.{IsTrue}
 use Rattle.disk_model.proofs.CountLaws.{among_then, answered_ok, failed_farther, good_then, refused}
-use Rattle.disk_model.specs.Disk.{AfterWrite, Elapses, LeavesOnly, NoneNew}
+use Rattle.disk_model.specs.Disk.{AfterWrite, Elapses, NoneNew}
+use Rattle.disk_model.specs.Work.{LeavesOnly}
+use Rattle.disk_model.specs.declared.disk.Disk.{Ghosts as DiskWords}
 use Rattle.disk_model.proofs.Torn.{torn_same}
 use Rattle.gate_journal.proofs.Opening.{one_call, and_more}
 use Rattle.gate_journal.proofs.begin.init.Goals as goal
 
 -- a look, and then a write that a stop may cut short
 begun :
-    {D : Type 0} {moment : D → ℕ} {left_since : D → ℕ → List ℕ → Type 0}
-    (may_leave : D → List ℕ → Type 0) {old mid new : D} {n : ℕ}
-    → ((f : List ℕ) → left_since old (moment old) f → may_leave old f)
-    → Elapses (moment old) (moment mid) (left_since old) (left_since mid) (may_leave mid)
-    → NoneNew (may_leave old) (may_leave mid)
-    → LeavesOnly moment left_since mid new (AfterWrite 0 n (may_leave mid))
-    → LeavesOnly moment left_since old new (AfterWrite 0 n (may_leave old))
-begun may_leave {n = n} only time none_new wrote =
+    {D : Type 0} (disks : DiskWords D) {old mid new : D} {n : ℕ}
+    → ((f : List ℕ) → disks.left_since old (disks.moment old) f → disks.may_leave old f)
+    → Elapses (disks.moment old) (disks.moment mid) (disks.left_since old) (disks.left_since mid)
+    (disks.may_leave mid)
+    → NoneNew (disks.may_leave old) (disks.may_leave mid)
+    → LeavesOnly disks mid new (AfterWrite 0 n (disks.may_leave mid))
+    → LeavesOnly disks old new (AfterWrite 0 n (disks.may_leave old))
+begun disks {n = n} only time none_new wrote =
     and_more
     (one_call (λ f left. (f, only f left, torn_same 0 n f)) time
     (λ f now. (f, none_new f now, torn_same 0 n f)))
@@ -24,14 +26,12 @@ begun may_leave {n = n} only time none_new wrote =
 pub returns-in_default-write_through-clause-crash :
     goal.returns-in_default-write_through-clause-crash
 returns-in_default-write_through-clause-crash g c told =
-    begun g.D.Disk.may_leave (g.met.D.Disk.only_now _) c.size.ensures.time
-    (c.size.ensures.crash told)
+    begun g.D.Disk (g.met.D.Disk.only_now _) c.size.ensures.time (c.size.ensures.crash told)
     (c.write_through.ensures.crash (rw c.size.ensures.kept.telling told))
 
 pub returns-clause-crash : goal.returns-clause-crash
 returns-clause-crash g c told =
-    begun g.D.Disk.may_leave (g.met.D.Disk.only_now _) c.size.ensures.time
-    (c.size.ensures.crash told)
+    begun g.D.Disk (g.met.D.Disk.only_now _) c.size.ensures.time (c.size.ensures.crash told)
     (c.write_through.ensures.crash (rw c.size.ensures.kept.telling told))
 
 pub returns-in_default-clause-calls : goal.returns-in_default-clause-calls

@@ -21,10 +21,9 @@ returns-in_default-clause-triple g c front is =
 pub returns-in_default-clause-before : goal.returns-in_default-clause-before
 returns-in_default-clause-before g c is_before front is each told_then =
     let told = rw c.write_through.ensures.kept.telling at told_then in
-    holds_now g.D.Disk.moment g.D.Disk.left_since g.D.Disk.may_leave c.args.disk.now
-    c.write_through.new.disk (IsShut front)
+    holds_now g.D.Disk c.args.disk.now c.write_through.new.disk (IsShut front)
     (g.met.D.Disk.counts_now c.write_through.new.disk)
-    (weaker g.D.Disk.moment g.D.Disk.left_since c.args.disk.now c.write_through.new.disk _
+    (weaker g.D.Disk c.args.disk.now c.write_through.new.disk _
     (IsShut front) (c.write_through.ensures.crash told)
     (λ f now.
     shut_torn front (c.args.gate + 1) _ (omega arith) f now.0 (each told now.0 now.1) now.2))
@@ -59,10 +58,9 @@ returns-in_default-write_through-clause-at_gate g c is_at front is each told_las
     subst (λ (l : List ℕ). IsUnsure front past l) (sym (c.in-Ok.ensures.ok told f now))
     (shut_written front past (c.args.gate + 1) (omega arith) seen
     (each told seen (g.met.D.Disk.seen_may_stay c.args.disk.now))) in
-    holds_now g.D.Disk.moment g.D.Disk.left_since g.D.Disk.may_leave c.write_through.new.disk
-    c.write_through-2.new.disk (IsUnsure front past)
+    holds_now g.D.Disk c.write_through.new.disk c.write_through-2.new.disk (IsUnsure front past)
     (g.met.D.Disk.counts_now c.write_through-2.new.disk)
-    (weaker g.D.Disk.moment g.D.Disk.left_since c.write_through.new.disk c.write_through-2.new.disk
+    (weaker g.D.Disk c.write_through.new.disk c.write_through-2.new.disk
     _ (IsUnsure front past) (c.write_through-2.ensures.crash told_then)
     (λ f now. unsure_torn front past c.args.gate is f now.0 (unsure now.0 now.1) now.2))
 

@@ -2,8 +2,9 @@ use Rattle.std.proofs.Common.{◌≡◌, ℕ, List, ◌+◌, ◌<◌, ◌⊎◌}
 use Rattle.std.proofs.Common.{◌∙◌, ap, sym, subst, arith, length, get_or, inl, inr, ⊎_elim}
 use Rattle.disk_model.proofs.CountLaws.{good_then, failed_then, failed_within, answered, refused}
 use Rattle.std.proofs.lemmas.List.{get_or_read}
-use Rattle.disk_model.specs.Disk.{Elapses, LeavesOnly, NoneNew}
-use Rattle.disk_model.specs.Work.{GoodCalls}
+use Rattle.disk_model.specs.Disk.{Elapses, NoneNew}
+use Rattle.disk_model.specs.Work.{LeavesOnly, GoodCalls}
+use Rattle.disk_model.specs.declared.disk.Disk.{Ghosts as DiskWords}
 use Rattle.gate_journal.specs.declared.row.Row.{Row}
 use Rattle.gate_journal.specs.Rows.{journal_bytes, SpellsRows, version_byte}
 use Rattle.gate_journal.specs.Opening.{MayMigrate}
@@ -21,17 +22,17 @@ there {items} {s} {at} {byte} is within read =
 
 -- a sync and then looks leave what was there, and then the writes what these bytes become meanwhile
 written :
-    {D : Type 0} {moment : D → ℕ} {left_since : D → ℕ → List ℕ → Type 0}
-    (may_leave : D → List ℕ → Type 0) {old mid last new : D} {found : List Row} {s : List ℕ}
+    {D : Type 0} (disks : DiskWords D) {old mid last new : D} {found : List Row} {s : List ℕ}
     {end : ℕ}
-    → ((f : List ℕ) → left_since old (moment old) f → may_leave old f)
-    → Elapses (moment old) (moment mid) (left_since old) (left_since mid) (may_leave mid)
-    → NoneNew (may_leave old) (may_leave mid)
-    → LeavesOnly moment left_since mid last (may_leave mid)
+    → ((f : List ℕ) → disks.left_since old (disks.moment old) f → disks.may_leave old f)
+    → Elapses (disks.moment old) (disks.moment mid) (disks.left_since old) (disks.left_since mid)
+    (disks.may_leave mid)
+    → NoneNew (disks.may_leave old) (disks.may_leave mid)
+    → LeavesOnly disks mid last (disks.may_leave mid)
     → SpellsRows s found × (end ≡ length (journal_bytes found))
-    → LeavesOnly moment left_since last new (MayMigrate s end)
-    → LeavesOnly moment left_since old new (λ f. may_leave old f ⊎ IsMigrating s f)
-written may_leave {found = found} {s = s} only time none_new looks (stands, is) writes =
+    → LeavesOnly disks last new (MayMigrate s end)
+    → LeavesOnly disks old new (λ f. disks.may_leave old f ⊎ IsMigrating s f)
+written disks {found = found} {s = s} only time none_new looks (stands, is) writes =
     and_more
     (and_more
     (one_call (λ f left. inl (only f left)) time (λ f now. inl (none_new f now)))
@@ -47,7 +48,7 @@ returns-in_default-migrate-clause-migrates g c told =
     let bytes_are = c.deref.ensures.value ∙ items_are in
     let long : c.in_ok-parsed.parsed.end < length c.in_ok-bytes.bytes.items =
     omega (arith, parsed.0.within, parsed.1, ap length c.deref.ensures.value) in
-    written g.D.Disk.may_leave (g.met.D.Disk.only_now _) c.sync.ensures.time
+    written g.D.Disk (g.met.D.Disk.only_now _) c.sync.ensures.time
     (c.sync.ensures.crash told) (c.read_all.ensures.kept.moments told_then)
     (rw bytes_are at parsed)
     ((c.migrate.ensures.triple _ (there items_are long c.index-gate.ensures)
@@ -63,7 +64,7 @@ returns-clause-migrates g c told =
     let bytes_are = c.deref.ensures.value ∙ items_are in
     let long : c.in_ok-parsed.parsed.end < length c.in_ok-bytes.bytes.items =
     omega (arith, parsed.0.within, parsed.1, ap length c.deref.ensures.value) in
-    written g.D.Disk.may_leave (g.met.D.Disk.only_now _) c.sync.ensures.time
+    written g.D.Disk (g.met.D.Disk.only_now _) c.sync.ensures.time
     (c.sync.ensures.crash told) (c.read_all.ensures.kept.moments told_then)
     (rw bytes_are at parsed)
     ((c.migrate.ensures.triple _ (there items_are long c.index-gate.ensures)
@@ -149,7 +150,7 @@ returns-in_default-migrate-clause-calls g c told is_fault =
 pub returns-clause-calls : goal.returns-clause-calls
 returns-clause-calls g c told =
     let told_then = rw (← c.sync.ensures.kept.telling) at told in
-    let three : GoodCalls g.D.Disk.fails_at g.D.Disk.moment 3 c.args.disk.now c.read_all.new.disk =
+    let three : GoodCalls g.D.Disk 3 c.args.disk.now c.read_all.new.disk =
     good_then 1 2
     (answered (λ is_err. absurd (cc)) c.in-Ok.ensures.err (c.in-Ok.ensures.clock told)
     c.sync.ensures.listed) (c.in_ok-bytes.ensures.calls told_then) in

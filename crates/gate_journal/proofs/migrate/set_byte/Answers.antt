@@ -8,7 +8,8 @@ use Rattle.gate_journal.proofs.migrate.set_byte.Goals as goal
 pub returns-then-now-wanted-clause-triple : goal.returns-then-now-wanted-clause-triple
 returns-then-now-wanted-clause-triple g c bytes is =
     rw (same_byte bytes c.args.place c.args.wanted (is ∙ c.if-now-wanted.true))
-    (looser (λ f same. inl same) (nothing (g.met.D.Disk.only_now c.args.disk.now)))
+    (looser (λ f same. inl same)
+    (nothing {disks = g.D.Disk} (g.met.D.Disk.only_now c.args.disk.now)))
 
 pub returns-then-now-wanted-clause-calls : goal.returns-then-now-wanted-clause-calls
 returns-then-now-wanted-clause-calls g c told =

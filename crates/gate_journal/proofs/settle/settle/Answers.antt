@@ -9,7 +9,7 @@ use Rattle.gate_journal.proofs.settle.settle.Goals as goal
 pub returns-then-is_none-clause-triple : goal.returns-then-is_none-clause-triple
 returns-then-is_none-clause-triple g c rows ends =
     let none : c.args.uncertain.now ≡ None = search rules in
-    rw none (nothing (g.met.D.Disk.only_now c.args.disk.now))
+    rw none (nothing {disks = g.D.Disk} (g.met.D.Disk.only_now c.args.disk.now))
 
 pub returns-in_default-clause-triple : goal.returns-in_default-clause-triple
 returns-in_default-clause-triple g c rows ends =

@@ -8,7 +8,7 @@ returns-in-Ok-open-clause-drilled g c =
     let opened = c.in-Ok-open.ensures.ok.3 in
     record {
       of = opened.of;
-      sound = c.in-Ok-open.ensures.sound (made_agree _ _ _ _ _ c.requires.made);
+      sound = c.in-Ok-open.ensures.sound (made_agree _ _ _ _ c.requires.made);
       alone = opened.alone;
       many = ap length opened.histories ∙ many_histories c.in-Ok-open.ensures.ok.0;
       stories = opened.stories ∙ c.requires.stories;

@@ -6,7 +6,7 @@ use Rattle.host_drill.proofs.session.length_of.Goals as goal
 
 pub returns-in-Some-clause-value : goal.returns-in-Some-clause-value
 returns-in-Some-clause-value g c =
-    length_told _ _ _ _ _ c.requires.drilled _ _ _ c.in_ok-answered.ensures.value
+    length_told _ _ _ _ c.requires.drilled _ _ _ c.in_ok-answered.ensures.value
     c.args.number c.args.session 0 c.requires.below c.ranges.number.fits
     (omega arith) c.in_ok-lines.ensures c.in-Some.mark.now
     (subst (λ (ms : List Mark). slice_get ms 0 ≡ Some c.in-Some.mark.now) c.deref.ensures.value
@@ -14,6 +14,6 @@ returns-in-Some-clause-value g c =
 
 pub returns-in-Some-clause-others : goal.returns-in-Some-clause-others
 returns-in-Some-clause-others g c =
-    others _ _ _ _ _ c.requires.drilled _ _ _ c.in_ok-answered.ensures.value c.args.number
+    others _ _ _ _ c.requires.drilled _ _ _ c.in_ok-answered.ensures.value c.args.number
     c.args.session 0 c.requires.below c.ranges.number.fits
     (omega arith) c.in_ok-lines.ensures

@@ -8,5 +8,5 @@ abbrev pub invariant-loop-session : goal.invariant-loop-session
 invariant-loop-session g l = record {
   told : l.text.items ≡ flat_map (session_line l.number) (range_with_len 0 l.session);
   fresh : AreFreshFrom l.session l.passes;
-  drilled : IsDrilled g.D.Disk.tells g.D.Disk.seen l.host l.passes;
+  drilled : IsDrilled g.D.Disk l.host l.passes;
 }

@@ -21,7 +21,7 @@ loop-disk-preserved g c =
     record {
       can = tt;
       finite = tt;
-      opened = stores_pushed _ _ _ _ _ _ _ _ _ _ o.0 _ c.in-Some.disk _ _ c.in-Ok-open.store
+      opened = stores_pushed _ _ o.0 _ c.in-Some.disk _ _ c.in-Ok-open.store
           (o.1 ∙ ap (λ l. o.0 ++ l) steps.0) c.push_reserved.ensures.items o.2
           (record {
             areas = c.in-Ok-open.ensures.areas;

@@ -10,9 +10,7 @@ invariant-loop-disk g l = record {
   finite : (goal.iterator-loop-disk g).is_finite l.disk-iterator;
   opened : (done : List g.row.D.Denot)
       × (l.fn.disks.items ≡ done ++ drain_items l.disk-iterator)
-      × AllZip (IsStoreOf g.D.Disk.tells g.D.Disk.may_leave g.D.Disk.seen g.D.Disk.moment
-      g.D.Disk.left_since g.D.Disk.faults g.D.Disk.reach g.D.Disk.room g.D.Disk.label) done
-      l.stores.items;
+      × AllZip (IsStoreOf g.D.Disk) done l.stores.items;
   room : vec_capacity l.stores ≡ 64;
   kept : (drain_kept l.disk-iterator ≡ []) × (64 ≤ drain_capacity l.disk-iterator);
 }

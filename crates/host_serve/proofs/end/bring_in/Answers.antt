@@ -7,7 +7,7 @@ use Rattle.host_serve.proofs.end.bring_in.Goals as goal
 pub returns-clause-value : goal.returns-clause-value
 returns-clause-value g c =
     let parts = c.into_parts-journal_pass.ensures in
-    brings_in _ _ _ _ _ _ _ _ _ _ _ _ _ c.enter-desk.result
+    brings_in _ _ _ _ _ c.enter-desk.result
     c.into_parts-journal_pass.result.0 _ _ c.enter-desk.ensures.value c.enter-desk.ensures.alone
     c.enter-desk.ensures.complete c.enter-desk.ensures.tag
     (ap (λ (t : DeskTag g.row.D.Denot). t.session)

@@ -11,7 +11,7 @@ use Rattle.host_serve.proofs.end.gather.Goals as goal
 
 pub loop-s-init : goal.loop-s-init
 loop-s-init g c = record {
-  told = gathers_none _ _ _ _ _ _ _ _ _ _ _ _ _ _ c.requires.room.0;
+  told = gathers_none _ _ _ _ _ _ c.requires.room.0;
   root = c.requires.root;
   room = c.requires.room.1;
   later = λ t p low. refl;
@@ -55,8 +55,8 @@ push_reserved-requires g c = omega (
 
 pub loop-s-preserved : goal.loop-s-preserved
 loop-s-preserved g c = record {
-  told = gathers_more _ _ _ _ _ _ _ _ _ _ _ _ _ _ _ _ _ _ c.bring_in.result c.loop-s.invariant.told
-      (brought_at _ _ _ _ _ _ _ _ _ c.args.passes.now c.loop-s.s
+  told = gathers_more _ _ _ _ _ _ _ _ _ _ c.bring_in.result c.loop-s.invariant.told
+      (brought_at _ c.args.passes.now c.loop-s.s
       (get_or c.loop-s.passes c.loop-s.s c.index-passes-s.result) c.bring_in.new.root
       c.bring_in.result
       (omega (
@@ -76,8 +76,7 @@ loop-s-preserved g c = record {
 }
 
 pub returns-clause-value : goal.returns-clause-value
-returns-clause-value g c = subst (λ (n : ℕ). Gathers g.D.Disk.tells g.D.Disk.may_leave
-    g.D.Disk.seen g.D.Disk.moment g.D.Disk.left_since g.D.Disk.faults g.D.Disk.reach g.D.Disk.room g.D.Disk.label n
+returns-clause-value g c = subst (λ (n : ℕ). Gathers g.D.Disk n
     (holders c.args.passes.now) (seens c.args.passes.now)
     (map (tag_of desk_tag) c.args.passes.now) c.args.root.now c.loop-s.root c.loop-s.disks.items)
     (omega (arith, c.loop-s-test.false, c.loop-s.auto.s-end, c.from-s-end.ensures))

@@ -9,8 +9,7 @@ use Rattle.host_serve.proofs.end.gather.Given as goal
 
 abbrev pub invariant-loop-s : goal.invariant-loop-s
 invariant-loop-s g l = record {
-  told : Gathers g.D.Disk.tells g.D.Disk.may_leave g.D.Disk.seen g.D.Disk.moment g.D.Disk.left_since g.D.Disk.faults g.D.Disk.reach
-      g.D.Disk.room g.D.Disk.label l.s (holders l.fn.passes) (seens l.fn.passes)
+  told : Gathers g.D.Disk l.s (holders l.fn.passes) (seens l.fn.passes)
       (map (tag_of desk_tag) l.fn.passes) l.fn.root l.root l.disks.items;
   root : IsOf l.journal l.root × IsOutside l.root;
   room : 64 ≤ vec_capacity l.disks;

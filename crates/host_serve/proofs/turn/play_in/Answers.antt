@@ -26,6 +26,6 @@ returns-clause-value g c =
           (ap (λ (t : DeskTag g.row.D.Denot). t.stories) tag) c.answer-reply.ensures.commands
           c.count-length.ensures
           (λ sound. turn.own
-          (subst (IsSoundDesk g.D.Disk.tells g.D.Disk.seen) (sym tag) (sound _ its.0 its.1)))
+          (subst (IsSoundDesk g.D.Disk) (sym tag) (sound _ its.0 its.1)))
           turn.met turn.reply (c.leave.ensures.seen ∙ turn.history),
     )

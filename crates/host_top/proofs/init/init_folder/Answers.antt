@@ -63,5 +63,5 @@ returns-clause-stood g c = λ stand is.
     (c.init_all-status.ensures.stood (none_still _ _ _ _ stand.unlisted c.in-Ok-disk.ensures.listed)
     (λ s low. each_snap (λ n. is_out ((g.O.Outside.outside c.disk.new.self).loan n) ≡ false)
     c.args.folder.now 64 s
-    (stores_in _ _ _ _ _ _ _ lends (journal_apart c.args.folder.now 64) stand.none_out) low)
+    (stores_in _ _ _ _ _ _ lends (journal_apart c.args.folder.now 64) stand.none_out) low)
     stood.0 is)

@@ -19,8 +19,7 @@ returns-in-Err-Journal-clause-refused g c =
       gave = gave_none input;
       says = c.say_fault.ensures.value;
       images =
-          may_open_again g.D.Disk.tells g.D.Disk.may_leave g.D.Disk.moment g.D.Disk.left_since
-          c.args.disks.journal c.in-Err-Journal.disk
+          may_open_again g.D.Disk c.args.disks.journal c.in-Err-Journal.disk
           same.telling crash (g.met.D.Disk.counts_now c.in-Err-Journal.disk);
       meanwhile = crash;
       reaches = rw c.in-Err-Journal.field-0-is at c.in-Err-Journal.ensures.writes;

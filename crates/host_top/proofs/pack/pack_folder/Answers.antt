@@ -85,8 +85,8 @@ returns-clause-stood g c = λ stand is.
     ((rw writes at c.pack_into-status.ensures.stood)
     (rw (sym c.may_write.ensures.others.1) at (none_still _ _ _ _
     (rw (sym c.only_look.ensures.others.1) at stand.unlisted) c.in-Ok-disk.ensures.listed))
-    (others_in _ _ _ _ _ _ _ lends
+    (others_in _ _ _ _ _ _ lends
     (turned_about (journal_in into) (journal_in from) (other_journal from into c.requires))
     (stand.none_out _))
-    (λ s low. others_in _ _ _ _ _ _ _ lends (no_store from into s low) (stand.none_out _))
+    (λ s low. others_in _ _ _ _ _ _ lends (no_store from into s low) (stand.none_out _))
     kept.0 is)

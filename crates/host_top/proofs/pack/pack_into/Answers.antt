@@ -72,7 +72,7 @@ returns-clause-stood g c = λ none out stores stood is.
     (rw (c.deref-2.ensures ∙ c.in-Ok.ensures) at c.put_back.ensures.back) stood in
     elim (c.pack_all-status.ensures.stood
     (none_still _ _ _ _ none c.in-Ok-disk.ensures.listed)
-    (λ s low. others_in _ _ _ _ _ _ _ lends (no_store folder folder s low) (stores s low))
+    (λ s low. others_in _ _ _ _ _ _ lends (no_store folder folder s low) (stores s low))
     kept.0 is) [
       | inl old ↦ old
       | inr new ↦ absurd (kept.1 new)

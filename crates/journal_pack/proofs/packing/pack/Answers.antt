@@ -3,7 +3,9 @@ use Rattle.std.proofs.Common.{ap, subst, arith, ⊎_elim}
 use Rattle.std.specs.Prelude.{Result, Err, IsOk}
 use Rattle.std.proofs.lemmas.Bool.{cases_lt, false≢true}
 use Rattle.std.proofs.lemmas.List.{nil_from_length}
-use Rattle.disk_model.specs.Disk.{Elapses, LeavesOnly, NoneNew}
+use Rattle.disk_model.specs.Disk.{Elapses, NoneNew}
+use Rattle.disk_model.specs.Work.{LeavesOnly}
+use Rattle.disk_model.specs.declared.disk.Disk.{Ghosts as DiskWords}
 use Rattle.disk_model.proofs.CountLaws.{answered, failed_then, good_then, refused}
 use Rattle.disk_model.proofs.Moments.{started, goes_on, and_then, weaker}
 use Rattle.gate_journal.specs.declared.row.Row.{Row}
@@ -16,19 +18,17 @@ use Rattle.journal_pack.proofs.packing.pack.Goals as goal
 
 -- one look before the writes
 sized :
-    {D : Type 0} {moment : D → ℕ} {left_since : D → ℕ → List ℕ → Type 0}
-    (may_leave : D → List ℕ → Type 0) {old mid new : D} {P : List ℕ → Type 0}
-    → ((f : List ℕ) → left_since old (moment old) f → may_leave old f)
-    → Elapses (moment old) (moment mid) (left_since old) (left_since mid) (may_leave mid)
-    → NoneNew (may_leave old) (may_leave mid)
-    → ((f : List ℕ) → may_leave old f → P f)
-    → LeavesOnly moment left_since mid new P
-    → LeavesOnly moment left_since old new P
-sized {moment = moment} {left_since = left_since} may_leave {old = old} {mid = mid} {new = new}
-    {P = P} only time none_new each wrote =
-    and_then moment left_since old mid new P
-    (goes_on moment left_since old old mid P (may_leave mid)
-    (started moment left_since old P (λ f left. each f (only f left))) time
+    {D : Type 0} (disks : DiskWords D) {old mid new : D} {P : List ℕ → Type 0}
+    → ((f : List ℕ) → disks.left_since old (disks.moment old) f → disks.may_leave old f)
+    → Elapses (disks.moment old) (disks.moment mid) (disks.left_since old) (disks.left_since mid)
+    (disks.may_leave mid)
+    → NoneNew (disks.may_leave old) (disks.may_leave mid)
+    → ((f : List ℕ) → disks.may_leave old f → P f) → LeavesOnly disks mid new P
+    → LeavesOnly disks old new P
+sized disks {old = old} {mid = mid} {new = new} {P = P} only time none_new each wrote =
+    and_then disks old mid new P
+    (goes_on disks old old mid P (disks.may_leave mid)
+    (started disks old P (λ f left. each f (only f left))) time
     (λ f now. each f (none_new f now))) wrote
 
 -- an empty file is no journal
@@ -110,10 +110,9 @@ returns-in_default-write_whole-clause-crash g c told only =
     let triple =
     c.write_whole.ensures.triple (packed found.0) (live_journal found.0 found.1.journal)
     (packed_bytes found.0 _ (c.deref.ensures.value ∙ found.3)) in
-    sized g.D.Disk.may_leave (g.met.D.Disk.only_now _) c.size.ensures.time
+    sized g.D.Disk (g.met.D.Disk.only_now _) c.size.ensures.time
     (c.size.ensures.crash told) (λ f now. inl (nothing f (only f now)))
-    (weaker g.D.Disk.moment g.D.Disk.left_since c.size.new.self c.write_whole.new.disk
-    (NoneOrAll (packed found.0)) _
+    (weaker g.D.Disk c.size.new.self c.write_whole.new.disk (NoneOrAll (packed found.0)) _
     (triple.meanwhile told_then (λ f now. only f (c.size.ensures.crash told f now)))
     (λ f is. inr (found.0, found.1, is)))
 
@@ -124,10 +123,9 @@ returns-clause-crash g c told only =
     let triple =
     c.write_whole.ensures.triple (packed found.0) (live_journal found.0 found.1.journal)
     (packed_bytes found.0 _ (c.deref.ensures.value ∙ found.3)) in
-    sized g.D.Disk.may_leave (g.met.D.Disk.only_now _) c.size.ensures.time
+    sized g.D.Disk (g.met.D.Disk.only_now _) c.size.ensures.time
     (c.size.ensures.crash told) (λ f now. inl (nothing f (only f now)))
-    (weaker g.D.Disk.moment g.D.Disk.left_since c.size.new.self c.write_whole.new.disk
-    (NoneOrAll (packed found.0)) _
+    (weaker g.D.Disk c.size.new.self c.write_whole.new.disk (NoneOrAll (packed found.0)) _
     (triple.meanwhile told_then (λ f now. only f (c.size.ensures.crash told f now)))
     (λ f is. inr (found.0, found.1, is)))
 

@@ -90,7 +90,7 @@ pub returns-clause-calls : goal.returns-clause-calls
 returns-clause-calls g c told =
     let told_then = rw (← c.write_through.ensures.kept.telling) at told in
     let told_last = rw (← c.write_through-2.ensures.kept.telling) at told_then in
-    calls_then g.D.Disk.room c.write_through-3.new.disk c.write_through-3.result 4 2 _ _
+    calls_then g.D.Disk c.write_through-3.new.disk c.write_through-3.result 4 2 _ _
     (good_then 2 2 (c.in-Ok.ensures.calls told) (c.in-Ok-write_through.ensures.calls told_then))
     (c.write_through-2.ensures.kept.size ∙ c.write_through.ensures.kept.size) (omega arith)
     (c.write_through-3.ensures.calls told_last)

@@ -25,9 +25,8 @@ returns-clause-areas g c told =
 
 pub returns-then-len-clause-crash : goal.returns-then-len-clause-crash
 returns-then-len-clause-crash g c told =
-    untouched g.D.Disk.tells g.D.Disk.may_leave g.D.Disk.moment g.D.Disk.left_since g.D.Disk.seen
-    g.met.D.Disk.only_now c.args.world.now c.args.place c.args.count c.args.store.now
-    c.is_made.ensures.images told
+    untouched g.D.Disk g.met.D.Disk.only_now c.args.world.now c.args.place c.args.count
+    c.args.store.now c.is_made.ensures.images told
 
 pub returns-in-Ok-put-clause-crash : goal.returns-in-Ok-put-clause-crash
 returns-in-Ok-put-clause-crash g c told =
@@ -35,9 +34,8 @@ returns-in-Ok-put-clause-crash g c told =
     let world = c.args.world.now in
     let has = subst (λ (l : List ℕ). HasBytes world.image l world) (sym c.as_slice.ensures.value)
     c.in-Ok.ensures.value in
-    put_crash g.D.Disk.tells g.D.Disk.may_leave g.D.Disk.moment g.D.Disk.left_since g.D.Disk.seen
-    world c.args.place c.args.count c.as_slice.result.now c.args.store.now c.put.new.self.disk has
-    (c.in-Ok-put.ensures.crash made told)
+    put_crash g.D.Disk world c.args.place c.args.count c.as_slice.result.now c.args.store.now
+    c.put.new.self.disk has (c.in-Ok-put.ensures.crash made told)
 
 pub returns-clause-crash : goal.returns-clause-crash
 returns-clause-crash g c told =
@@ -45,6 +43,5 @@ returns-clause-crash g c told =
     let world = c.args.world.now in
     let has = subst (λ (l : List ℕ). HasBytes world.image l world) (sym c.as_slice.ensures.value)
     c.in-Ok.ensures.value in
-    put_crash g.D.Disk.tells g.D.Disk.may_leave g.D.Disk.moment g.D.Disk.left_since g.D.Disk.seen
-    world c.args.place c.args.count c.as_slice.result.now c.args.store.now c.put.new.self.disk has
-    (c.in-Err.ensures.crash made told)
+    put_crash g.D.Disk world c.args.place c.args.count c.as_slice.result.now c.args.store.now
+    c.put.new.self.disk has (c.in-Err.ensures.crash made told)

@@ -64,7 +64,7 @@ returns-in_err-a-clause-calls g c told =
     let told_sized = subst (λ (b : Bool). IsTrue b) (sym c.size.ensures.kept.telling) told in
     let told_read =
     subst (λ (b : Bool). IsTrue b) (sym c.read_at.ensures.kept.telling) told_sized in
-    let good : GoodCalls g.D.Disk.fails_at g.D.Disk.moment 2 c.args.disk.now c.read_at.new.self =
+    let good : GoodCalls g.D.Disk 2 c.args.disk.now c.read_at.new.self =
     good_then 1 1
     (answered_ok c.in_ok-size.ensures.err
     (c.in_ok-size.ensures.clock told) c.size.ensures.listed)
@@ -81,7 +81,7 @@ returns-in_err-b-clause-calls g c told =
     let told_sized = subst (λ (b : Bool). IsTrue b) (sym c.size.ensures.kept.telling) told in
     let told_read =
     subst (λ (b : Bool). IsTrue b) (sym c.read_at.ensures.kept.telling) told_sized in
-    let good : GoodCalls g.D.Disk.fails_at g.D.Disk.moment 2 c.args.disk.now c.read_at.new.self =
+    let good : GoodCalls g.D.Disk 2 c.args.disk.now c.read_at.new.self =
     good_then 1 1
     (answered_ok c.in_ok-size.ensures.err
     (c.in_ok-size.ensures.clock told) c.size.ensures.listed)
@@ -100,7 +100,7 @@ returns-clause-calls g c told =
     let told_sized = subst (λ (b : Bool). IsTrue b) (sym c.size.ensures.kept.telling) told in
     let told_read =
     subst (λ (b : Bool). IsTrue b) (sym c.read_at.ensures.kept.telling) told_sized in
-    let good : GoodCalls g.D.Disk.fails_at g.D.Disk.moment 2 c.args.disk.now c.read_at.new.self =
+    let good : GoodCalls g.D.Disk 2 c.args.disk.now c.read_at.new.self =
     good_then 1 1
     (answered_ok c.in_ok-size.ensures.err
     (c.in_ok-size.ensures.clock told) c.size.ensures.listed)

@@ -15,7 +15,7 @@ returns-in_err-write_at-clause-triple g c area beside_area beside spares =
     let long : length c.head_bytes.result ≡ 16 =
     ap (λ (l : List ℕ). length l) c.head_bytes.ensures
     ∙ length-head c.args.place c.args.count (length c.args.bytes.now) in
-    let begun = area_begun {tells = g.D.Disk.tells} {may_leave = g.D.Disk.may_leave}
+    let begun = area_begun {disks = g.D.Disk}
     c.args.side {area = area} {beside_area = beside_area} spares (omega (arith, c.start.ensures))
     (omega (arith, c.start.ensures, long)) (g.met.D.Disk.only_now c.args.disk.now)
     c.write_at.ensures.time c.write_at.ensures.crash in
@@ -30,7 +30,7 @@ returns-clause-triple g c area beside_area beside spares =
     let long : length c.head_bytes.result ≡ 16 =
     ap (λ (l : List ℕ). length l) c.head_bytes.ensures
     ∙ length-head c.args.place c.args.count (length bytes) in
-    let begun = area_begun {tells = g.D.Disk.tells} {may_leave = g.D.Disk.may_leave}
+    let begun = area_begun {disks = g.D.Disk}
     side {area = area} {beside_area = beside_area} spares (omega (arith, c.start.ensures))
     (omega (arith, c.start.ensures, long)) (g.met.D.Disk.only_now d)
     c.write_at.ensures.time c.write_at.ensures.crash in
@@ -80,7 +80,7 @@ returns-in_err-write_at-clause-calls g c told =
 
 pub returns-clause-calls : goal.returns-clause-calls
 returns-clause-calls g c told =
-    calls_then g.D.Disk.room c.write_through.new.disk c.write_through.result 1 2
+    calls_then g.D.Disk c.write_through.new.disk c.write_through.result 1 2
     (c.start-2.result + 16 + length c.args.bytes.now) _
     (answered (λ is_err. absurd (cc)) c.in_ok-write_at.ensures.err
     (c.in_ok-write_at.ensures.clock told) c.write_at.ensures.listed)

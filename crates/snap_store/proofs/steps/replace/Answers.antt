@@ -1,9 +1,8 @@
 use Rattle.std.proofs.Common.{◌≡◌, ◌+◌, ◌∙◌, ap, length, subst}
-use Rattle.disk_model.specs.Disk.{EachImage}
 use Rattle.disk_model.proofs.WorkLaws.{done, failed}
 use Rattle.snap_store.specs.declared.side.Side.{Side}
 use Rattle.snap_store.specs.declared.slot.Slot.{Slot}
-use Rattle.disk_model.specs.Work.{GoodCalls}
+use Rattle.disk_model.specs.Work.{EachImage, GoodCalls}
 use Rattle.disk_model.proofs.CountLaws.{FailsAmong}
 use Rattle.snap_store.specs.File.{area_with, side_start}
 use Rattle.snap_store.specs.Slots.{closing_calls, opposite_side, slot_of, with_slot, taken_side}
@@ -46,7 +45,7 @@ returns-in-Err-clause-err g c =
           (λ told f now. rw (is, slot_is) (each told f now)) in (
             found.0,
             subst (λ (k : Slot). IsLeft k area put c.in-Err.now found.0) slot_is found.1,
-            subst (λ (s : Side). EachImage g.D.Disk.tells g.D.Disk.may_leave new
+            subst (λ (s : Side). EachImage g.D.Disk new
                 (IsLaid s c.in-Err.now found.0 beside beside_area)) is found.2,
           ),
     )
@@ -54,7 +53,7 @@ returns-in-Err-clause-err g c =
 pub returns-in-Ok-clause-calls : goal.returns-in-Ok-clause-calls
 returns-in-Ok-clause-calls g c told =
     let is = c.taken-side.ensures in
-    subst (λ (s : Slot). GoodCalls g.D.Disk.fails_at g.D.Disk.moment (closing_calls s + 5)
+    subst (λ (s : Slot). GoodCalls g.D.Disk (closing_calls s + 5)
     c.args.disk.now c.write_area.new.disk)
     (c.of-slot.ensures ∙ ap (λ (s : Side). slot_of c.args.slots.now s) is)
     (c.in-Ok.ensures.calls told)
@@ -63,6 +62,6 @@ pub returns-in-Err-clause-calls : goal.returns-in-Err-clause-calls
 returns-in-Err-clause-calls g c told =
     let is = c.taken-side.ensures in
     let slot_is = c.of-slot.ensures ∙ ap (λ (s : Side). slot_of c.args.slots.now s) is in
-    subst (λ (x : Side × Slot). FailsAmong g.D.Disk.fails_at g.D.Disk.moment g.D.Disk.room
+    subst (λ (x : Side × Slot). FailsAmong g.D.Disk
     (side_start x.0 + 16 + length c.args.bytes.now) (closing_calls x.1 + 5) c.args.disk.now
     c.write_area.new.disk) (λ i. (is i, slot_is i)) (c.in-Err.ensures.calls told)

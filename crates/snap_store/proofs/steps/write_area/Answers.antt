@@ -114,8 +114,7 @@ returns-clause-calls g c told =
     subst (λ (b : Bool). IsTrue b) (sym c.close_gate.ensures.ran.same.telling) told in
     let told_last =
     subst (λ (b : Bool). IsTrue b) (sym c.fill.ensures.ran.same.telling) told_then in
-    subst (λ (k : ℕ). GoodCalls g.D.Disk.fails_at g.D.Disk.moment k c.args.disk.now
-    c.open_gate.new.disk) (omega arith)
+    subst (λ (k : ℕ). GoodCalls g.D.Disk k c.args.disk.now c.open_gate.new.disk) (omega arith)
     (good_then (n + 3) 2
     (good_then n 3 (c.in-Ok.ensures.calls told) (c.in-Ok-fill.ensures.calls told_then))
     (c.in-Ok-open_gate.ensures.calls told_last))

@@ -22,8 +22,7 @@ invariant_of-self g c =
     let sound = c.self.invariant.0 in
     let now =
     sound_unrepaired c.self.view_is sound c.requires.stands _ c.in_default.ensures.gate
-    (λ told. holds_now g.D.Disk.moment g.D.Disk.left_since g.D.Disk.may_leave
-    c.self.inside.disk c.settle.new.disk _
+    (λ told. holds_now g.D.Disk c.self.inside.disk c.settle.new.disk _
     (g.met.D.Disk.counts_now c.settle.new.disk)
     (let told_then = rw c.settle.ensures.ran.same.telling at told in
     (c.settle.ensures.triple _ sound.ends).meanwhile told_then (sound.images told_then)))
@@ -74,7 +73,7 @@ invariant_of-self-in-Ok-write_row g c =
           (row_is c.self.view_is c.self.invariant.0 c.requires.stands c.fill-row.ensures.row)
           c.note-in-Ok-write_row.ensures
           (unsure_none _ c.in-Ok.ensures.gate)
-          (same_then c.settle.ensures.ran.same c.write_row.ensures.ran.same)
+          (same_then g.D.Disk c.settle.ensures.ran.same c.write_row.ensures.ran.same)
           (returns-in-Ok-write_row-clause-crash g c)
           (asked_row c.self.view_is c.self.invariant.1 c.requires.stands _ _ _ _
           c.self.invariant.0.ends c.fill-row.ensures.row bytes c.settle.ensures.ran.asked
@@ -111,7 +110,7 @@ invariant_of-self-in-Err-Before g c =
           (row_is c.self.view_is c.self.invariant.0 c.requires.stands c.fill-row.ensures.row)
           c.note-in-Err-Before.ensures
           (unsure_none _ c.in-Ok.ensures.gate)
-          (same_then c.settle.ensures.ran.same c.write_row.ensures.ran.same)
+          (same_then g.D.Disk c.settle.ensures.ran.same c.write_row.ensures.ran.same)
           (returns-in-Err-Before-clause-crash g c)
           (asked_row c.self.view_is c.self.invariant.1 c.requires.stands _ _ _ _ c.self.invariant.0.ends
           c.fill-row.ensures.row (c.deref.ensures.value ∙ c.fill-row.ensures.bytes)
@@ -149,7 +148,7 @@ invariant_of-self-in-Err-AtGate g c =
           c.note-in-Err-AtGate.ensures
           (unsure_now c.self.view_is c.self.invariant.1 c.requires.stands c.fill-row.result.0 _ _
           c.note_fault-fault-in-Err-AtGate.ensures.entry c.note_uncertain.ensures)
-          (same_then c.settle.ensures.ran.same c.write_row.ensures.ran.same)
+          (same_then g.D.Disk c.settle.ensures.ran.same c.write_row.ensures.ran.same)
           (crash_row c.self.view_is c.self.invariant.0 c.requires.stands c.in-Ok.ensures.triple
           c.settle.ensures.ran.same.telling c.fill-row.ensures.row
           (c.deref.ensures.value ∙ c.fill-row.ensures.bytes) c.write_row.ensures.triple)
@@ -162,13 +161,13 @@ invariant_of-self-in-Err-AtGate g c =
 -- which device call failed
 pub returns-in_default-clause-stage : goal.returns-in_default-clause-stage
 returns-in_default-clause-stage g c =
-    stage_repair g.D.Disk.tells g.D.Disk.fails_at g.D.Disk.moment g.D.Disk.room c.args.session
+    stage_repair g.D.Disk c.args.session
     c.args.command.now c.self.view_is c.self.invariant.0.ends c.in_default.ensures.calls
     c.in_default.ensures.gate
 
 pub returns-in-Err-Before-clause-stage : goal.returns-in-Err-Before-clause-stage
 returns-in-Err-Before-clause-stage g c =
-    stage_row g.D.Disk.tells g.D.Disk.fails_at g.D.Disk.moment g.D.Disk.room c.args.session
+    stage_row g.D.Disk c.args.session
     c.args.command.now c.self.view_is c.self.invariant.0.ends c.in-Ok.ensures.calls
     c.settle.ensures.ran.same.telling c.settle.ensures.ran.same.size c.fill-row.ensures.row
     (c.deref.ensures.value ∙ c.fill-row.ensures.bytes)
@@ -176,7 +175,7 @@ returns-in-Err-Before-clause-stage g c =
 
 pub returns-clause-stage : goal.returns-clause-stage
 returns-clause-stage g c =
-    stage_gate g.D.Disk.tells g.D.Disk.fails_at g.D.Disk.moment g.D.Disk.room c.args.session
+    stage_gate g.D.Disk c.args.session
     c.args.command.now c.self.view_is c.self.invariant.0.ends c.in-Ok.ensures.calls
     c.settle.ensures.ran.same.telling c.settle.ensures.ran.same.size c.fill-row.ensures.row
     (c.deref.ensures.value ∙ c.fill-row.ensures.bytes)
@@ -184,7 +183,7 @@ returns-clause-stage g c =
 
 pub returns-in-Ok-write_row-clause-calls : goal.returns-in-Ok-write_row-clause-calls
 returns-in-Ok-write_row-clause-calls g c =
-    calls_row g.D.Disk.tells g.D.Disk.fails_at g.D.Disk.moment g.D.Disk.room c.args.session
+    calls_row g.D.Disk c.args.session
     c.args.command.now c.self.view_is c.self.invariant.0.ends c.in-Ok.ensures.calls
     c.settle.ensures.ran.same.telling c.settle.ensures.ran.same.size c.fill-row.ensures.row
     (c.deref.ensures.value ∙ c.fill-row.ensures.bytes) c.in-Ok-write_row.ensures.calls

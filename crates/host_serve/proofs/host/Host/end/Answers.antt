@@ -38,15 +38,14 @@ gather-requires-clause-room g c = c.requires.passes.whole.room
 pub returns : goal.returns
 returns g c =
     let in_all = subst (λ (l : List (Pass (SharedState g.row.D.Denot) Entry)).
-    Gathers g.D.Disk.tells g.D.Disk.may_leave g.D.Disk.seen g.D.Disk.moment g.D.Disk.left_since g.D.Disk.faults g.D.Disk.reach
-    g.D.Disk.room g.D.Disk.label 64 (holders l) (seens l) (map (tag_of desk_tag) l)
+    Gathers g.D.Disk 64 (holders l) (seens l) (map (tag_of desk_tag) l)
     c.args.self.root c.gather.new.root c.gather.new.disks.items) c.deref_mut.ensures.value
     c.gather.ensures.value in
     record {
       value = (
         c.enter.result,
         c.into_disk.ensures.value,
-        ends_with _ _ _ _ _ _ _ _ _ c.args.self c.args.passes c.gather.new.root
+        ends_with _ c.args.self c.args.passes c.gather.new.root
             c.gather.new.disks.items c.enter.result c.requires.passes.whole in_all
             c.enter.ensures.value c.enter.ensures.tag c.into_disk.ensures.journal,
         c.into_disk.ensures.journal,
@@ -54,13 +53,13 @@ returns g c =
         c.into_disk.ensures.opens,
         c.into_disk.ensures.rises,
         c.into_disk.ensures.since,
-        λ sound. agrees_back _ _ _ _ _ _ _ _ _ c.args.self c.args.passes c.gather.new.root
+        λ sound. agrees_back _ c.args.self c.args.passes c.gather.new.root
             c.gather.new.disks.items c.enter.result c.requires.passes in_all
             c.enter.ensures.value c.into_disk.ensures.journal sound,
-        λ sound. files_back _ _ _ _ _ _ _ _ _ c.args.self c.args.passes c.gather.new.root
+        λ sound. files_back _ c.args.self c.args.passes c.gather.new.root
             c.gather.new.disks.items c.enter.result c.requires.passes in_all
             c.enter.ensures.value c.into_disk.ensures.journal sound,
       );
-      stores = gives_back _ _ _ _ _ _ _ _ _ c.args.self c.args.passes c.gather.new.root
+      stores = gives_back _ c.args.self c.args.passes c.gather.new.root
           c.gather.new.disks.items c.requires.passes in_all;
     }

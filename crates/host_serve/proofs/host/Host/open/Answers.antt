@@ -23,16 +23,12 @@ returns-in-Ok-open_over-clause-ok g c = (
 
 pub returns-in-Ok-open_over-clause-stores : goal.returns-in-Ok-open_over-clause-stores
 returns-in-Ok-open_over-clause-stores g c =
-    subst (AreStoresOf g.D.Disk.tells g.D.Disk.may_leave g.D.Disk.seen g.D.Disk.moment
-    g.D.Disk.left_since g.D.Disk.faults g.D.Disk.reach g.D.Disk.room g.D.Disk.label
+    subst (AreStoresOf g.D.Disk
     c.args.snaps.items) (sym c.in-Ok-open_over.ensures.stores) c.in-Ok-open_stores.ensures.ok
 
 pub returns-in-Ok-open_over-clause-sound : goal.returns-in-Ok-open_over-clause-sound
 returns-in-Ok-open_over-clause-sound g c = λ agreed.
-    sound_of g.D.Disk.tells g.D.Disk.may_leave g.D.Disk.seen g.D.Disk.moment
-    g.D.Disk.left_since g.D.Disk.faults g.D.Disk.reach g.D.Disk.room g.D.Disk.label
-    c.in-Ok-open_over.opened.0 c.args.stories.now c.args.snaps.items
-    (subst (AreStoresOf g.D.Disk.tells g.D.Disk.may_leave g.D.Disk.seen g.D.Disk.moment
-    g.D.Disk.left_since g.D.Disk.faults g.D.Disk.reach g.D.Disk.room g.D.Disk.label
+    sound_of g.D.Disk c.in-Ok-open_over.opened.0 c.args.stories.now c.args.snaps.items
+    (subst (AreStoresOf g.D.Disk
     c.args.snaps.items) (sym c.in-Ok-open_over.ensures.stores) c.in-Ok-open_stores.ensures.ok)
     c.in-Ok-open_over.ensures.ok.stories agreed

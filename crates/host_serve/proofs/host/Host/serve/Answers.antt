@@ -7,8 +7,7 @@ use Rattle.host_serve.proofs.host.Host.serve.Goals as goal
 
 pub returns-in_default-clause-value : goal.returns-in_default-clause-value
 returns-in_default-clause-value g c = told_nothing
-    (IsSound g.D.Disk.tells g.D.Disk.seen)
-    (record {
+    (IsSound g.D.Disk) (record {
       host = c.args.self.now;
       holders = holders c.args.passes.now.desks.items;
       seen = seens c.args.passes.now.desks.items;

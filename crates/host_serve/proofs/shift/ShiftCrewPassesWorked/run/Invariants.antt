@@ -4,5 +4,4 @@ use Rattle.host_serve.proofs.shift.ShiftCrewPassesWorked.run.Given as goal
 
 abbrev pub invariant-loop : goal.invariant-loop
 invariant-loop g l = Visits g.O.Conn.Source.source g.O.Conn.Sink.sink g.O.Conn.Link.lent
-    (g.O.Door.gives l.self.door.now) (IsSound g.D.Disk.tells g.D.Disk.seen) l.self.host.now
-    l.fn.passes l.passes
+    (g.O.Door.gives l.self.door.now) (IsSound g.D.Disk) l.self.host.now l.fn.passes l.passes

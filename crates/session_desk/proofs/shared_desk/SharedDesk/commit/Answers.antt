@@ -32,7 +32,7 @@ invariant_of-self-2 g c =
     let marked : c.note.new.marks.items
     ≡ c.self.inside.marks.items ++ marks_by c.args.by c.commit-done.result = cc in
     rw c.note.ensures.place
-    (whole-committed _ _ _ _ _ _ _ _ _ c.note.new.marks.items c.self.inside.place old
+    (whole-committed g.D.Disk _ c.note.new.marks.items c.self.inside.place old
     c.commit-done.new.self c.commit-done.new.pass c.args.request.now _ c.self.invariant
     (marked-by _ _ c.args.by _ _ _ _ _ _ c.commit-done.ensures.value marked c.self.invariant.marked
     c.commit-done.ensures.pass) c.commit-done.ensures.value fresh idle

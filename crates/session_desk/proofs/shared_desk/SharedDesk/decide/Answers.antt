@@ -5,13 +5,13 @@ use Rattle.session_desk.proofs.shared_desk.SharedDesk.decide.Goals as goal
 
 pub returns-in-Some-clause-turn : goal.returns-in-Some-clause-turn
 returns-in-Some-clause-turn g c =
-    turns-by-quiet g.D.Disk.tells g.D.Disk.seen c.args.request.now c.args.by c.args.self.now
+    turns-by-quiet g.D.Disk c.args.request.now c.args.by c.args.self.now
     c.unless_fresh.new.self c.in-Some.turned c.unless_fresh.ensures.rests
     c.in-Some.ensures.value
 
 pub returns-in-None-clause-turn : goal.returns-in-None-clause-turn
 returns-in-None-clause-turn g c =
-    turns-by-fresh g.D.Disk.tells g.D.Disk.seen c.args.request.now c.args.by c.args.self.now
+    turns-by-fresh g.D.Disk c.args.request.now c.args.by c.args.self.now
     c.unless_fresh.new.self c.accept.new.self c.accept.result
     c.unless_fresh.ensures.rests c.in-None.ensures.value.1 c.accept.ensures.turn
     c.accept.ensures.journal

@@ -13,6 +13,6 @@ returns g c =
         entries = c.self.invariant.marked.entries;
       };
       store =
-          ends_store _ _ _ _ _ _ _ _ g.D.Disk.may_leave _ _ _ c.self.invariant
+          ends_store g.D.Disk c.self.inside.marks.items c.self.inside.place _ c.self.invariant
           (rw c.into_store-store.ensures.value at c.is_made-made.ensures.images);
     })

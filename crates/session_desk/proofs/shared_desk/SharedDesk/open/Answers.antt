@@ -9,8 +9,7 @@ invariant_of-result g c =
     ≡ replicate (length c.in_ok-desk.desk.commands) (marks.Accepted 0) =
     c.in_ok-marks.ensures.items_if_clones_equal (λ y is. is)
     ∙ ap (λ (n : ℕ). replicate n (marks.Accepted 0)) (omega (arith, c.len.ensures)) in
-    (whole-open g.D.Disk.tells g.D.Disk.seen g.D.Disk.moment g.D.Disk.left_since g.D.Disk.room
-    g.D.Disk.label g.D.Disk.faults g.D.Disk.reach g.D.Disk.may_leave g.met.D.Disk.only_now c.in_ok-marks.marks.items c.last_open-place.result
+    (whole-open g.D.Disk g.met.D.Disk.only_now c.in_ok-marks.marks.items c.last_open-place.result
     c.in_ok-desk.desk c.args.session c.args.stories.now c.args.budget c.args.rows.now
     c.args.pass c.open-saves.result c.of-given.result.value c.of-first.result.value c.args.store
     all c.in_ok-desk.ensures.value c.requires.pass c.requires.rows c.last_open-place.ensures
@@ -25,10 +24,8 @@ returns g c =
     ∙ ap (λ (n : ℕ). replicate n (marks.Accepted 0)) (omega (arith, c.len.ensures)) in
     record {
       value =
-          (whole-open g.D.Disk.tells g.D.Disk.seen g.D.Disk.moment g.D.Disk.left_since
-          g.D.Disk.room g.D.Disk.label g.D.Disk.faults g.D.Disk.reach g.D.Disk.may_leave
-          g.met.D.Disk.only_now c.in_ok-marks.marks.items c.last_open-place.result
-          c.in_ok-desk.desk c.args.session c.args.stories.now c.args.budget c.args.rows.now
+          (whole-open g.D.Disk g.met.D.Disk.only_now c.in_ok-marks.marks.items
+          c.last_open-place.result c.in_ok-desk.desk c.args.session c.args.stories.now c.args.budget c.args.rows.now
           c.args.pass c.open-saves.result c.of-given.result.value c.of-first.result.value
           c.args.store
           all c.in_ok-desk.ensures.value c.requires.pass c.requires.rows c.last_open-place.ensures

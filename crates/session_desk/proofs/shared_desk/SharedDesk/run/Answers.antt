@@ -4,5 +4,5 @@ use Rattle.session_desk.proofs.shared_desk.SharedDesk.run.Goals as goal
 
 pub invariant_of-self : goal.invariant_of-self
 invariant_of-self g c =
-    whole-run _ _ _ _ _ _ _ _ _ _ _ c.run.new.self c.run.result c.self.invariant refl
-    c.run.ensures.ok c.run.ensures.err
+    whole-run g.D.Disk c.self.inside.marks.items c.self.inside.place _
+    c.run.new.self c.run.result c.self.invariant refl c.run.ensures.ok c.run.ensures.err

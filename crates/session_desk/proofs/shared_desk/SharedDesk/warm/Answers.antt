@@ -14,13 +14,14 @@ unwrap-place-requires g c =
     state_of c.self.inside.desk c.self.inside.marks.items c.self.inside.pass c.self.inside.saves
     c.self.inside.store.value c.self.inside.first.value in
     let cold : is_cold old.desk ≡ true = rw (← c.self.view_is) at c.requires.cold in
-    has_place _ _ _ _ _ _ _ _ _ _ old c.self.invariant (cold_used old.desk cold)
+    has_place g.D.Disk c.self.inside.marks.items c.self.inside.place old c.self.invariant
+    (cold_used old.desk cold)
 
 pub invariant_of-self : goal.invariant_of-self
 invariant_of-self g c =
-    whole_cold _ _ _ _ _ _ _ _ g.D.Disk.may_leave g.met.D.Disk.counts_now _ _ _ c.warm.new.self
-    c.self.invariant c.warm.ensures.kept c.warm.ensures.counts
-    c.warm.ensures.areas c.warm.ensures.slots
+    whole_cold g.D.Disk g.met.D.Disk.counts_now c.self.inside.marks.items
+    c.self.inside.place _ c.warm.new.self c.self.invariant
+    c.warm.ensures.kept c.warm.ensures.counts c.warm.ensures.areas c.warm.ensures.slots
 
 pub returns-in_err-world-clause-own : goal.returns-in_err-world-clause-own
 returns-in_err-world-clause-own g c =
@@ -48,11 +49,13 @@ invariant_of-self-2 g c =
     c.self.inside.store.value c.self.inside.first.value in
     let other : is_other_story old.desk.stories (game old.desk) ≡ false =
     rw (← c.self.view_is) at c.requires.story in
-    whole_warmed _ _ _ _ _ _ _ _ g.D.Disk.may_leave g.met.D.Disk.counts_now _ _ old c.hold.new.self
-    c.warm.new.self c.unwrap.result c.self.invariant refl c.hold.ensures
-    c.in_ok-world.ensures.kept c.in_ok-world.ensures.counts c.in_ok-world.ensures.areas
-    c.in_ok-world.ensures.slots
-    (warm_own _ _ _ _ _ _ _ _ _ _ old _ _ _ _ _ c.self.invariant c.unwrap-place.ensures
+    whole_warmed g.D.Disk g.met.D.Disk.counts_now c.self.inside.marks.items
+    c.self.inside.place old c.hold.new.self c.warm.new.self c.unwrap.result c.self.invariant
+    refl c.hold.ensures c.in_ok-world.ensures.kept c.in_ok-world.ensures.counts
+    c.in_ok-world.ensures.areas c.in_ok-world.ensures.slots
+    (warm_own g.D.Disk c.self.inside.marks.items c.self.inside.place old c.stories.result.now
+    c.game.result.now c.unwrap-place.result c.in_ok-world.world c.unwrap.result c.self.invariant
+    c.unwrap-place.ensures
     c.stories.ensures c.game.ensures.value c.unwrap.ensures other c.in_ok-world.ensures.value)
 
 pub returns : goal.returns
@@ -65,18 +68,24 @@ returns g c =
     rw (← c.self.view_is)
     (record {
       found =
-          warms_held _ _ _ _ _ _ _ _ _ _ old c.hold.new.self
-          (commands_woven c.self.inside.marks.items c.hold.new.self.commands) c.warm.new.self
-          _ _ _ _ _ _ _ c.self.invariant c.unwrap-place.ensures c.stories.ensures
-          c.game.ensures.value c.unwrap.ensures c.hold.ensures c.in_ok-world.ensures.found;
+          warms_held g.D.Disk c.self.inside.marks.items c.self.inside.place old c.hold.new.self
+          (commands_woven c.self.inside.marks.items c.hold.new.self.commands)
+          c.warm.new.self c.stories.result.now c.game.result.now
+          c.unwrap-place.result c.in_ok-world.world c.unwrap.result c.args.steps.now
+          c.warm.new.steps c.self.invariant c.unwrap-place.ensures
+          c.stories.ensures c.game.ensures.value c.unwrap.ensures c.hold.ensures
+          c.in_ok-world.ensures.found;
       own =
-          λ sound. rw c.hold.ensures
-          (warm_own _ _ _ _ _ _ _ _ _ _ old _ _ _ _ _ c.self.invariant c.unwrap-place.ensures
-          c.stories.ensures c.game.ensures.value c.unwrap.ensures other
+          λ sound. rw c.hold.ensures (warm_own g.D.Disk c.self.inside.marks.items
+          c.self.inside.place old c.stories.result.now c.game.result.now c.unwrap-place.result
+          c.in_ok-world.world c.unwrap.result c.self.invariant
+          c.unwrap-place.ensures c.stories.ensures c.game.ensures.value c.unwrap.ensures other
           c.in_ok-world.ensures.value sound);
       cost =
-          warm_cost _ _ _ _ _ _ _ _ _ _ old c.warm.new.self _ _ _ c.args.steps.now c.warm.new.steps
-          c.self.invariant c.unwrap-place.ensures c.stories.ensures c.game.ensures.value other
+          warm_cost g.D.Disk c.self.inside.marks.items c.self.inside.place old c.warm.new.self
+          c.stories.result.now c.game.result.now c.unwrap-place.result c.args.steps.now
+          c.warm.new.steps c.self.invariant
+          c.unwrap-place.ensures c.stories.ensures c.game.ensures.value other
           c.in_ok-world.ensures.cost;
       err = tt;
       rests = rw c.hold.ensures (record { desk = refl; history = refl; pass = refl; tag = refl });

@@ -3,5 +3,5 @@ use Rattle.session_desk.proofs.shared_desk.SharedDesk.warm_for.Goals as goal
 
 pub returns-in-Cold-clause-warm : goal.returns-in-Cold-clause-warm
 returns-in-Cold-clause-warm g c =
-    warms_tell_ok g.D.Disk.tells g.D.Disk.seen g.D.Disk.faults c.args.request.now
+    warms_tell_ok g.D.Disk c.args.request.now
     c.args.self.now c.warm.new.self _ _ c.warm.result c.warm.ensures.found

@@ -2,4 +2,4 @@ use Rattle.snap_store.proofs.StoreLemmas.{sound_images}
 use Rattle.snap_store.proofs.store.Store.into_disk.Goals as goal
 
 pub returns-clause-images : goal.returns-clause-images
-returns-clause-images g c = rw (← c.self.view_is) (sound_images _ _ _ _ c.self.invariant)
+returns-clause-images g c = rw (← c.self.view_is) (sound_images _ _ c.self.invariant)

@@ -15,7 +15,7 @@ invariant_of-result g c =
       made = c.in-Ok.outline.made;
       slots = record { a = c.slot.result; b = c.slot-2.result };
     } in
-    sound_read g.D.Disk.tells g.D.Disk.may_leave g.D.Disk.seen S file
+    sound_read g.D.Disk S file
     (λ told_last.
     let told =
     subst (λ (b : Bool). IsTrue b) c.synced_outline.ensures.kept.same.telling told_last in
@@ -30,7 +30,7 @@ invariant_of-result g c =
     (λ made. (c.slot.ensures.unmade made, c.slot-2.ensures.unmade made))
 
 pub returns-clause-images : goal.returns-clause-images
-returns-clause-images g c = sound_images _ _ _ _ (invariant_of-result g c)
+returns-clause-images g c = sound_images _ _ (invariant_of-result g c)
 
 pub returns-clause-areas : goal.returns-clause-areas
 returns-clause-areas g c told side =

@@ -17,7 +17,7 @@ invariant_of-self g c =
     sound_after stays c.self.invariant made put c.replace.ensures.ran.same.telling step.1 found.2
 
 pub returns-in_default-clause-images : goal.returns-in_default-clause-images
-returns-in_default-clause-images g c = sound_images _ _ _ _ (invariant_of-self g c)
+returns-in_default-clause-images g c = sound_images _ _ (invariant_of-self g c)
 
 pub returns-in_default-clause-crash : goal.returns-in_default-clause-crash
 returns-in_default-clause-crash g c =
@@ -57,7 +57,7 @@ invariant_of-self-2 g c =
     sound_after stays c.self.invariant made put telling c.in-Ok.ensures.ok laid
 
 pub returns-clause-images : goal.returns-clause-images
-returns-clause-images g c = sound_images _ _ _ _ (invariant_of-self-2 g c)
+returns-clause-images g c = sound_images _ _ (invariant_of-self-2 g c)
 
 pub returns-clause-crash : goal.returns-clause-crash
 returns-clause-crash g c =
