@@ -187,7 +187,8 @@ module _ (P : Stored → Type 0) where
       → IsDiskImage w.disk image → EachOpenable P image
   in_image w steady all image is side area there =
       all.held side area
-      (sound_images state_words (store_of w) steady.sound refl image is).openable side area there
+      ((sound_images state_words (store_of w) steady.sound refl image is).openable
+      side area there)
 
   up_areas : (w : StoreState) → IsSteady w → EachArea P w → EachArea P (store_comes_up w)
   up_areas w steady all = record {
