@@ -12,7 +12,7 @@ ghost use Rattle.host_serve.specs.Opening.{IsStoreOf};
 use crate::fault::OpenFault;
 use disk_model::Disk;
 use gate_journal::{Journal, Row};
-use session_desk::{SharedDesk, journals_fit};
+use session_desk::{Desk, journals_fit};
 use snap_store::Store;
 use std::alloc::{AllocError, Global};
 use story_run::Story;
@@ -78,7 +78,7 @@ fn open_desk<'i, D: Disk + Drop>(
     root: &mut Pass<Journal<D>>,
     rows: &[Row],
     store: Store<D>,
-) -> Result<(Cell<SharedDesk<'i, D>>, Pass<SharedDesk<'i, D>>), AllocError>
+) -> Result<(Cell<Desk<'i, D>>, Pass<Desk<'i, D>>), AllocError>
     requires session { session < 64 }
     requires cell { IsOf journal.now root.old × IsOutside root.old }
     requires root { (pass_number root.old ≡ 0) × (made root.old ≡ session) }
@@ -90,7 +90,7 @@ fn open_desk<'i, D: Disk + Drop>(
 {
     journals_fit();
     let pass = journal.split(alloc, root)?;
-    let desk = SharedDesk::open(alloc, session, stories, budget, rows, pass, store)?;
+    let desk = Desk::open(alloc, session, stories, budget, rows, pass, store)?;
     Cell::new(alloc, desk)
 }
 
@@ -103,7 +103,7 @@ pub fn open_desks<'i, D: Disk + Drop>(
     root: &mut Pass<Journal<D>>,
     rows: &[Row],
     stores: Vec<Store<D>>,
-) -> Result<(Vec<Cell<SharedDesk<'i, D>>>, Vec<Pass<SharedDesk<'i, D>>>), AllocError>
+) -> Result<(Vec<Cell<Desk<'i, D>>>, Vec<Pass<Desk<'i, D>>>), AllocError>
     requires many { length stores.items ≡ 64 }
     requires cell { IsOf journal.now root.old × IsOutside root.old }
     requires root { (pass_number root.old ≡ 0) × (made root.old ≡ 0) }

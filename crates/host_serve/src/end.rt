@@ -20,7 +20,7 @@ use crate::desks::SESSIONS;
 use crate::host::{Host, Passes};
 use disk_model::Disk;
 use gate_journal::Journal;
-use session_desk::SharedDesk;
+use session_desk::Desk;
 use std::sync::Wait;
 use turn_cell::{Cell, Pass};
 
@@ -31,8 +31,8 @@ fn bring_in<'i, D: Disk + Drop, R: Wait>(
     _session: usize,
     journal: &Cell<Journal<D>>,
     root: &mut Pass<Journal<D>>,
-    cell: &Cell<SharedDesk<'i, D>>,
-    pass: &mut Pass<SharedDesk<'i, D>>,
+    cell: &Cell<Desk<'i, D>>,
+    pass: &mut Pass<Desk<'i, D>>,
 ) -> D
     requires root { IsOf journal.now root.old × IsOutside root.old }
     requires pass { IsOf cell.now pass.old × IsOutside pass.old }
@@ -55,8 +55,8 @@ fn gather<'i, D: Disk + Drop, R: Wait>(
     rt: &R,
     journal: &Cell<Journal<D>>,
     root: &mut Pass<Journal<D>>,
-    cells: &[Cell<SharedDesk<'i, D>>],
-    passes: &mut [Pass<SharedDesk<'i, D>>],
+    cells: &[Cell<Desk<'i, D>>],
+    passes: &mut [Pass<Desk<'i, D>>],
     disks: &mut Vec<D>,
 )
     requires many { length cells.now ≡ 64 }

@@ -1,7 +1,7 @@
 //! A host: a cell for each session, and one for the journal that they share (own).
 use disk_model::Disk;
 use gate_journal::Journal;
-use session_desk::SharedDesk;
+use session_desk::Desk;
 use snap_store::Store;
 use std::snapshot::Snapshot;
 use story_run::Story;
@@ -15,7 +15,7 @@ pub struct Host<'i, D: Disk> {
     pub(crate) journal: Cell<Journal<D>>,
     /// The root of the journal's cell.
     pub(crate) root: Pass<Journal<D>>,
-    pub(crate) desks: Vec<Cell<SharedDesk<'i, D>>>,
+    pub(crate) desks: Vec<Cell<Desk<'i, D>>>,
     /// The stores of the sessions' snapshots, as they were opened.
     pub(crate) opened: Snapshot<Vec<Store<D>>>,
     /// Room for the stores' disks, since `end` takes no memory.
@@ -25,5 +25,5 @@ pub struct Host<'i, D: Disk> {
 /// A pass for each session of one host.
 #[derive(Drop)]
 pub struct Passes<'i, D: Disk> {
-    pub(crate) desks: Vec<Pass<SharedDesk<'i, D>>>,
+    pub(crate) desks: Vec<Pass<Desk<'i, D>>>,
 }

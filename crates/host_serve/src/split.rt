@@ -10,15 +10,15 @@ ghost use Rattle.host_serve.specs.Splitting.{newest_of, with_newest_pass};
 use crate::desks::SESSIONS;
 use crate::host::{Host, Passes};
 use disk_model::Disk;
-use session_desk::SharedDesk;
+use session_desk::Desk;
 use std::alloc::{AllocError, Global};
 use turn_cell::{Cell, Pass};
 
 /// Joins the passes that were split off last into the roots again.
 fn join_again<'i, D: Disk + Drop>(
-    cells: &[Cell<SharedDesk<'i, D>>],
-    roots: &mut [Pass<SharedDesk<'i, D>>],
-    mut newest: Vec<Pass<SharedDesk<'i, D>>>,
+    cells: &[Cell<Desk<'i, D>>],
+    roots: &mut [Pass<Desk<'i, D>>],
+    mut newest: Vec<Pass<Desk<'i, D>>>,
 )
     requires roots { ArePasses desk_tag (map (tag_of desk_tag) roots.old) cells.now roots.old }
     requires newest { AreNewest (length newest.items) cells.now roots.old newest.items }

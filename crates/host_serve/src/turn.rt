@@ -21,7 +21,7 @@ use crate::pause::Pause;
 use disk_model::Disk;
 use line_words::{No, Reply, Request};
 use session_core::{Outcome, copies_of, session_of};
-use session_desk::{SharedDesk, Turned};
+use session_desk::{Desk, Turned};
 use std::alloc::Global;
 use std::sync::Wait;
 use story_watch::watch;
@@ -32,8 +32,8 @@ fn play_in<'i, D: Disk + Drop, R: Wait, P: Pause>(
     rt: &R,
     alloc: Global,
     host: &Host<'i, D>,
-    cell: &Cell<SharedDesk<'i, D>>,
-    pass: &mut Pass<SharedDesk<'i, D>>,
+    cell: &Cell<Desk<'i, D>>,
+    pass: &mut Pass<Desk<'i, D>>,
     pause: &P,
     _line: &[u8],
     request: &Request,
@@ -83,8 +83,8 @@ fn watch_in<'i, D: Disk + Drop, R: Wait, P: Pause>(
     rt: &R,
     alloc: Global,
     host: &Host<'i, D>,
-    cell: &Cell<SharedDesk<'i, D>>,
-    pass: &mut Pass<SharedDesk<'i, D>>,
+    cell: &Cell<Desk<'i, D>>,
+    pass: &mut Pass<Desk<'i, D>>,
     pause: &P,
     _line: &[u8],
     s: u32,
@@ -129,8 +129,8 @@ pub fn turn_in<'i, D: Disk + Drop, R: Wait, P: Pause>(
     rt: &R,
     alloc: Global,
     host: &Host<'i, D>,
-    cell: &Cell<SharedDesk<'i, D>>,
-    pass: &mut Pass<SharedDesk<'i, D>>,
+    cell: &Cell<Desk<'i, D>>,
+    pass: &mut Pass<Desk<'i, D>>,
     pause: &P,
     line: &[u8],
     request: &Request,

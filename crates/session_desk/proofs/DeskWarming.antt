@@ -10,9 +10,7 @@ use Rattle.turn_cell.specs.Passes.{seen}
 use Rattle.gate_journal.specs.Log.{rows_of}
 use Rattle.gate_journal.specs.declared.command.Command.{Command}
 use Rattle.line_words.specs.declared.request.Request.{Request}
-use Rattle.story_run.specs.declared.story.Story.{Story}
 use Rattle.story_run.specs.World.{WorldState}
-use Rattle.session_core.specs.declared.entry.Entry.{Entry}
 use Rattle.session_core.specs.Checks.{is_other_story}
 use Rattle.session_core.specs.History.{is_in_use, world_of}
 use Rattle.snap_store.specs.File.{area_given, newest_area}
@@ -23,11 +21,10 @@ use Rattle.session_saves.specs.Game.{inputs_of, turns_after}
 use Rattle.session_saves.specs.Saves.{SavesState}
 use Rattle.session_saves.specs.Warming.{WarmsFrom, count_in}
 use Rattle.session_desk.specs.declared.held.Held.TheVariants.{Current}
-use Rattle.session_desk.specs.declared.shared_desk.mark.Mark.{Mark}
+use Rattle.session_desk.specs.declared.desk.mark.Mark.{Mark}
 use Rattle.session_desk.specs.declared.verdict.Verdict.TheVariants.{Cold}
 use Rattle.session_desk.specs.Desk.{DeskState, game, HoldsOwnWorld, is_cold, warmed}
 use Rattle.session_desk.specs.Keeping.{IsWarmed}
-use Rattle.session_desk.specs.Marks.{commands_woven}
 use Rattle.session_desk.specs.Shared.{desk_tag, SharedState}
 use Rattle.session_desk.specs.Sound.{IsSoundDesk, IsWhole, open_rows}
 use Rattle.session_desk.specs.Verdict.{verdict}
@@ -70,55 +67,52 @@ module _ {D : Type 0} (disks : DiskWords D) where
       (rows-seen l old.desk old.pass w.marked) used in
       is_some place q.0 (w.row ∙ q.1)
 
-  pub warms_held : (l : List Mark) (place : Option ℕ) (old : SharedState D) (desk : DeskState)
-      (history : List Entry) (saves : SavesState D) (stories : List Story)
+  pub warms_held : (l : List Mark) (place : Option ℕ) (old : SharedState D) (saves : SavesState D)
       (g : List Command) (row : ℕ) (o : Option WorldState) (world : WorldState) (before after : ℕ)
-      → Whole l place old → place ≡ Some row
-      → stories ≡ old.desk.stories → g ≡ game old.desk
-      → o ≡ Some world → desk ≡ warmed old.desk world
+      → Whole l place old → place ≡ Some row → g ≡ game old.desk → o ≡ Some world
       → WarmsFrom (disks.tells old.saves.store.disk) (disks.seen old.saves.store.disk) row
-      (disks.faults old.saves.store.disk) (disks.faults saves.store.disk) stories g o before after
+      (disks.faults old.saves.store.disk) (disks.faults saves.store.disk) old.desk.stories g o
+      before after
       → IsWarmed disks old
-      (record old { desk = desk; history = history; saves = saves }) before after
-  warms_held l place old desk history saves stories g row o world
-      before after w at same game_is is holds warms = record {
-        world = world;
-        holds = holds;
-        place = row;
-        row = sym w.row ∙ at;
-        warms = rw (same, game_is, is) at warms;
-      }
+      (record old { desk = warmed old.desk world; saves = saves }) before after
+  warms_held l place old saves g row o world before after w at game_is is warms = record {
+    world = world;
+    holds = refl;
+    place = row;
+    row = sym w.row ∙ at;
+    warms = rw (game_is, is) at warms;
+  }
 
   -- on a sound desk with the session's own world
-  pub warm_own : (l : List Mark) (place : Option ℕ) (old : SharedState D) (stories : List Story)
+  pub warm_own : (l : List Mark) (place : Option ℕ) (old : SharedState D)
       (g : List Command) (row : ℕ) (o : Option WorldState) (world : WorldState)
-      → Whole l place old → place ≡ Some row
-      → stories ≡ old.desk.stories → g ≡ game old.desk
-      → o ≡ Some world
+      → Whole l place old → place ≡ Some row → g ≡ game old.desk → o ≡ Some world
       → is_other_story old.desk.stories (game old.desk) ≡ false
       → ((rows : List ℕ) → IsTrue (disks.tells old.saves.store.disk) → last_row rows ≡ Some row
-      → is_other_story stories g ≡ false
-      → IsAgreed disks.seen stories rows g old.saves.store → o ≡ world_of stories g)
+      → is_other_story old.desk.stories g ≡ false
+      → IsAgreed disks.seen old.desk.stories rows g old.saves.store
+      → o ≡ world_of old.desk.stories g)
       → IsSoundDesk disks (desk_tag old)
       → HoldsOwnWorld old.desk.stories (game old.desk) (Current world)
-  warm_own l place old stories g row o world w at same game_is is other value sound =
+  warm_own l place old g row o world w at game_is is other value sound =
       let told =
       still_tells disks old.store old.saves.store w.store sound.0 in
       let own =
-      sym (value (open_rows old) told (sym w.row ∙ at) (rw (same, game_is) other)
-      (rw (same, game_is) (w.own sound).agreed)) ∙ is in
-      rw (same, game_is) at own
+      sym (value (open_rows old) told (sym w.row ∙ at) (rw game_is other)
+      (rw game_is (w.own sound).agreed)) ∙ is in
+      rw game_is at own
 
   -- and in so many steps
   pub warm_cost : (l : List Mark) (place : Option ℕ) (old : SharedState D) (saves : SavesState D)
-      (stories : List Story) (g : List Command) (row : ℕ) (before after : ℕ)
-      → Whole l place old → place ≡ Some row → stories ≡ old.desk.stories → g ≡ game old.desk
+      (g : List Command) (row : ℕ) (before after : ℕ)
+      → Whole l place old → place ≡ Some row → g ≡ game old.desk
       → is_other_story old.desk.stories (game old.desk) ≡ false
       → ((rows : List ℕ) → IsTrue (disks.tells old.saves.store.disk)
       → (Rose (disks.faults old.saves.store.disk) (disks.faults saves.store.disk) → ⊥)
       → last_row rows ≡ Some row
-      → is_other_story stories g ≡ false → IsAgreed disks.seen stories rows g old.saves.store
-      → after ≡ before + turns_after stories g (count_in
+      → is_other_story old.desk.stories g ≡ false
+      → IsAgreed disks.seen old.desk.stories rows g old.saves.store
+      → after ≡ before + turns_after old.desk.stories g (count_in
       (area_given (newest_area row (length (inputs_of g)) (disks.seen old.saves.store.disk)))))
       → (p : ℕ) → IsSoundDesk disks (desk_tag old)
       → (Rose (disks.faults old.saves.store.disk) (disks.faults saves.store.disk) → ⊥)
@@ -126,24 +120,22 @@ module _ {D : Type 0} (disks : DiskWords D) where
       → after ≡ before + turns_after old.desk.stories (game old.desk)
       (count_in (area_given
       (newest_area p (length (inputs_of (game old.desk))) (disks.seen old.saves.store.disk))))
-  warm_cost l place old saves stories g row
-      before after w at same game_is other cost p sound steady last =
+  warm_cost l place old saves g row before after w at game_is other cost p sound steady last =
       let told =
       still_tells disks old.store old.saves.store w.store sound.0 in
       let both = sym at ∙ w.row ∙ last in
       let is : row ≡ p = cc in
       let taken =
-      cost (open_rows old) told steady (sym w.row ∙ at) (rw (same, game_is) other)
-      (rw (same, game_is) (w.own sound).agreed) in
-      rw (same, game_is, is) at taken
+      cost (open_rows old) told steady (sym w.row ∙ at) (rw game_is other)
+      (rw game_is (w.own sound).agreed) in
+      rw (game_is, is) at taken
 
   pub whole_warmed :
       (counts_now : (d : D) (t : ℕ) (c : List ℕ) → t ≤ disks.moment d → disks.may_leave d c
       → disks.left_since d t c)
-      (l : List Mark) (place : Option ℕ) (old : SharedState D) (desk : DeskState)
-      (saves : SavesState D) (world : WorldState)
+      (l : List Mark) (place : Option ℕ) (old : SharedState D) (saves : SavesState D)
+      (world : WorldState)
       → Whole l place old
-      → old.history ≡ commands_woven l old.desk.commands → desk ≡ warmed old.desk world
       → OnlyLooks disks old.saves.store.disk saves.store.disk
       → disks.faults old.saves.store.disk ≤ disks.faults saves.store.disk
       → ((side : Side) → IsTrue (disks.tells old.saves.store.disk)
@@ -154,15 +146,10 @@ module _ {D : Type 0} (disks : DiskWords D) where
       × (saves.last ≡ old.saves.last)
       → (IsSoundDesk disks (desk_tag old)
       → HoldsOwnWorld old.desk.stories (game old.desk) (Current world))
-      → Whole l place
-      (record old { desk = desk; history = commands_woven l desk.commands; saves = saves })
-  whole_warmed counts_now l place old desk saves world w weaves is
-      looks counts areas slots holds =
-      rw is (subst (λ (h : List Entry).
-      Whole l place (record old { desk = warmed old.desk world; history = h; saves = saves }))
-      weaves
-      (whole-looked disks counts_now l
-      place old (Current world) saves w looks counts areas slots.0 slots.1 slots.2 holds))
+      → Whole l place (record old { desk = warmed old.desk world; saves = saves })
+  whole_warmed counts_now l place old saves world w looks counts areas slots holds =
+      whole-looked disks counts_now l
+      place old (Current world) saves w looks counts areas slots.0 slots.1 slots.2 holds
 
   -- where memory ran out
   pub whole_cold :

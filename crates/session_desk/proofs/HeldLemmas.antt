@@ -16,8 +16,8 @@ use Rattle.session_core.proofs.RepeatLemmas.{joined, game_of-append, last_of-joi
 use Rattle.session_core.proofs.WorldLemmas.{world_of-joined}
 use Rattle.session_desk.specs.declared.held.Held.{Held}
 use Rattle.session_desk.specs.declared.held.Held.TheVariants.{Nothing, Current, Previous}
-use Rattle.session_desk.specs.Desk.{aside, held_then, world_held, show_at, DeskState, HoldsOwnWorld}
-use Rattle.session_desk.specs.Desk.{desk_of, IsDesk, IsHeldInUse}
+use Rattle.session_desk.specs.Desk.{aside, world_held, show_at, DeskState, HoldsOwnWorld}
+use Rattle.session_desk.specs.Desk.{committed, held_then, IsDesk, IsHeldInUse}
 
 -- ---- a world is held while the session is in use
 
@@ -122,17 +122,28 @@ holds-then stories game Nothing h =
 holds-then stories game (Current w) h = h
 holds-then stories game (Previous w) h = h
 
+-- and while it is in use once the last command was run
+begun-used : (game : List Command) (used : Bool) (now : Option WorldState)
+    → is_in_use game ≡ used → IsHeldInUse game (cond used (world_held now) Nothing)
+begun-used game true None e = tt
+begun-used game true (Some w) e = e
+begun-used game false now e = tt
+
+pub used-then : (stories : List Story) (game : List Command) (held : Held)
+    → IsHeldInUse game held → IsHeldInUse game (held_then stories game held)
+used-then stories game Nothing h =
+    begun-used game (is_in_use game) (world_of stories game) refl
+used-then stories game (Current w) h = h
+used-then stories game (Previous w) h = h
+
 -- what holds of every desk holds of one with a command more
-pub is_desk-committed : (desk : DeskState) (c : Command) (commands : List Command) (held : Held)
-    → IsDesk desk → length desk.commands < 8192
-    → commands ≡ desk.commands ++ c ∷ [] → held ≡ aside c desk.held
-    → IsDesk (desk_of desk.session desk.stories desk.budget commands held)
-is_desk-committed desk c commands held is room e h =
-    record {
-      numbered = is.numbered;
-      within = rw e (omega (arith, room, length-append desk.commands (c ∷ [])));
-      in_use = rw (e, h) (aside-used desk.commands c desk.held is.in_use);
-    }
+pub is_desk-committed : (desk : DeskState) (c : Command)
+    → IsDesk desk → length desk.commands < 8192 → IsDesk (committed desk c)
+is_desk-committed desk c is room = record {
+  numbered = is.numbered;
+  within = omega (arith, room, length-append desk.commands (c ∷ []));
+  in_use = aside-used desk.commands c desk.held is.in_use;
+}
 
 -- ---- what is shown
 

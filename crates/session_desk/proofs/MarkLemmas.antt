@@ -9,8 +9,8 @@ use Rattle.session_core.specs.declared.entry.Entry.TheVariants as entries
 use Rattle.session_core.specs.Turning.{commands_in}
 use Rattle.session_desk.specs.declared.refused.Refused.{Refused}
 use Rattle.session_desk.specs.declared.refused.Refused.TheVariants.{DiskFault, NoMemory}
-use Rattle.session_desk.specs.declared.shared_desk.mark.Mark.{Mark}
-use Rattle.session_desk.specs.declared.shared_desk.mark.Mark.TheVariants.{Accepted, Faulted}
+use Rattle.session_desk.specs.declared.desk.mark.Mark.{Mark}
+use Rattle.session_desk.specs.declared.desk.mark.Mark.TheVariants.{Accepted, Faulted}
 use Rattle.session_desk.specs.Desk.{committed, DeskState}
 use Rattle.session_desk.specs.Marks.{count_commands, marks_by, commands_woven}
 use Rattle.session_desk.specs.Shared.{history_met, met_by}

@@ -28,9 +28,10 @@ use Rattle.session_core.specs.declared.entry.Outcome.TheVariants.{Forgotten}
 use Rattle.session_core.specs.Turning.{commands_in}
 use Rattle.session_desk.specs.declared.refused.Refused.{Refused}
 use Rattle.session_desk.specs.declared.refused.Refused.TheVariants.{DiskFault, NoMemory}
-use Rattle.session_desk.specs.Commit.{Commits, Extends, RefusalLeaves}
-use Rattle.session_desk.specs.declared.shared_desk.mark.Mark.{Mark}
-use Rattle.session_desk.specs.declared.shared_desk.mark.Mark.TheVariants as marks
+use Rattle.session_core.specs.Checks.{command_of}
+use Rattle.session_desk.specs.Commit.{Extends, RefusalLeaves, Writes}
+use Rattle.session_desk.specs.declared.desk.mark.Mark.{Mark}
+use Rattle.session_desk.specs.declared.desk.mark.Mark.TheVariants as marks
 use Rattle.session_desk.specs.Desk.{committed, DeskState, cold_desk}
 use Rattle.session_desk.specs.Marks.{count_commands, marks_by, commands_woven}
 use Rattle.session_desk.specs.Shared.{desk_tag, DeskTag, GoesOn, history_met, IsMarked, IsPassOf}
@@ -84,15 +85,14 @@ history_in-since s log seen journal on =
     ∙ append-nil (history_in seen s)
 
 -- so are its commands
-pub kept-since : (s : ℕ) (log seen : List JournalEntry) (commands : List Command)
+pub commands_of-since : (s : ℕ) (log seen : List JournalEntry)
     → IsJournal (rows_of log)
     → Continues (IsForeign entry_number ((s + 1) ∷ [])) log seen
-    → commands_of (rows_of seen) s ≡ commands
-    → commands_of (rows_of log) s ≡ commands
-kept-since s log seen commands journal on is =
+    → commands_of (rows_of log) s ≡ commands_of (rows_of seen) s
+commands_of-since s log seen journal on =
     sym (commands_in-history log s)
     ∙ ap commands_in (history_in-since s log seen journal on)
-    ∙ commands_in-history seen s ∙ is
+    ∙ commands_in-history seen s
 
 -- ---- what a commit adds
 
@@ -190,7 +190,15 @@ rows-seen l desk pass w =
     ∙ commands_in-unnumbered (commands_woven l desk.commands)
     ∙ w.commands
 
--- behind a commit
+-- what a commit of the command that a request asks for leaves of the desk and of the journal
+pub record Commits (request : Request) (done : Result ℕ Refused) (desk new_desk : DeskState)
+    (old new : List JournalEntry) : Type 0 where
+  pub command : Command
+  pub asked : command_of desk.stories request ≡ Some command
+  pub taken : OnOk done (new_desk ≡ committed desk command)
+  pub left : OnErr done (new_desk ≡ desk)
+  pub writes : Writes desk.session command done old new
+
 session_by : {T : Type 0} (done : Result T Refused) (old new : DeskState) (c : Command)
     → OnOk done (new ≡ committed old c) → OnErr done (new ≡ old)
     → new.session ≡ old.session
@@ -226,7 +234,7 @@ marked-by l m by old new pass next request done did is w of =
           (history-by l m by old new (seen pass) (seen next) request done did is w.counted)
           ∙ unnumbered-met (commands_woven l old.commands) by (Some c) (met_by done)
           ∙ ap (λ (h : List Entry). history_met h 0 (Some c) (met_by done)) w.entries
-          ∙ sym did.history
+          ∙ sym did.writes.history
           ∙ sym (ap (history_in (seen next)) same);
     }
 
@@ -287,12 +295,12 @@ answered (Ok place) request by old new P did entry p rose = (
   tt,
   tt,
   tt,
-  did.journal,
+  did.writes.journal,
 )
 answered (Err (DiskFault fault)) request by old new P did entry p rose =
-    (tt, tt, did.left, entry, rose, did.journal)
+    (tt, tt, did.left, entry, rose, did.writes.journal)
 answered (Err NoMemory) request by old new P did entry p rose =
-    (tt, tt, did.left, entry, rose, did.journal)
+    (tt, tt, did.left, entry, rose, did.writes.journal)
 
 abbrev tag_at : {D : Type 0} → DeskState → TableId → Snapshots D → List Row → DeskTag D
 tag_at desk cell store rows =

@@ -29,17 +29,15 @@ use Rattle.session_saves.specs.Saves.{HasSince, IsMissCounted, IsKeptUp, SavesSt
 use Rattle.session_desk.specs.declared.held.Held.{Held}
 use Rattle.session_desk.specs.declared.held.Held.TheVariants.{Nothing, Current}
 use Rattle.session_desk.specs.declared.refused.Refused.{Refused}
-use Rattle.session_desk.specs.declared.shared_desk.mark.Mark.{Mark}
-use Rattle.session_desk.specs.declared.shared_desk.mark.Mark.TheVariants as marks
+use Rattle.session_desk.specs.declared.desk.mark.Mark.{Mark}
+use Rattle.session_desk.specs.declared.desk.mark.Mark.TheVariants as marks
 use Rattle.session_desk.specs.declared.verdict.Verdict.TheVariants.{Fresh}
-use Rattle.session_desk.specs.Commit.{Commits}
 use Rattle.session_desk.specs.Desk.{committed, DeskState, desk_emptied, game, HoldsOwnWorld}
 use Rattle.session_desk.specs.Desk.{cold_desk, ran}
 use Rattle.session_desk.specs.Keeping as keeping
 use Rattle.session_desk.specs.Marks.{commands_woven}
 use Rattle.session_desk.specs.Opens.{opens_behind, row_behind}
 use Rattle.session_desk.specs.Shared.{as_opened, desk_tag, IsMarked, IsPassOf, SharedState}
-use Rattle.session_desk.specs.Shared.{state_of}
 use Rattle.session_desk.specs.Sound.{AreKeptUp, EndsStore, IsSameStore, IsSoundDesk, IsWhole}
 use Rattle.session_desk.specs.Sound.{KeepsFile, open_rows}
 use Rattle.session_desk.specs.Verdict.{verdict}
@@ -48,7 +46,7 @@ use Rattle.session_desk.proofs.AlikeLemmas.{ready}
 use Rattle.session_desk.proofs.OpensLemmas.{no_rows, row_by}
 use Rattle.session_desk.proofs.FileLemmas.{file-behind, file-kept, file-looked, file-opened}
 use Rattle.session_desk.proofs.FileLemmas.{rows_behind}
-use Rattle.session_desk.proofs.SharedLemmas.{marked-opened, rows-seen}
+use Rattle.session_desk.proofs.SharedLemmas.{Commits, marked-opened, rows-seen}
 use Rattle.session_desk.proofs.KeptUpLemmas.{agreed-behind, kept-behind, is_done}
 
 rows_of-kept : (rows : List Row) → rows_of (rows_kept rows) ≡ rows
@@ -120,42 +118,27 @@ module _ {D : Type 0} (disks : DiskWords D) where
     file = file;
   }
 
-  -- as the last command is run
-  whole-held : (l : List Mark) (place : Option ℕ) (old : SharedState D) (desk : DeskState)
-      (held : Held)
+  -- with another world held
+  whole-held : (l : List Mark) (place : Option ℕ) (old : SharedState D) (held : Held)
       → Whole l place old
-      → old.history ≡ commands_woven l old.desk.commands
-      → desk ≡ record old.desk { held = held }
       → (IsSoundDesk disks (desk_tag old) → HoldsOwnWorld old.desk.stories (game old.desk) held)
-      → Whole l place (record old { desk = desk; history = commands_woven l desk.commands })
-  whole-held l place old desk held w weaves is holds =
-      rw is (subst (λ (h : List Entry).
-      Whole l place (record old { desk = record old.desk { held = held }; history = h })) weaves
-      (whole-rested l place old held old.saves w w.store holds
+      → Whole l place (record old { desk = record old.desk { held = held } })
+  whole-held l place old held w holds =
+      whole-rested l place old held old.saves w w.store holds
       (λ sound. (w.own sound).agreed) w.kept_up
-      (λ sound. let f = w.file sound in record { agreed = f.agreed; newest = f.newest })))
+      (λ sound. let f = w.file sound in record { agreed = f.agreed; newest = f.newest })
 
   -- as the world is let go
-  pub whole-emptied : (l : List Mark) (place : Option ℕ) (old : SharedState D) (desk : DeskState)
-      → Whole l place old
-      → old.history ≡ commands_woven l old.desk.commands
-      → desk ≡ desk_emptied old.desk
-      → Whole l place (record old { desk = desk; history = commands_woven l desk.commands })
-  whole-emptied l place old desk w weaves is =
-      whole-held l place old desk Nothing w weaves is (λ sound. tt)
+  pub whole-emptied : (l : List Mark) (place : Option ℕ) (old : SharedState D)
+      → Whole l place old → Whole l place (record old { desk = desk_emptied old.desk })
+  whole-emptied l place old w = whole-held l place old Nothing w (λ sound. tt)
 
-  pub whole-run : {T E : Type 0} (l : List Mark) (place : Option ℕ) (old : SharedState D)
-      (desk : DeskState) (done : Result T E)
-      → Whole l place old
-      → old.history ≡ commands_woven l old.desk.commands
-      → OnOk done (desk ≡ ran old.desk)
-      → OnErr done (desk ≡ desk_emptied old.desk)
-      → Whole l place (record old { desk = desk; history = commands_woven l desk.commands })
-  whole-run l place old desk (Ok x) w weaves ok err =
-      whole-held l place old desk (ran old.desk).held w weaves ok
+  -- as the last command is run
+  pub whole-run : (l : List Mark) (place : Option ℕ) (old : SharedState D)
+      → Whole l place old → Whole l place (record old { desk = ran old.desk })
+  whole-run l place old w =
+      whole-held l place old (ran old.desk).held w
       (λ sound. holds-then old.desk.stories (game old.desk) old.desk.held (w.own sound).holds)
-  whole-run l place old desk (Err e) w weaves ok err =
-      whole-emptied l place old desk w weaves err
 
   -- the rows that came before a commit, and then its own
   more_behind : {l : List Mark} {place : Option ℕ} (old : SharedState D)
@@ -182,17 +165,17 @@ module _ {D : Type 0} (disks : DiskWords D) where
   whole-committed l m place old desk pass request (Ok row) w marked did fresh due counted =
       let c = did.command in
       let ok : desk ≡ committed old.desk c = did.taken in
-      let behind = rows_behind _ _ _ _ _ did.journal in
+      let behind = rows_behind _ _ _ _ _ did.writes.journal in
       let places = open_rows old in
       let stories : desk.stories ≡ old.desk.stories = ap (λ (d : DeskState). d.stories) ok in
       let session : desk.session ≡ old.desk.session = ap (λ (d : DeskState). d.session) ok in
       let is : opens_of (rows_of (seen pass)) desk.session ≡ opens_behind places c (Ok row) =
-      ap (λ (s : ℕ). opens_of (rows_of (seen pass)) s) session ∙ did.opens.opens in
+      ap (λ (s : ℕ). opens_of (rows_of (seen pass)) s) session ∙ did.writes.opens.opens in
       record {
         marked = marked;
         row =
             row_by old.desk.stories old.desk.session (seen old.pass) (seen pass) place request c
-            (Ok row) did.asked did.opens w.row
+            (Ok row) did.asked did.writes.opens w.row
             ∙ ap (λ (s : ℕ). last_row (opens_of (rows_of (seen pass)) s)) (sym session);
         store = w.store;
         own = λ sound. let o = w.own (rw ok at sound) in record {
@@ -202,7 +185,7 @@ module _ {D : Type 0} (disks : DiskWords D) where
                 is,
                 ok,
               ) (agreed-behind disks.seen old.desk.stories places old.desk.commands c row
-              (is_open c) old.saves.store refl did.opens.before o.agreed);
+              (is_open c) old.saves.store refl did.writes.opens.before o.agreed);
         };
         kept_up =
             λ none. rw (is, ok)
@@ -217,11 +200,11 @@ module _ {D : Type 0} (disks : DiskWords D) where
       }
   whole-committed l m place old desk pass request (Err why) w marked did fresh due counted =
       let err : desk ≡ old.desk = did.left in
-      let behind = rows_behind _ _ _ _ _ did.journal in
+      let behind = rows_behind _ _ _ _ _ did.writes.journal in
       let stories : desk.stories ≡ old.desk.stories = ap (λ (d : DeskState). d.stories) err in
       let session : desk.session ≡ old.desk.session = ap (λ (d : DeskState). d.session) err in
       let is : opens_of (rows_of (seen pass)) desk.session ≡ open_rows old =
-      ap (λ (s : ℕ). opens_of (rows_of (seen pass)) s) session ∙ did.opens.opens in
+      ap (λ (s : ℕ). opens_of (rows_of (seen pass)) s) session ∙ did.writes.opens.opens in
       record {
         marked = marked;
         row = w.row ∙ ap last_row (sym is);
@@ -352,6 +335,18 @@ module _ {D : Type 0} (disks : DiskWords D) where
             pass store only_now same are sound.0 sound.1;
       }
 
+  -- the state of a desk with these marks, whose pass and store were such as it was opened
+  abbrev state_at : DeskState → List Mark → Pass (Log D) JournalEntry → SavesState D → Snapshots D
+      → Pass (Log D) JournalEntry → SharedState D
+  state_at desk marks pass saves store first = record {
+    desk = desk;
+    history = commands_woven marks desk.commands;
+    pass = pass;
+    saves = saves;
+    store = store;
+    rows = rows_of (seen first);
+  }
+
   pub whole-open :
       (only_now : (d : D) (c : List ℕ) → disks.left_since d (disks.moment d) c
       → disks.may_leave d c)
@@ -365,15 +360,15 @@ module _ {D : Type 0} (disks : DiskWords D) where
       → saves ≡ own.saves_of_opened_store store → given ≡ store
       → first ≡ pass
       → EachImage disks store.disk (IsImageOf disks.seen store)
-      → Whole l place (state_of desk l pass saves given first)
-      × (state_of desk l pass saves given first ≡ as_opened s stories budget rows pass store)
+      → Whole l place (state_at desk l pass saves given first)
+      × (state_at desk l pass saves given first ≡ as_opened s stories budget rows pass store)
   whole-open only_now l place desk s stories budget rows pass saves given first store
       all has of saw lies clear is was are =
       let m = marked-opened l desk s stories budget rows pass all has of saw in
       let opened : rows_of (seen first) ≡ rows =
       ap (λ (p : Pass (Log D) JournalEntry). rows_of (seen p)) was
       ∙ ap rows_of saw ∙ rows_of-kept rows in
-      let same : state_of desk l pass saves given first
+      let same : state_at desk l pass saves given first
       ≡ as_opened s stories budget rows pass store =
       rw (m.1, has, clear, is, opened) refl in (
         subst (λ (x : SharedState D). Whole l place x) (sym same)

@@ -1,22 +1,19 @@
 -- A command that a desk commits to a journal (own).
-use Rattle.std.specs.Prelude.{◌≡◌, ◌⊎◌, ℕ, IsTrue, List, [], ◌∷◌, ◌++◌}
-use Rattle.std.specs.Prelude.{length, Result, Ok, Err, Some, None, OnErr, OnOk}
-use Rattle.disk_model.specs.Work.{LeavesOnly}
-use Rattle.disk_model.specs.declared.disk.Disk.{Ghosts as DiskWords}
+use Rattle.std.specs.Prelude.{◌≡◌, ℕ, List, [], ◌∷◌, ◌++◌, length, Result, Some}
 use Rattle.gate_journal.specs.Command.{IsCommand}
 use Rattle.gate_journal.specs.Faults.{IsFault}
-use Rattle.gate_journal.specs.Log.{Log, rows_of, next_row, Meanwhile, SameLog}
+use Rattle.gate_journal.specs.Log.{Log, rows_of, next_row, SameLog}
+use Rattle.gate_journal.specs.Rows.{commands_of, IsJournal, MayStand}
 use Rattle.gate_journal.specs.declared.command.Command.{Command}
 use Rattle.gate_journal.specs.declared.command.Command.TheVariants as commands
 use Rattle.gate_journal.specs.declared.entry.Entry.{Entry as JournalEntry}
 use Rattle.gate_journal.specs.declared.entry.Entry.TheVariants.{Kept, Faulted}
+use Rattle.gate_journal.specs.declared.row.Row.{Row}
 use Rattle.line_words.specs.declared.request.Request.{Request}
 use Rattle.line_words.specs.declared.request.Request.TheVariants.{Open, Line, Char, File, Size}
 use Rattle.line_words.specs.declared.request.Request.TheVariants.{Last, Close, Watch}
-use Rattle.session_core.specs.Checks.{command_of}
 use Rattle.session_desk.specs.declared.refused.Refused.{Refused}
 use Rattle.session_desk.specs.declared.refused.Refused.TheVariants.{DiskFault, NoMemory}
-use Rattle.session_desk.specs.Desk.{DeskState, committed}
 use Rattle.session_desk.specs.Opens.{OpensBy}
 use Rattle.session_desk.specs.Shared.{GoesOn, history_met, met_by}
 use Rattle.session_desk.specs.Turn.{history_in}
@@ -50,44 +47,21 @@ RefusalLeaves faults session command old new (DiskFault fault) =
     ++ Faulted (next_row (rows_of old.entries) session command) fault.from fault.to ∷ [])
 RefusalLeaves faults session command old new NoMemory = SameLog old new
 
--- where the disk failed the closing gate was left as it was, or closed, or had its write begun, and
--- then the new row stands behind an uncertain gate
-abbrev pub LeavesGate : {D : Type 0} → ℕ → Command → Log D → Log D → Refused → Type 0
-LeavesGate session command old new (DiskFault fault) =
-    (new.uncertain ≡ old.uncertain)
-    ⊎ (new.uncertain ≡ None)
-    ⊎ (new.uncertain ≡ Some (next_row (rows_of old.entries) session command))
-LeavesGate session command old new NoMemory = Unit {0}
+-- the command may stand next in each journal that has the session's rows which a pass has seen
+abbrev pub MayStandNext : List JournalEntry → ℕ → Command → Type 0
+MayStandNext seen session command =
+    (rows : List Row)
+    → IsJournal rows → commands_of rows session ≡ commands_of (rows_of seen) session
+    → MayStand rows session command
 
--- the append was begun: the call answered Ok, or that the disk failed
-abbrev pub WhereBegun : {T : Type 0} → Result T Refused → Type 0 → Type 0
-WhereBegun (Ok x) P = P
-WhereBegun (Err (DiskFault fault)) P = P
-WhereBegun (Err NoMemory) P = Unit {0}
-
--- Meanwhile a stop leaves the rows from before alone, or these and the uncertain one, or these and
--- the new one.
-abbrev pub StopLeaves :
-    {D : Type 0}
-    → DiskWords D → ℕ → Command → Log D → Log D → Type 0
-StopLeaves disks session command old new =
-    IsTrue (disks.tells old.disk) → LeavesOnly disks old.disk new.disk
-    (Meanwhile (rows_of old.entries) old.uncertain
-    (next_row (rows_of old.entries) session command))
-
--- What a commit of the command that a request asks for leaves of the desk, and of what its pass has
--- seen of the journal: of the session's history and the places of its OPEN rows too.
-pub record Commits
-    (request : Request)
+-- What the write of a command leaves of what the session's pass has seen of the journal: of the
+-- session's history and the places of its OPEN rows too.
+pub record Writes
+    (session : ℕ)
+    (command : Command)
     (done : Result ℕ Refused)
-    (desk new_desk : DeskState)
     (old new : List JournalEntry) : Type 0 where
-  pub command : Command
-  pub asked : command_of desk.stories request ≡ Some command
-  pub taken : OnOk done (new_desk ≡ committed desk command)
-  pub left : OnErr done (new_desk ≡ desk)
-  pub journal : GoesOn desk.session (Some command) (met_by done) old new
+  pub journal : GoesOn session (Some command) (met_by done) old new
   pub history :
-      history_in new desk.session
-      ≡ history_met (history_in old desk.session) 0 (Some command) (met_by done)
-  pub opens : OpensBy desk.session command done old new
+      history_in new session ≡ history_met (history_in old session) 0 (Some command) (met_by done)
+  pub opens : OpensBy session command done old new

@@ -9,3 +9,4 @@ pub mod Opens
 pub mod Shared
 pub mod Sound
 pub mod Keeping
+pub mod Inside

@@ -5,8 +5,8 @@ use Rattle.session_core.specs.declared.entry.Entry.{Entry}
 use Rattle.session_core.specs.declared.entry.Entry.TheVariants as entries
 use Rattle.session_desk.specs.declared.refused.Refused.{Refused}
 use Rattle.session_desk.specs.declared.refused.Refused.TheVariants.{DiskFault, NoMemory}
-use Rattle.session_desk.specs.declared.shared_desk.mark.Mark.{Mark}
-use Rattle.session_desk.specs.declared.shared_desk.mark.Mark.TheVariants.{Accepted, Faulted}
+use Rattle.session_desk.specs.declared.desk.mark.Mark.{Mark}
+use Rattle.session_desk.specs.declared.desk.mark.Mark.TheVariants.{Accepted, Faulted}
 
 -- how many marks are of commands
 abbrev pub count_commands : List Mark → ℕ

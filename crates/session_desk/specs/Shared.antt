@@ -28,7 +28,7 @@ use Rattle.session_saves.specs.Saves.{SavesState}
 use Rattle.session_desk.specs.declared.refused.Refused.{Refused}
 use Rattle.session_desk.specs.declared.refused.Refused.TheVariants.{DiskFault, NoMemory}
 use Rattle.session_desk.specs.declared.turned.Turned.{Turned}
-use Rattle.session_desk.specs.declared.shared_desk.mark.Mark.{Mark}
+use Rattle.session_desk.specs.declared.desk.mark.Mark.{Mark}
 use Rattle.session_desk.specs.Desk.{DeskState, committed, cold_desk}
 use Rattle.session_desk.specs.Marks.{count_commands, commands_woven}
 use Rattle.session_desk.specs.Turn.{entries_added, history_in, IsSameDesk}
@@ -47,21 +47,6 @@ pub record SharedState (D : Type 0) : Type 0 where
   pub saves : SavesState D
   pub store : Snapshots D
   pub rows : List Row
-
--- the state of a desk with these marks, whose pass and store were such as it was opened
-abbrev pub state_of :
-    {D : Type 0}
-    → DeskState → List Mark → Pass (Log D) JournalEntry → SavesState D → Snapshots D
-    → Pass (Log D) JournalEntry
-    → SharedState D
-state_of desk marks pass saves store first = record {
-  desk = desk;
-  history = commands_woven marks desk.commands;
-  pass = pass;
-  saves = saves;
-  store = store;
-  rows = rows_of (seen first);
-}
 
 -- a desk with the rows of its session that holds no world and missed no snapshot
 abbrev pub as_opened :

@@ -19,7 +19,7 @@ use Rattle.session_saves.specs.Agreement.{opens_of}
 use Rattle.session_saves.specs.Game.{inputs_of}
 use Rattle.session_saves.specs.Keeping.{KeepsOpen}
 use Rattle.session_saves.specs.Saves.{HasSince, IsKeptUp}
-use Rattle.session_desk.specs.declared.shared_desk.mark.Mark.{Mark}
+use Rattle.session_desk.specs.declared.desk.mark.Mark.{Mark}
 use Rattle.session_desk.specs.declared.turned.Turned.{Turned}
 use Rattle.session_desk.specs.Desk.{game, HoldsOwnWorld}
 use Rattle.session_desk.specs.Shared.{DeskTag, desk_tag, GoesOn, IsMarked, SharedState}

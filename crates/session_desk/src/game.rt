@@ -2,10 +2,12 @@
 
 ghost use Rattle.std.specs.Prelude.{◌≡◌, ◌≤◌, ◌++◌, ◌∷◌, [], length};
 ghost use Rattle.session_core.specs.History.{game_of};
+ghost use Rattle.session_saves.specs.Game.{inputs_of};
 ghost use Rattle.session_desk.specs.Desk.{BeginsAt};
 
 use gate_journal::Command;
 use session_core::game_of;
+use session_saves::inputs_of;
 
 /// The place in these commands.
 #[tactic(auto, using(crate::proofs::GameLemmas::begins_there))]
@@ -37,4 +39,13 @@ pub fn game_at(commands: &[Command], begins: usize) -> &[Command]
     ensures within { length result.now ≤ length commands.now }
 {
     &commands[begins..]
+}
+
+/// How many inputs it has.
+pub fn inputs_at(commands: &[Command], begins: usize) -> u32
+    requires begins { BeginsAt begins commands.now }
+    requires within { length commands.now ≤ 8192 }
+    ensures { result ≡ length (inputs_of (game_of commands.now)) }
+{
+    inputs_of(game_at(commands, begins)) as u32
 }

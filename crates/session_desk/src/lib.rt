@@ -3,23 +3,21 @@
 #![tactic(auto)]
 
 mod check;
-mod commit;
 mod desk;
 mod game;
 mod held;
 mod laws;
 mod refused;
 mod rows;
-mod shared_desk;
 mod turned;
 mod verdict;
 mod wanted;
 
+pub use desk::Desk;
 pub use laws::{
     beginnings_stay_agreed, is_cold_alone, journals_fit, reads_in_range, refuses_alike,
     shows_again, shows_fresh, stays_warm, world_is_needed,
 };
 pub use refused::Refused;
-pub use shared_desk::SharedDesk;
 pub use turned::Turned;
 pub use verdict::Verdict;

@@ -1,4 +1,0 @@
-use Rattle.session_desk.proofs.shared_desk.SharedDesk.unless_fresh.Given as goal
-
-abbrev pub ghosts-prepare : goal.ghosts-prepare
-ghosts-prepare g a = record { name = a.blank.name; parts = a.blank.parts }
