@@ -1,4 +1,4 @@
-use Rattle.std.proofs.Common.{◌≡◌, false, ◌++◌, ◌∙◌, Some, refl, subst, sym}
+use Rattle.std.proofs.Common.{◌≡◌, false, ◌++◌, ◌∙◌, Some, ap, refl, subst, sym}
 use Rattle.turn_cell.specs.Passes.{seen}
 use Rattle.gate_journal.specs.declared.command.Command.{Command}
 use Rattle.session_core.proofs.RepeatLemmas.{some_is}
@@ -12,8 +12,13 @@ use Rattle.session_desk.proofs.AlikeLemmas.{accepts, ready}
 use Rattle.session_desk.proofs.CommitLemmas.{commits, is_desk-by, runs-by}
 use Rattle.session_desk.proofs.JournalLemmas.{may_stand}
 use Rattle.session_desk.proofs.SharedLemmas.{answered, history-by, marked-by, rows-seen, tag-by}
+use Rattle.session_desk.proofs.SharedTurnLemmas.{goes-nowhere}
 use Rattle.session_desk.proofs.SoundLemmas.{whole-committed}
 use Rattle.session_desk.proofs.desk.Desk.commit.Goals as goal
+
+pub returns-in_default-clause-journal : goal.returns-in_default-clause-journal
+returns-in_default-clause-journal g c = λ command asked.
+    goes-nowhere _ _ _ _ (ap (λ (s : SharedState g.row.D.Denot). seen s.pass) c.self.view_is)
 
 pub asked-requires-clause-some : goal.asked-requires-clause-some
 asked-requires-clause-some g c =
@@ -47,7 +52,7 @@ invariant_of-self-2 g c =
     (seen c.write_in_turn-done.new.pass) c.in-Ok.ensures.value
     (rw c.asked.ensures.kept.0 at c.take_down.ensures.ok)
     (rw c.asked.ensures.kept.0 at c.take_down.ensures.err) c.write_in_turn-done.ensures.value in (
-      is_desk-by c.write_in_turn-done.result old.desk _ c.in-Ok.command did.taken did.left
+      is_desk-by c.write_in_turn-done.result old.desk _ did.command did.taken did.left
           c.self.invariant.0 (accepts old.desk c.args.request.now fresh).room,
       c.take_down.ensures.begins,
       rw c.note.ensures.place
@@ -81,8 +86,8 @@ returns g c =
     let its =
     answered done c.args.request.now c.args.by old new _ did
     (history-by _ _ c.args.by _ _ _ _ _ _ did marked c.self.invariant.2.marked.counted)
-    (runs-by done old.desk new.desk c.in-Ok.command did.taken
-    (ready old.desk c.args.request.now c.in-Ok.command fresh c.in-Ok.ensures.value))
+    (runs-by done old.desk new.desk did.command did.taken
+    (ready old.desk c.args.request.now did.command fresh did.asked))
     c.write_in_turn-done.ensures.rose in
     let cell : new.pass.known.place.table_id ≡ old.pass.known.place.table_id =
     c.write_in_turn-done.ensures.kept ∙ sym (rw (← c.self.view_is) at c.requires.cell) in
