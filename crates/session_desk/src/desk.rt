@@ -16,17 +16,16 @@ ghost use Rattle.session_desk.specs.declared.verdict.Verdict.TheVariants.{Fresh,
 ghost use Rattle.session_desk.specs.Commit.{Commits, IsInRange};
 ghost use Rattle.session_desk.specs.Shared.{HasRisen, IsPassOf};
 
-use crate::check::{in_no_world, in_world};
 use crate::commit::{asked, take_down, write_down};
 use crate::game::{begins_of, game_at};
 use crate::held::{Held, ran};
 use crate::refused::Refused;
 use crate::rows::commands_of;
-use crate::verdict::Verdict;
+use crate::verdict::{Verdict, needs_world};
 use disk_model::Disk;
 use gate_journal::{Command, Journal, Row};
 use line_words::Request;
-use session_core::{is_in_use, plain_refusal, shown_number};
+use session_core::{is_fresh, is_in_use, refusal_in, shown_number};
 use session_saves::inputs_of;
 use std::alloc::{AllocError, Global};
 use std::marker::Model;
@@ -119,16 +118,14 @@ impl<'i> Desk<'i> {
     {
         let commands = self.commands.as_slice();
         let game = game_at(commands, self.begins);
-        if let Some(why) = plain_refusal(self.stories, game, request) {
-            return Verdict::Refuse(why);
+        let now = self.world();
+        if now.is_none() && needs_world(self.stories, game, request) {
+            return Verdict::Cold;
         }
-        match &self.held {
-            Held::Current(world) => {
-                in_world(self.alloc, self.stories, commands, game, world, request)
-            }
-            Held::Nothing | Held::Previous(_) => {
-                in_no_world(self.stories, commands, game, request)
-            }
+        match refusal_in(self.alloc, self.stories, commands, game, now, request) {
+            Some(why) => Verdict::Refuse(why),
+            None if is_fresh(game, request) => Verdict::Fresh,
+            None => Verdict::Again,
         }
     }
 

@@ -2,7 +2,6 @@
 //! played from the start for each request.
 #![tactic(auto)]
 
-mod check;
 mod commit;
 mod desk;
 mod game;
@@ -13,7 +12,6 @@ mod rows;
 mod shared_desk;
 mod turned;
 mod verdict;
-mod wanted;
 
 pub use laws::{
     beginnings_stay_agreed, is_cold_alone, journals_fit, reads_in_range, refuses_alike,

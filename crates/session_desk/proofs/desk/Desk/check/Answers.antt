@@ -1,19 +1,7 @@
-use Rattle.std.proofs.Common.{◌≡◌, Some}
+use Rattle.std.proofs.Common.{◌≡◌, true, false, None, is_none, sym, ◌∙◌}
 use Rattle.session_core.specs.History.{game_of}
-use Rattle.session_core.specs.Answer.{first_refusal, plain_checks}
+use Rattle.session_core.specs.Checks.{is_fresh}
 use Rattle.session_desk.specs.Desk.{desk_of}
-use Rattle.session_desk.proofs.VerdictLemmas.{plain-told}
+use Rattle.session_desk.proofs.AlikeLemmas.{plain}
+use Rattle.session_desk.proofs.VerdictLemmas.{told-again, told-cold, told-fresh, told-refused}
 use Rattle.session_desk.proofs.desk.Desk.check.Goals as goal
-
-pub returns-in-Some-clause-value : goal.returns-in-Some-clause-value
-returns-in-Some-clause-value c =
-    let desk =
-    desk_of c.self.inside.session c.self.inside.stories.now c.self.inside.budget
-    c.self.inside.commands.items c.self.inside.held in
-    let refused : first_refusal (plain_checks c.self.inside.stories.now
-    (game_of c.self.inside.commands.items) c.args.request.now)
-    ≡ Some c.in-Some.why = cc in
-    rw (← c.self.view_is) (plain-told desk c.args.request.now c.in-Some.why refused)
-
-pub returns-in-Some-clause-cold : goal.returns-in-Some-clause-cold
-returns-in-Some-clause-cold c = λ e. absurd cc
