@@ -122,11 +122,13 @@ impl<'i> Desk<'i> {
         if now.is_none() && needs_world(self.stories, game, request) {
             return Verdict::Cold;
         }
-        match refusal_in(self.alloc, self.stories, commands, game, now, request) {
-            Some(why) => Verdict::Refuse(why),
-            None if is_fresh(game, request) => Verdict::Fresh,
-            None => Verdict::Again,
+        if let Some(why) = refusal_in(self.alloc, self.stories, commands, game, now, request) {
+            return Verdict::Refuse(why);
         }
+        if !is_fresh(game, request) {
+            return Verdict::Again;
+        }
+        Verdict::Fresh
     }
 
     /// The stories.
