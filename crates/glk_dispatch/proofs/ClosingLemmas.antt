@@ -3,7 +3,7 @@ use Rattle.std.proofs.Common.{◌≡◌, ◌⊎◌, ℕ, ◌==◌, ◌≤◌, Bo
 use Rattle.std.proofs.Common.{length, refl, sym, ap, ◌∙◌, subst, arith, Option, Some, None, cond}
 use Rattle.std.proofs.Common.{option_map, inl, inr}
 use Rattle.std.proofs.lemmas.Grind.{common_steps}
-use Rattle.std.proofs.lemmas.Bool.{cases_Bool}
+use Rattle.std.proofs.lemmas.Bool.{cases_Bool, eqb-false, eqb-true}
 use Rattle.glk_numbers.specs.Numbered.{ascends, found, without}
 use Rattle.glk_windows.specs.Tree as tree
 use Rattle.glk_windows.specs.Closing.{close, sibling_lifted, removed}
@@ -11,7 +11,7 @@ use Rattle.glk_windows.specs.OneTree.{IsTree, Shape, tree_size, top}
 use Rattle.glk_windows.specs.Valid.{IsOrdered}
 use Rattle.glk_windows.specs.declared.window.Window.{Window}
 use Rattle.glk_windows.proofs.CutLemmas.{size_length}
-use Rattle.glk_windows.proofs.OneTreeLemmas.{is_eq, isnt_eq, node_parent, once_le, spells_top}
+use Rattle.glk_windows.proofs.OneTreeLemmas.{node_parent, once_le, spells_top}
 use Rattle.glk_windows.proofs.OrderLemmas.{Ascends, ascends-removed}
 use Rattle.glk_windows.proofs.ValidLemmas.{SomeTree, node_live, node_nil, some_tree}
 use Rattle.glk_numbers.proofs.OrderLemmas.{ascends-without}
@@ -161,8 +161,8 @@ close-left g n o (None, h, k) live v =
 close-left g n o (Some s, h, k) live v =
     let x = node_live g.windows.slots n live in
     elim (cases_Bool (top s == n)) [
-      | inl e ↦ root-left g s n o h (is_eq (top s) n e) v
-      | inr e ↦ closed-left g s n x.0 o h x.1 (isnt_eq (top s) n e) v
+      | inl e ↦ root-left g s n o h (eqb-true (top s) n e) v
+      | inr e ↦ closed-left g s n x.0 o h x.1 (eqb-false (top s) n e) v
     ]
 
 -- the closed windows, beside what was dropped with them, get their rectangles

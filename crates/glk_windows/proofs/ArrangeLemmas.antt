@@ -2,6 +2,7 @@
 use Rattle.std.proofs.Common.{◌≡◌, ◌≢◌, inl, inr, ℕ, ◌≤◌, ◌<◌, ◌==◌, ◌||◌, List, []}
 use Rattle.std.proofs.Common.{◌∷◌, refl, sym, ap, ◌∙◌, Option, Some, None, option_map, is_some}
 use Rattle.std.proofs.Common.{arith, Bool, true, false, if◌then◌else◌}
+use Rattle.std.proofs.lemmas.Bool.{eqb-true, eqb-false}
 use Rattle.std.proofs.lemmas.Grind.{common_steps}
 use Rattle.glk_numbers.specs.Numbered.{found, changed_at}
 use Rattle.glk_windows.specs.declared.window.Window.{Window}
@@ -15,7 +16,7 @@ use Rattle.glk_windows.specs.OneTree.{node_of, SpellsTree, IsTree, below, key_in
 use Rattle.glk_windows.specs.OneTree.{has_leaf}
 use Rattle.glk_windows.specs.Valid.{IsOrdered}
 use Rattle.glk_windows.specs.Laws.{IsKeyOf}
-use Rattle.glk_windows.proofs.OneTreeLemmas.{node_set_at, once_le, once_mapped, is_eq, isnt_eq}
+use Rattle.glk_windows.proofs.OneTreeLemmas.{node_set_at, once_le, once_mapped}
 use Rattle.glk_windows.proofs.KeyLemmas.{Keyed, keyed_on}
 use Rattle.glk_windows.proofs.CutLemmas.{nil_of}
 use Rattle.glk_windows.proofs.SameLemmas.{read_set_at}
@@ -140,13 +141,13 @@ head-given : (z : Bool) (ws vs : List Window) (n key : ℕ)
     → (pair_key ws m ≢ 0 → (has_leaf a (pair_key ws m) || has_leaf b (pair_key ws m)) ≡ true)
     → pair_key vs m ≢ 0 → (has_leaf a (pair_key vs m) || has_leaf b (pair_key vs m)) ≡ true
 head-given true ws vs n key ho m q a b up hn t f e k i =
-    let mn : m ≡ n = is_eq m n e in
+    let mn : m ≡ n = eqb-true m n e in
     let v : pair_key vs m ≡ key = ap (pair_key vs) mn ∙ hn up q (ap (node_of ws) (sym mn) ∙ t) in
     let g : has_leaf (below n (Fork m q a b)) key ≡ true = f (grind (arith, common_steps)) in
     let h : (has_leaf a key || has_leaf b key) ≡ true = grind (arith, common_steps) in
     ap (λ x. has_leaf a x || has_leaf b x) v ∙ h
 head-given false ws vs n key ho m q a b up hn t f e k i =
-    let v : pair_key vs m ≡ pair_key ws m = ho m (isnt_eq m n e) in
+    let v : pair_key vs m ≡ pair_key ws m = ho m (eqb-false m n e) in
     ap (λ x. has_leaf a x || has_leaf b x) v ∙ k (λ j. i (v ∙ j))
 
 -- the pair with its new key, and the others with theirs
@@ -174,11 +175,11 @@ pub keyed_arranged : (z : Bool) (t : WindowTree) (n method size key : ℕ) (s : 
 keyed_arranged true t n method size key s e o h y k =
     keyed_on t.slots _ s (λ m l. read_set_at 0 (λ w. key_in (pair_in w))
     (arranged method size key) (λ w. refl)
-    (λ w. key-content-same w.content method size key (is_eq key 0 e)) t.slots n m) k
-keyed_arranged false t n method size key s e o h (inl y) k = absurd (isnt_eq key 0 e y)
+    (λ w. key-content-same w.content method size key (eqb-true key 0 e)) t.slots n m) k
+keyed_arranged false t n method size key s e o h (inl y) k = absurd (eqb-false key 0 e y)
 keyed_arranged false t n method size key s e o h (inr y) k =
     keyed-given t.slots _ n key (key-other t.slots n method size key)
-    (λ u q l. key-own t.slots n method size key u q (isnt_eq key 0 e) l) s 0 h.1
+    (λ u q l. key-own t.slots n method size key u q (eqb-false key 0 e) l) s 0 h.1
     (λ m. once_le _ _ (h.2 m))
     (λ c. ap (λ x. has_leaf (below n x) key) (sym (tree_found t s o h)) ∙ y) k
 

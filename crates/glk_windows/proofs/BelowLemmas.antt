@@ -3,7 +3,7 @@ use Rattle.std.proofs.Common.{◌≡◌, ◌≢◌, ◌⊎◌, inl, inr, ⊎_eli
 use Rattle.std.proofs.Common.{◌==◌, ◌||◌, ◌&&◌, List, [], ◌∷◌, length, refl, sym}
 use Rattle.std.proofs.Common.{ap, ◌∙◌, Option, Some, None, is_some, option_map}
 use Rattle.std.proofs.Common.{arith, Bool, true, false, not, if◌then◌else◌, nat_lt}
-use Rattle.std.proofs.lemmas.Bool.{and_parts, not-true, or_left, or_right}
+use Rattle.std.proofs.lemmas.Bool.{and_parts, eq-eqb, eqb-true, not-true, or_left, or_right}
 use Rattle.std.proofs.lemmas.Grind.{common_steps}
 use Rattle.glk_numbers.specs.Numbered.{found}
 use Rattle.glk_windows.specs.declared.window.Window.{Window}
@@ -18,7 +18,7 @@ use Rattle.glk_windows.specs.OneTree.{pair_without_key, node_of, SpellsTree}
 use Rattle.glk_windows.specs.OneTree.{Once, below, has_leaf, tree_size, tree_of}
 use Rattle.glk_windows.specs.Valid.{IsValidTree, IsOrdered}
 use Rattle.glk_windows.specs.Laws.{IsKeyOf, MayKeyHolds}
-use Rattle.glk_windows.proofs.OneTreeLemmas.{count_top, is_eq, once_at, once_le, node_parent}
+use Rattle.glk_windows.proofs.OneTreeLemmas.{count_top, once_at, once_le, node_parent}
 use Rattle.glk_windows.proofs.CutLemmas.{node_lower, node_pair, none_of, size_length}
 use Rattle.glk_windows.proofs.LiftLemmas.{count_below, pick}
 use Rattle.glk_windows.proofs.CloseLemmas.{size_below, spells_below}
@@ -59,7 +59,7 @@ pub data Place (m : ℕ) (a b : Shape) (k : ℕ) : Type 0 where
 stands : (m k : ℕ) (p : pairs.Pair) (a b : Shape) (x y : Bool)
     → (m == k) ≡ x → nat_lt 0 (times_reached a k) ≡ y
     → 0 < times_reached (Fork m p a b) k → Place m a b k
-stands m k p a b true y e f h = Here (sym (is_eq m k e))
+stands m k p a b true y e f h = Here (sym (eqb-true m k e))
 stands m k p a b false true e f h = InA (grind (arith, common_steps))
 stands m k p a b false false e f h = InB (grind (arith, common_steps))
 
@@ -159,7 +159,7 @@ way-up (suc j) ws n s k t d w z cn e =
     let u : ℕ = parent_of ws k in
     let tb : _ = spells_below ws n s 0 t cn in
     let cu : 0 < times_reached (below n s) u = pick (u == n)
-    (λ f. at-top (below n s) n u tb.0 (is_eq u n f))
+    (λ f. at-top (below n s) n u tb.0 (eqb-true u n f))
     (λ f. way-up j ws n s u t d w z cn (or-false (u == n) _ f e)) in
     let csu : 0 < times_reached s u = omega (arith, cu, count_below n s u) in
     let uz : u ≢ 0 = λ i. zero-at (times_reached s) u 0 i z csu in
@@ -207,7 +207,7 @@ key-tree t n key x (Some s, h, k) o l up pn =
 key-case : (t : WindowTree) (n key : ℕ) (b : Bool) → (key == 0) ≡ b → IsValidTree t → IsLive t n
     → (b || (is_below (length t.slots) t.slots key n && not (window_kind t.slots key == 1))) ≡ true
     → IsKeyOf t n key
-key-case t n key true e v l h = inl (is_eq key 0 e)
+key-case t n key true e v l h = inl (eqb-true key 0 e)
 key-case t n key false e v l h =
     let up : is_below (length t.slots) t.slots key n ≡ true =
     (and_parts _ _ h).0 in
@@ -219,9 +219,6 @@ key-case t n key false e v l h =
 
 -- ---- and the other way: what stands below is found on the way up
 
-same : (a b : ℕ) → a ≡ b → (a == b) ≡ true
-same a b e = grind (arith, common_steps)
-
 climbs-on : (d : ℕ) (ws : List Window) (k m up : ℕ) → is_below d ws k m ≡ true → parent_of ws m ≡ up
     → is_below (suc d) ws k up ≡ true
 unfolding is_below
@@ -230,7 +227,7 @@ climbs-on (suc d) ws k m up e f =
     let u : ℕ = parent_of ws k in
     or_right (u == up) _ (pick (u == m)
     (λ i. or_left (parent_of ws u == up) _
-    (same _ up (ap (parent_of ws) (is_eq u m i) ∙ f)))
+    (eq-eqb _ up (ap (parent_of ws) (eqb-true u m i) ∙ f)))
     (λ i. climbs-on d ws u m up (or-false (u == m) _ i e) f))
 
 climbs : (d : ℕ) (ws : List Window) (s : Shape) (up k : ℕ) → tree_size s ≤ d → SpellsTree ws up s
@@ -241,18 +238,18 @@ climbs zero ws (Fork m p a b) up k h t c = absurd (omega (arith, h))
 climbs (suc d) ws (Leaf m) up k h t c =
     let e : m ≡ k = grind (arith, common_steps) in
     or_left (parent_of ws k == up) _
-    (same _ up (ap (parent_of ws) (sym e) ∙ sym (node_parent ws m _ t)))
+    (eq-eqb _ up (ap (parent_of ws) (sym e) ∙ sym (node_parent ws m _ t)))
 climbs (suc d) ws (Fork m p a b) up k h t c =
     let f : parent_of ws m ≡ up = sym (node_parent ws m _ t.0) in
     elim (place-of m k p a b c) as (λ _. is_below (suc d) ws k up ≡ true) [
-      | Here e ↦ or_left (parent_of ws k == up) _ (same _ up (ap (parent_of ws) e ∙ f))
+      | Here e ↦ or_left (parent_of ws k == up) _ (eq-eqb _ up (ap (parent_of ws) e ∙ f))
       | InA g ↦ climbs-on d ws k m up (climbs d ws a m k (omega (arith, h)) t.3 g) f
       | InB g ↦ climbs-on d ws k m up (climbs d ws b m k (omega (arith, h)) t.4 g) f
     ]
 
 leaf-node : (ws : List Window) (s : Shape) (up k : ℕ) → SpellsTree ws up s → has_leaf s k ≡ true
     → (u : ℕ) × (node_of ws k ≡ Some (u, None))
-leaf-node ws (Leaf n) up k t e = (up, ap (node_of ws) (sym (is_eq n k e)) ∙ t)
+leaf-node ws (Leaf n) up k t e = (up, ap (node_of ws) (sym (eqb-true n k e)) ∙ t)
 leaf-node ws (Fork n p a b) up k t e =
     pick (has_leaf a k) (λ f. leaf-node ws a n k t.3 f)
     (λ f. leaf-node ws b n k t.4 (or-false (has_leaf a k) _ f e))
@@ -305,7 +302,7 @@ pub may_key_holds : MayKeyHolds
 may_key_holds = record {
   only = λ t n key v l h. key-case t n key (key == 0) refl v l h;
   found = λ t n key v l p k. (elim k as (λ _. may_key t.slots n key ≡ true) [
-    | inl e ↦ or_left (key == 0) _ (same key 0 e)
+    | inl e ↦ or_left (key == 0) _ (eq-eqb key 0 e)
     | inr e ↦ (let x : _ = node_live t.slots n l in
         key-below t n key x.0 (some_tree t v) v.ordered x.1 p e)
   ]);

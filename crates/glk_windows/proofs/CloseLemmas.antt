@@ -2,7 +2,7 @@
 use Rattle.std.proofs.Common.{◌≡◌, ℕ, ◌+◌, ◌<◌, ◌≤◌, ◌≢◌, List, length, refl, sym}
 use Rattle.std.proofs.Common.{ap, ◌∙◌, Option, Some, None, is_some, option_map, arith}
 use Rattle.std.proofs.Common.{false, nat_lt, ◌==◌, if◌then◌else◌}
-use Rattle.std.proofs.lemmas.Bool.{both_ways, cond_both}
+use Rattle.std.proofs.lemmas.Bool.{both_ways, cond_both, eqb-true}
 use Rattle.std.proofs.lemmas.Grind.{common_steps}
 use Rattle.glk_windows.specs.declared.window.Window.{Window}
 use Rattle.glk_windows.specs.declared.window.Pair as p
@@ -14,7 +14,7 @@ use Rattle.glk_windows.specs.Valid.{IsOrdered}
 use Rattle.glk_windows.specs.OneTree.{Shape, Leaf, Fork, top, times_reached}
 use Rattle.glk_windows.specs.OneTree.{pair_without_key, node_of, SpellsTree, IsTree}
 use Rattle.glk_windows.specs.OneTree.{tree_size, below, tree_without, pair_above}
-use Rattle.glk_windows.proofs.OneTreeLemmas.{node_relinked, once_at, once_le, node_parent, is_eq}
+use Rattle.glk_windows.proofs.OneTreeLemmas.{node_relinked, once_at, once_le, node_parent}
 use Rattle.glk_windows.proofs.CutLemmas.{node_lower, node_removed}
 use Rattle.glk_windows.proofs.CutLemmas.{node_closed, node_pair, size_length}
 use Rattle.glk_windows.proofs.LiftLemmas.{Cuts, count_below, count_cut, outside, relift, spells_cut}
@@ -30,8 +30,8 @@ spells_below ws n (Leaf m) up t c =
 spells_below ws n (Fork m p a b) up t c =
     cond_both (m == n) _ _ (λ s. (top s ≡ n) × SpellsTree ws (parent_of ws n) s)
     (λ e. (let i : up ≡ parent_of ws n =
-    node_parent ws m _ t.0 ∙ ap (parent_of ws) (is_eq m n e) in
-    (is_eq m n e, (t.0 ∙ ap (λ u. Some (u, Some p)) i, t.1, t.2, t.3, t.4))))
+    node_parent ws m _ t.0 ∙ ap (parent_of ws) (eqb-true m n e) in
+    (eqb-true m n e, (t.0 ∙ ap (λ u. Some (u, Some p)) i, t.1, t.2, t.3, t.4))))
     (λ e. cond_both (nat_lt 0 (times_reached a n)) _ _
     (λ s. (top s ≡ n) × SpellsTree ws (parent_of ws n) s)
     (λ f. spells_below ws n a m t.3 (grind (arith, common_steps)))

@@ -1,6 +1,7 @@
 -- A sibling lifted into the place of its pair keeps the windows one tree.
 use Rattle.std.proofs.Common.{◌≡◌, ℕ, ◌+◌, ◌<◌, ◌≤◌, ◌≢◌, List, refl, sym, ap, ◌∙◌, subst, Option}
 use Rattle.std.proofs.Common.{Some, arith, Bool, true, false, nat_lt, ◌==◌, if◌then◌else◌}
+use Rattle.std.proofs.lemmas.Bool.{eqb-true, eqb-false}
 use Rattle.std.proofs.lemmas.Grind.{common_steps}
 use Rattle.glk_windows.specs.declared.window.Window.{Window}
 use Rattle.glk_windows.specs.declared.window.Pair as p
@@ -8,8 +9,8 @@ use Rattle.glk_windows.specs.Tree.{parent_of}
 use Rattle.glk_windows.specs.Reading.{other_window as sibling}
 use Rattle.glk_windows.specs.OneTree.{Shape, Leaf, Fork, top, times_reached, node_of}
 use Rattle.glk_windows.specs.OneTree.{SpellsTree, below, tree_without, pair_above}
-use Rattle.glk_windows.proofs.OneTreeLemmas.{count_top, not_top, spells_top, node_parent, is_eq}
-use Rattle.glk_windows.proofs.OneTreeLemmas.{isnt_eq, relinked, relinked_same, relinked_top}
+use Rattle.glk_windows.proofs.OneTreeLemmas.{count_top, not_top, spells_top, node_parent}
+use Rattle.glk_windows.proofs.OneTreeLemmas.{relinked, relinked_same, relinked_top}
 
 -- the parent and pair of a window where another took the place of its pair
 abbrev pub relift : ℕ → ℕ → ℕ → ℕ → ℕ × Option p.Pair → ℕ × Option p.Pair
@@ -69,15 +70,15 @@ cut_at n m p a b d h c =
     let tb : 0 < times_reached b (top b) = count_top b in
     pick (top a == n)
     (λ e. (let an : nat_lt 0 (times_reached a n) ≡ true = grind (arith, common_steps) in
-    First (is_eq _ _ e) (rw (mn, an) (below_top n a (is_eq _ _ e))) (rw e refl)))
+    First (eqb-true _ _ e) (rw (mn, an) (below_top n a (eqb-true _ _ e))) (rw e refl)))
     (λ e. pick (top b == n)
     (λ f. (let an : nat_lt 0 (times_reached a n) ≡ false = grind (arith, common_steps) in
-    Second (isnt_eq _ _ e) (is_eq _ _ f) (rw (mn, an) (below_top n b (is_eq _ _ f)))
+    Second (eqb-false _ _ e) (eqb-true _ _ f) (rw (mn, an) (below_top n b (eqb-true _ _ f)))
     (rw (e, f) refl)))
     (λ f. pick (nat_lt 0 (times_reached a n))
-    (λ g. InFirst (isnt_eq _ _ e) (grind (arith, common_steps)) (rw (mn, g) refl)
+    (λ g. InFirst (eqb-false _ _ e) (grind (arith, common_steps)) (rw (mn, g) refl)
     (rw (e, f, g) refl))
-    (λ g. InSecond (isnt_eq _ _ f) (grind (arith, common_steps)) (rw (mn, g) refl)
+    (λ g. InSecond (eqb-false _ _ f) (grind (arith, common_steps)) (rw (mn, g) refl)
     (rw (e, f, g) refl))))
 
 relift-first : (pair other above m u c : ℕ) (p : p.Pair)
@@ -319,21 +320,21 @@ outside ws n (Fork m p a b) up t d h c =
     let pa : m ≡ parent_of ws (top a) = node_parent ws (top a) _ (spells_top ws a m t.3) in
     let pb : m ≡ parent_of ws (top b) = node_parent ws (top b) _ (spells_top ws b m t.4) in
     pick (top a == n)
-    (λ e. (let i : top a ≡ n = is_eq _ _ e in
+    (λ e. (let i : top a ≡ n = eqb-true _ _ e in
     let l : below n a ≡ a = below_top n a i in
     let q : m ≡ parent_of ws n = pa ∙ ap (parent_of ws) i in
     (grind (arith, common_steps), grind (arith, common_steps), grind (arith, common_steps))))
     (λ e. pick (top b == n)
-    (λ f. (let i : top b ≡ n = is_eq _ _ f in
+    (λ f. (let i : top b ≡ n = eqb-true _ _ f in
     let l : below n b ≡ b = below_top n b i in
     let q : m ≡ parent_of ws n = pb ∙ ap (parent_of ws) i in
     (grind (arith, common_steps), grind (arith, common_steps), grind (arith, common_steps))))
     (λ f. pick (nat_lt 0 (times_reached a n))
     (λ g. (let i : _ =
-    outside ws n a m t.3 (λ x. omega (arith, d x)) (isnt_eq _ _ e) (grind (arith, common_steps)) in
+    outside ws n a m t.3 (λ x. omega (arith, d x)) (eqb-false _ _ e) (grind (arith, common_steps)) in
     let i0 : _ = i.0 in let i1 : _ = i.1 in let i2 : _ = i.2 in
     (grind (arith, common_steps), grind (arith, common_steps), grind (arith, common_steps))))
     (λ g. (let i : _ =
-    outside ws n b m t.4 (λ x. omega (arith, d x)) (isnt_eq _ _ f) (grind (arith, common_steps)) in
+    outside ws n b m t.4 (λ x. omega (arith, d x)) (eqb-false _ _ f) (grind (arith, common_steps)) in
     let i0 : _ = i.0 in let i1 : _ = i.1 in let i2 : _ = i.2 in
     (grind (arith, common_steps), grind (arith, common_steps), grind (arith, common_steps))))))

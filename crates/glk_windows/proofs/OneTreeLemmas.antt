@@ -2,7 +2,7 @@
 use Rattle.std.proofs.Common.{◌≡◌, ℕ, ◌+◌, ◌<◌, ◌≤◌, ◌≢◌, List, [], ◌∷◌, ◌++◌, refl}
 use Rattle.std.proofs.Common.{sym, ap, ◌∙◌, Option, Some, None, is_some, option_map, arith, Bool}
 use Rattle.std.proofs.Common.{true, false, ◌==◌, if◌then◌else◌}
-use Rattle.std.proofs.lemmas.Bool.{cond_both}
+use Rattle.std.proofs.lemmas.Bool.{cond_both, eqb-false, eqb-true}
 use Rattle.std.proofs.lemmas.Grind.{common_steps}
 use Rattle.glk_windows.specs.declared.window.Window.{Window}
 use Rattle.glk_windows.specs.declared.window.Pair as p
@@ -93,12 +93,6 @@ spells_apart ws vs from pair q h (Fork n p a b) up c t =
       spells_apart ws vs from pair q h b n cb t.4,
     )
 
-pub is_eq : (a b : ℕ) → (a == b) ≡ true → a ≡ b
-is_eq a b e = grind (arith, common_steps)
-
-pub isnt_eq : (a b : ℕ) → (a == b) ≡ false → a ≢ b
-isnt_eq a b e = λ k. grind (arith, common_steps)
-
 pub spells_top : (ws : List Window) (s : Shape) (up : ℕ)
     → SpellsTree ws up s
     → node_of ws (top s) ≡ Some (up, kids s)
@@ -144,8 +138,8 @@ pub spells_forked : (ws vs : List Window) (from pair new q : ℕ) (r : p.Pair)
 spells_forked ws vs from pair new q r h hq hp hn rf rn (Leaf n) up c t =
     cond_both (n == from) (Fork pair r (Leaf n) (Leaf new)) (Leaf n) (SpellsTree vs up)
     (λ e. (
-      hp ∙ ap (λ u. Some (u, Some r)) (sym (hq n _ (is_eq n from e) t)),
-      rf ∙ sym (is_eq n from e),
+      hp ∙ ap (λ u. Some (u, Some r)) (sym (hq n _ (eqb-true n from e) t)),
+      rf ∙ sym (eqb-true n from e),
       rn,
       h n _ t ∙ ap Some (grind (arith, common_steps)),
       hn,
@@ -154,7 +148,7 @@ spells_forked ws vs from pair new q r h hq hp hn rf rn (Leaf n) up c t =
 spells_forked ws vs from pair new q r h hq hp hn rf rn (Fork n p a b) up c t =
     let ch : times_reached (Fork n p a b) from ≤ 1 = c from in
     cond_both (n == from) (Fork pair r (Fork n p a b) (Leaf new)) _ (SpellsTree vs up)
-    (λ e. (let i : n ≡ from = is_eq n from e in
+    (λ e. (let i : n ≡ from = eqb-true n from e in
     let ca : times_reached a from ≡ 0 = grind (arith, common_steps) in
     let cb : times_reached b from ≡ 0 = grind (arith, common_steps) in (
       hp ∙ ap (λ u. Some (u, Some r)) (sym (hq n _ i t.0)),
@@ -171,7 +165,7 @@ spells_forked ws vs from pair new q r h hq hp hn rf rn (Fork n p a b) up c t =
       hn,
     )))
     (λ e. (
-      h n _ t.0 ∙ ap Some (renode-swap from pair q n up p (isnt_eq n from e)
+      h n _ t.0 ∙ ap Some (renode-swap from pair q n up p (eqb-false n from e)
           (λ k. hq (top a) _ (sym t.1 ∙ k) (spells_top ws a n t.3))
           (λ k. hq (top b) _ (sym t.2 ∙ k) (spells_top ws b n t.4))),
       swap-first from pair new r p a t.1,

@@ -2,7 +2,7 @@
 use Rattle.std.proofs.Common.{◌≡◌, ◌≢◌, ◌⊎◌, inl, inr, ℕ, ◌≤◌, ◌==◌, ◌||◌, List}
 use Rattle.std.proofs.Common.{[], ◌∷◌, length, refl, sym, ap, ◌∙◌, Option, Some, None, is_some}
 use Rattle.std.proofs.Common.{option_map, arith, Bool, true, false, if◌then◌else◌, nat_lt}
-use Rattle.std.proofs.lemmas.Bool.{cond_both}
+use Rattle.std.proofs.lemmas.Bool.{cond_both, eqb-false, eqb-true}
 use Rattle.std.proofs.lemmas.Grind.{common_steps}
 use Rattle.glk_numbers.specs.Numbered.{found, without}
 use Rattle.glk_windows.specs.declared.window.Window.{Window}
@@ -21,7 +21,7 @@ use Rattle.glk_windows.specs.Laws.{ClosesBelow, goes_with, own_fields, own_conte
 use Rattle.glk_windows.proofs.CutLemmas.{node_lower, node_pair}
 use Rattle.glk_windows.proofs.CloseLemmas.{node_rest, pair_rest}
 use Rattle.glk_windows.proofs.KeepLemmas.{removed_keeps}
-use Rattle.glk_windows.proofs.OneTreeLemmas.{is_eq, isnt_eq, node_parent, spells_top}
+use Rattle.glk_windows.proofs.OneTreeLemmas.{node_parent, spells_top}
 use Rattle.glk_windows.proofs.OrderLemmas.{Ascends, ascends-behind, ascends-closed}
 use Rattle.glk_windows.proofs.OrderLemmas.{ascends-removed}
 use Rattle.glk_windows.proofs.SameLemmas.{read_map, read_set_at}
@@ -139,7 +139,7 @@ or-twice false c o = refl
 not-root : (t : WindowTree) (s : Shape) (n : ℕ) → IsTree t (Some s)
     → (parent_of t.slots n == 0) ≡ false → top s ≢ n
 not-root t s n h e = λ i.
-    isnt_eq (parent_of t.slots n) 0 e
+    eqb-false (parent_of t.slots n) 0 e
     (ap (parent_of t.slots) (sym i)
     ∙ sym (node_parent t.slots (top s) _ (spells_top t.slots s 0 h.1)))
 
@@ -162,7 +162,7 @@ own-close t s n x m o h live =
     (λ (v : WindowTree). own_of v.slots m ≡ (if m == pair || gone then None else own_of ws m))
     (λ e. r ∙ or-none (m == pair) gone (own_of ws m)
     (λ i. own-none ws m (node_lower 0 ws t.next m o
-    (omega (arith, is_eq m pair i, is_eq pair 0 e)))))
+    (omega (arith, eqb-true m pair i, eqb-true pair 0 e)))))
     (λ e. own-ended u pair (pair_of w2 pair) (pair_above n s) n m
     (node_pair w2 pair _ (pair_rest t s n x o h live (not-root t s n h e)))
     (ascends-removed (length ws) 0 ws t.next n o)

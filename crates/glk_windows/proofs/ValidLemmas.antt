@@ -2,7 +2,7 @@
 use Rattle.std.proofs.Common.{◌≡◌, ◌≢◌, inl, inr, ℕ, ◌+◌, ◌≤◌, ◌==◌, ◌||◌, List, []}
 use Rattle.std.proofs.Common.{◌∷◌, map, length, refl, sym, ap, ◌∙◌, subst, Option, Some, None}
 use Rattle.std.proofs.Common.{option_map, arith, Bool, true, false, if◌then◌else◌}
-use Rattle.std.proofs.lemmas.Bool.{cond_both, or_parts}
+use Rattle.std.proofs.lemmas.Bool.{cond_both, eqb-false, eqb-true, or_parts}
 use Rattle.std.proofs.lemmas.Grind.{common_steps}
 use Rattle.glk_numbers.specs.Numbered.{ascends, has}
 use Rattle.glk_windows.specs.declared.window.Window.{Window}
@@ -29,7 +29,7 @@ use Rattle.glk_windows.proofs.CutLemmas.{node_lower, nil_of, tree_close-root}
 use Rattle.glk_windows.proofs.FitLemmas.{Fit, fit_of, fit_set_at, fit_map, fit_placed, fit_close}
 use Rattle.glk_windows.proofs.KeyLemmas.{Keyed, keyed_of, are_keyed_of, keyed_on, keyed_cut}
 use Rattle.glk_windows.proofs.KeyLemmas.{left_close}
-use Rattle.glk_windows.proofs.OneTreeLemmas.{spells_top, once_le, once_at, is_eq, isnt_eq}
+use Rattle.glk_windows.proofs.OneTreeLemmas.{spells_top, once_le, once_at}
 use Rattle.glk_windows.proofs.OpeningLemmas.{fit_first, tree_first, new_pair, fit_beside}
 use Rattle.glk_windows.proofs.OpeningLemmas.{beside_made, tree_beside, keyed_beside}
 use Rattle.glk_windows.proofs.OrderLemmas.{Ascends}
@@ -299,10 +299,10 @@ tree-close-if : (t : WindowTree) (s : Shape) (n : ℕ) (x : ℕ × Option pairs.
     → IsOrdered t → IsTree t (Some s) → Keyed t.slots s
     → node_of t.slots n ≡ Some x → SomeTree (close t n)
 tree-close-if t s n x true e o h k l =
-    let i : t.root ≡ n = h.0 ∙ is_eq (top s) n e in
+    let i : t.root ≡ n = h.0 ∙ eqb-true (top s) n e in
     (None, subst (λ m. IsTree (close t m) None) i (tree_close-root t s o h), tt)
 tree-close-if t s n x false e o h k l =
-    let i : top s ≢ n = isnt_eq (top s) n e in (
+    let i : top s ≢ n = eqb-false (top s) n e in (
       Some (tree_without n s),
       tree_close t s n x o h l i,
       keyed_cut t.slots _ n s (λ m. once_le _ _ (h.2 m)) i (omega (arith, once_at _ _ x l (h.2 n)))
