@@ -8,5 +8,5 @@ returns-then-not-asks_story c =
 
 pub returns : goal.returns
 returns c =
-    c.refusal_in.ensures
+    c.refusal_in-2.ensures
     ∙ refusal_of-asked _ _ _ _ _ (c.as_ref.ensures.value ∙ c.in_ok-now.ensures)
