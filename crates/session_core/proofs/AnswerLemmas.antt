@@ -81,23 +81,6 @@ refusal_in-story now stories history game request why none e =
     ∙ first_of-append-some (story_checks now stories game request)
     ((is_full history game request, Full) ∷ []) why e)
 
-pub refusal_of-plain : (stories : List Story) (history game : List Command)
-    (request : Request) (why : No)
-    → first_refusal (plain_checks stories game request) ≡ Some why
-    → Some why ≡ refusal_of stories history game request
-unfolding refusal_of
-refusal_of-plain stories history game request why e =
-    refusal_in-plain (world_of stories game) stories history game request why e
-
-pub refusal_of-story : (stories : List Story) (history game : List Command)
-    (request : Request) (why : No)
-    → first_refusal (plain_checks stories game request) ≡ None
-    → first_refusal (story_checks (world_of stories game) stories game request) ≡ Some why
-    → Some why ≡ refusal_of stories history game request
-unfolding refusal_of
-refusal_of-story stories history game request why none e =
-    refusal_in-story (world_of stories game) stories history game request why none e
-
 -- no check of a list holds, so none of its end does
 first_of-end : (xs ys : List (Bool × No))
     → first_refusal (xs ++ ys) ≡ None → first_refusal ys ≡ None

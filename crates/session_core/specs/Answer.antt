@@ -20,6 +20,7 @@ use Rattle.session_core.specs.History.{world_of}
 use Rattle.session_core.specs.Checks.{session_of, command_of, is_fresh, is_watch, is_absent}
 use Rattle.session_core.specs.Checks.{is_taken, is_story_missing, is_changed, is_early}
 use Rattle.session_core.specs.Checks.{is_different, is_ahead, comes_late, is_unwanted, is_full}
+use Rattle.session_core.specs.Checks.{over_in, unwanted_in}
 
 -- the first refusal whose check holds
 abbrev pub first_refusal : List (Bool × No) → Option No
@@ -46,6 +47,11 @@ story_checks now stories game request =
     (comes_late now stories game request, no.Over)
     ∷ (is_unwanted now stories game request, no.Unwanted)
     ∷ []
+
+-- why the story of this world doesn't take a new input: it is over, or doesn't wait for that one
+abbrev pub declines : Option WorldState → Option Input → Option No
+declines now input =
+    first_refusal ((over_in now input, no.Over) ∷ (unwanted_in now input, no.Unwanted) ∷ [])
 
 -- all checks in their order
 abbrev pub checks :

@@ -3,6 +3,7 @@ use Rattle.std.specs.Prelude.{ℕ, ◌+◌, Bool, true, false, ◌&&◌, ◌||�
 use Rattle.std.specs.Prelude.{List, [], ◌∷◌, length, is_none, Option, Some, None}
 use Rattle.std.specs.Str.{bytes_eq}
 use Rattle.story_text.specs.declared.input.Input.{Input}
+use Rattle.story_text.specs.declared.input.Input.TheVariants as inputs
 use Rattle.gate_journal.specs.declared.command.Command.{Command}
 use Rattle.gate_journal.specs.declared.command.Command.TheVariants as commands
 use Rattle.line_words.specs.declared.request.Request.{Request}
@@ -161,6 +162,17 @@ is_ahead game request = passes (λ n. nat_lt (command_count game + 1) n) (comman
 abbrev pub input_given : Option Command → Option Input
 input_given (Some command) = input_of command
 input_given None = None
+
+-- what a request gives the story, without its text, of which a story asks nothing before it takes it
+abbrev pub outline : Request → Option Input
+outline (Open s key story seed cols rows budget) = None
+outline (Line s key n win text term) = Some (inputs.Line win [] term)
+outline (Char s key n win code) = Some (inputs.Char win code)
+outline (File s key n name) = Some (inputs.File [])
+outline (Size s key n cols rows) = Some (inputs.Size cols rows)
+outline (Last s key) = None
+outline (Close s key n) = None
+outline (Watch s word from) = None
 
 -- NO 9: a new input, and the story is over. The session's world is `now`.
 abbrev pub over_in : Option WorldState → Option Input → Bool

@@ -1,27 +1,21 @@
 //! The reply to a request, and the command that it makes a session accept (own).
 
 ghost use Rattle.std.specs.Prelude.{◌≡◌, ◌≤◌, ◌<◌, length, IfOk, IfSome};
-ghost use Rattle.session_core.specs.History.{game_of, world_of};
+ghost use Rattle.session_core.specs.History.{game_of};
 ghost use Rattle.session_core.specs.Checks.{command_of, session_of};
-ghost use Rattle.session_core.specs.Answer.{answer, first_refusal, plain_checks, story_checks};
-ghost use Rattle.session_core.specs.Answer.{refusal_of, accepted_by, history_extended, game_show};
-ghost use Rattle.session_core.specs.Answer.{shown_number};
+ghost use Rattle.session_core.specs.Answer.{answer, refusal_of, accepted_by, history_extended};
+ghost use Rattle.session_core.specs.Answer.{game_show, shown_number};
 
-use crate::checks::{
-    is_absent, is_ahead, is_changed, is_different, is_early, is_fresh, is_missing, is_taken,
-    is_watch, session_of,
-};
+use crate::checks::{is_fresh, session_of};
 use crate::commands::copies_of;
 use crate::history::{count, game_of, is_in_use, story_at};
-use crate::world::{input_of, world_of};
+use crate::refusal::{asks_story, refusal_in};
+use crate::world::world_of;
 use gate_journal::Command;
 use line_words::{No, Reply, Request};
 use std::alloc::{AllocError, Global};
 use story_run::Story;
 use story_text::Bytes;
-
-/// The most commands that a session number accepts.
-pub const MAX_COMMANDS: usize = 8192;
 
 /// What a request is answered.
 #[derive(Debug, Drop)]
@@ -86,73 +80,7 @@ pub fn command_of(
     }))
 }
 
-/// The refusals of a new input by the story: it is over, or doesn't wait for the input.
-fn story_refusal(
-    alloc: Global,
-    stories: &[Story],
-    game: &[Command],
-    request: &Request,
-) -> Result<Option<No>, AllocError>
-    requires { length game.now ≤ 8192 }
-    ensures { IfOk result (λ why. why
-        ≡ first_refusal (story_checks (world_of stories.now game.now) stories.now game.now
-        request.now)) }
-{
-    if !is_fresh(game, request) {
-        return Ok(None);
-    }
-    let Some(command) = command_of(alloc, stories, request)? else {
-        return Ok(None);
-    };
-    let Some(input) = input_of(alloc, &command)? else {
-        return Ok(None);
-    };
-    let Some(world) = world_of(alloc, stories, game)? else {
-        return Ok(None);
-    };
-    if world.is_over() {
-        return Ok(Some(No::Over));
-    }
-    if !world.wants(&input) {
-        return Ok(Some(No::Unwanted));
-    }
-    Ok(None)
-}
-
-/// The refusals that need no world, in their order.
-pub fn plain_refusal(stories: &[Story], game: &[Command], request: &Request) -> Option<No>
-    requires { length game.now ≤ 8192 }
-    ensures { result ≡ first_refusal (plain_checks stories.now game.now request.now) }
-{
-    if is_watch(request) {
-        return Some(No::BadLine);
-    }
-    if is_absent(game, request) {
-        return Some(No::NoSession);
-    }
-    if is_taken(game, request) {
-        return Some(No::InUse);
-    }
-    if is_missing(stories, game, request) {
-        return Some(No::NoStory);
-    }
-    if is_changed(stories, game, request) {
-        return Some(No::Changed);
-    }
-    if is_early(game, request) {
-        return Some(No::Stale { c: count(game) });
-    }
-    if is_different(game, request) {
-        return Some(No::Other);
-    }
-    if is_ahead(game, request) {
-        return Some(No::Early { c: count(game) });
-    }
-    None
-}
-
-/// Why the request is refused, if it is.
-#[tactic(auto, unfolding(crate::specs::Answer::refusal_of, crate::specs::Answer::refusal_in))]
+/// Why the request is refused, if it is. The game is played only where the story is asked.
 fn refusal_of(
     alloc: Global,
     stories: &[Story],
@@ -164,16 +92,11 @@ fn refusal_of(
     ensures { IfOk result (λ why. why
         ≡ refusal_of stories.now history.now game.now request.now) }
 {
-    if let Some(why) = plain_refusal(stories, game, request) {
-        return Ok(Some(why));
+    if !asks_story(alloc, stories, game, request) {
+        return Ok(refusal_in(alloc, stories, history, game, None, request));
     }
-    if let Some(why) = story_refusal(alloc, stories, game, request)? {
-        return Ok(Some(why));
-    }
-    if is_fresh(game, request) && history.len() >= MAX_COMMANDS {
-        return Ok(Some(No::Full));
-    }
-    Ok(None)
+    let now = world_of(alloc, stories, game)?;
+    Ok(refusal_in(alloc, stories, history, game, now.as_ref(), request))
 }
 
 /// The command that is accepted where the request isn't refused.

@@ -111,7 +111,7 @@ first_of-front [] ys e = refl
 first_of-front ((true, why) ∷ more) ys e = e
 first_of-front ((false, why) ∷ more) ys e = first_of-front more ys e
 
-plain : (now : Option WorldState) (stories : List Story) (history game : List Command)
+pub plain : (now : Option WorldState) (stories : List Story) (history game : List Command)
     (request : Request)
     → refusal_in now stories history game request ≡ None
     → first_refusal (plain_checks stories game request) ≡ None

@@ -1,6 +1,7 @@
 -- What a desk shows of a fresh request, and where it is cold.
 use Rattle.std.proofs.Common.{◌≡◌, Bool, true, false, ◌&&◌, cond, List, [], ◌∷◌, ◌++◌, Option}
 use Rattle.std.proofs.Common.{Some, None, is_none, refl, sym, ap, ◌∙◌}
+use Rattle.std.proofs.lemmas.Bool.{and_from, and_parts}
 use Rattle.gate_journal.specs.Rows.{is_open}
 use Rattle.gate_journal.specs.declared.command.Command.{Command}
 use Rattle.gate_journal.specs.declared.command.Command.TheVariants as commands
@@ -12,16 +13,16 @@ use Rattle.story_run.specs.declared.story.Story.{Story}
 use Rattle.story_run.specs.World.{WorldState}
 use Rattle.session_core.specs.History.{game_of, input_of, is_in_use, last_of, turned_on, world_of}
 use Rattle.session_core.specs.Checks.{input_given, is_fresh}
-use Rattle.session_core.specs.Answer.{accepted_by, refusal_in}
+use Rattle.session_core.specs.Answer.{accepted_by, first_refusal, plain_checks, refusal_in}
 use Rattle.session_core.specs.Answer.{show_in, show_while, show_with, shown_number, world_with}
 use Rattle.session_core.proofs.RepeatLemmas.{answer_in-none, game_of-append, game_of-append-open}
 use Rattle.session_core.proofs.RepeatLemmas.{joined, last_of-joined}
 use Rattle.session_desk.specs.declared.verdict.Verdict.TheVariants.{Cold}
 use Rattle.session_desk.specs.declared.held.Held.{Held}
 use Rattle.session_desk.specs.declared.held.Held.TheVariants.{Nothing, Current, Previous}
-use Rattle.session_desk.specs.Desk.{DeskState, aside, game, held_then, world_held, show_at}
+use Rattle.session_desk.specs.Desk.{DeskState, aside, game, held_then, is_cold, world_held, show_at}
 use Rattle.session_desk.specs.Desk.{world_now}
-use Rattle.session_desk.specs.Verdict.{lacks_world, needs_world, verdict_by, verdict}
+use Rattle.session_desk.specs.Verdict.{is_to_story, lacks_world, needs_world, verdict_by, verdict}
 use Rattle.session_desk.specs.Laws.{ShowsFresh, IsColdAlone}
 use Rattle.session_desk.proofs.AlikeLemmas.{accepts, IsReadyFor, ready, told-cold}
 
@@ -122,6 +123,18 @@ cold_alone desk request = (
       (accepted_by desk.stories (game desk) request) e,
   λ lacks. rw lacks refl,
 )
+
+-- the desk is cold then
+pub cold_told : (desk : DeskState) (request : Request)
+    → verdict desk request ≡ Cold → is_cold desk ≡ true
+cold_told desk request e =
+    let lacks =
+    and_parts (needs_world desk.stories (game desk) request) (is_none (world_now desk.held))
+    ((cold_alone desk request).0 e) in
+    let needs =
+    and_parts (is_none (first_refusal (plain_checks desk.stories (game desk) request)))
+    (is_to_story (game desk) request) lacks.0 in
+    and_from (is_in_use (game desk)) _ (and_parts (is_in_use (game desk)) _ needs.1).0 lacks.1
 
 -- one that holds a world isn't cold to any request
 pub warm_tells : (desk : DeskState) (request : Request)

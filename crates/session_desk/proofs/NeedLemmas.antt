@@ -11,10 +11,10 @@ use Rattle.story_run.specs.World.{WorldState}
 use Rattle.session_core.specs.History.{game_of}
 use Rattle.session_core.specs.Checks.{comes_late, is_full, is_unwanted}
 use Rattle.session_core.specs.Answer.{accepted_by, first_refusal, plain_checks, refusal_in}
+use Rattle.session_core.proofs.RefusalLemmas.{past_plain}
 use Rattle.session_desk.specs.Laws.{IsByWorld, WorldIsNeeded}
 use Rattle.session_desk.specs.Verdict.{foretold, is_to_story, needs_world, verdict_by}
 use Rattle.session_desk.proofs.NowLemmas.{asks_no_world}
-use Rattle.session_desk.proofs.VerdictLemmas.{past_plain}
 
 -- none, or one of the three refusals that come last
 abbrev IsLate : Option No → Type 0
@@ -58,7 +58,7 @@ by_world stories history request needs world =
     let plain = first_refusal (plain_checks stories g request) in
     let none = none_of plain (and_parts (is_none plain) (is_to_story g request) needs).0 in
     told_by stories history (Some world) request
-    (rw (past_plain stories history g (Some world) request none)
+    (rw (past_plain (Some world) stories history g request none)
     (last_three (comes_late (Some world) stories g request)
     (is_unwanted (Some world) stories g request) (is_full history g request)))
 

@@ -15,31 +15,30 @@ use Rattle.session_core.specs.Checks.{is_fresh, opening_command}
 use Rattle.session_core.specs.Answer.{accepted_by, answer_in, decided, first_refusal, plain_checks}
 use Rattle.session_core.specs.Answer.{refusal_in, show_with}
 use Rattle.session_core.proofs.AnswerLemmas.{refusal_in-plain}
+use Rattle.session_core.proofs.RefusalLemmas.{unasked}
 use Rattle.session_desk.specs.declared.held.Held.{Held}
 use Rattle.session_desk.specs.declared.held.Held.TheVariants.{Nothing, Current, Previous}
 use Rattle.session_desk.specs.Desk.{HoldsOwnWorld, world_now}
 use Rattle.session_desk.specs.Verdict.{is_to_story, needs_world}
-use Rattle.session_desk.proofs.VerdictLemmas.{asks_story, checks_free, finds_use, past_story}
-use Rattle.session_desk.proofs.VerdictLemmas.{stale-passes}
+use Rattle.session_desk.proofs.VerdictLemmas.{asks_story, finds_use, free_gives}
 use Rattle.session_desk.proofs.WarmLemmas.{closed_again}
 
 -- ---- the same refusal
 
 refusal_free : (stories : List Story) (history : List Command) (now other : Option WorldState)
-    (request : Request) (fresh : Bool)
+    (request : Request)
     → first_refusal (plain_checks stories (game_of history) request) ≡ None
     → is_to_story (game_of history) request ≡ false
-    → is_fresh (game_of history) request ≡ fresh
     → refusal_in now stories history (game_of history) request
     ≡ refusal_in other stories history (game_of history) request
-refusal_free stories history now other request false none free stale =
-    stale-passes stories history (game_of history) now request none stale
-    ∙ sym (stale-passes stories history (game_of history) other request none stale)
-refusal_free stories history now other request true none free fresh =
-    past_story stories history (game_of history) now request none
-    (checks_free stories (game_of history) now request none free fresh)
-    ∙ sym (past_story stories history (game_of history) other request none
-    (checks_free stories (game_of history) other request none free fresh))
+refusal_free stories history now other request none free =
+    unasked now other stories history (game_of history) request
+    (rw (none, free_gives stories (game_of history) request none free)
+    (and_false (is_fresh (game_of history) request)))
+  where
+    and_false : (x : Bool) → (x && false) ≡ false
+    and_false true = refl
+    and_false false = refl
 
 -- ---- the same show
 
@@ -128,8 +127,7 @@ unfolding answer_in
 answered_free stories history now other request none free =
     ap (λ (refusal : Option No).
     decided stories (game_of history) (show_with stories history now) request refusal)
-    (refusal_free stories history now other request
-    (is_fresh (game_of history) request) none free refl)
+    (refusal_free stories history now other request none free)
     ∙ decided_alike stories (game_of history) (show_with stories history now)
     (show_with stories history other) request
     (refusal_in other stories history (game_of history) request)

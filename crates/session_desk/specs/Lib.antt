@@ -1,5 +1,4 @@
 pub mod Desk
-pub mod Wanted
 pub mod Verdict
 pub mod Commit
 pub mod Laws

@@ -45,8 +45,12 @@ foretold stories commands now request =
     verdict_by (refusal_in now stories commands (game_of commands) request)
     (accepted_by stories (game_of commands) request)
 
+-- what is said of a request to a session with these commands, by the world that is held of it
+abbrev pub verdict_in : List Story → List Command → Option WorldState → Request → Verdict
+verdict_in stories commands now request =
+    if needs_world stories (game_of commands) request && is_none now then Cold
+    else foretold stories commands now request
+
 -- what a desk says of a request, by the world that it holds
 abbrev pub verdict : DeskState → Request → Verdict
-verdict desk request =
-    if lacks_world desk request then Cold
-    else foretold desk.stories desk.commands (world_now desk.held) request
+verdict desk request = verdict_in desk.stories desk.commands (world_now desk.held) request

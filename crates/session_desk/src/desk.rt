@@ -27,16 +27,15 @@ ghost use Rattle.session_desk.specs.Verdict.{verdict};
 ghost use Rattle.session_desk.specs.declared.held.Held.TheVariants.{Current};
 ghost use Rattle.session_desk.specs.declared.verdict.Verdict.TheVariants.{Cold};
 
-use crate::check::{in_no_world, in_world};
 use crate::game::{begins_of, game_at, inputs_at};
 use crate::held::{Held, ran};
 use crate::rows::{commands_of, last_open};
-use crate::verdict::Verdict;
+use crate::verdict::{Verdict, verdict_of};
 use disk_model::Disk;
 use gate_journal::{Command, Journal, Row};
 use line_words::Request;
 use mark::Mark;
-use session_core::{Entry, is_in_use, plain_refusal, shown_number};
+use session_core::{Entry, is_in_use, shown_number};
 use session_saves::{Missed, Saves};
 use snap_store::Store;
 use std::alloc::{AllocError, Global};
@@ -180,17 +179,8 @@ impl<'i, D: Disk + Drop> Desk<'i, D> {
     {
         let commands = self.commands.as_slice();
         let game = game_at(commands, self.begins);
-        if let Some(why) = plain_refusal(self.stories, game, request) {
-            return Verdict::Refuse(why);
-        }
-        match &self.held {
-            Held::Current(world) => {
-                in_world(self.alloc, self.stories, commands, game, world, request)
-            }
-            Held::Nothing | Held::Previous(_) => {
-                in_no_world(self.stories, commands, game, request)
-            }
-        }
+        let now = self.held.now();
+        verdict_of(self.alloc, self.stories, commands, game, now, request)
     }
 
     /// Plays a cold session from the newest area of its last OPEN row on, or from the start. One

@@ -1,7 +1,8 @@
 //! The world that a desk holds (own).
 
 ghost use Rattle.std.specs.Prelude.{◌≡◌, IfOk};
-ghost use Rattle.session_desk.specs.Desk.{aside, held_of, held_then};
+ghost use Rattle.std.specs.Option.{option_copied};
+ghost use Rattle.session_desk.specs.Desk.{aside, held_of, held_then, world_now};
 
 use gate_journal::Command;
 use session_core::{is_in_use, turned, world_of};
@@ -16,6 +17,18 @@ pub enum Held<'i> {
     Current(World<'i>),
     /// The world that the last command turns into that.
     Previous(World<'i>),
+}
+
+impl<'i> Held<'i> {
+    /// The world of the session as it is now, if that is held.
+    pub fn now(&self) -> Option<&World<'i>>
+        ensures { option_copied result ≡ world_now self.now }
+    {
+        match self {
+            Held::Current(world) => Some(world),
+            Held::Nothing | Held::Previous(_) => None,
+        }
+    }
 }
 
 /// The world of a session that was just opened, or nothing of one that was closed.

@@ -2,7 +2,6 @@
 //! played from the start for each request.
 #![tactic(auto)]
 
-mod check;
 mod desk;
 mod game;
 mod held;
@@ -11,7 +10,6 @@ mod refused;
 mod rows;
 mod turned;
 mod verdict;
-mod wanted;
 
 pub use desk::Desk;
 pub use laws::{
