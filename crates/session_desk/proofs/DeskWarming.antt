@@ -1,6 +1,6 @@
 -- A desk that is made warm.
 use Rattle.std.proofs.Common.{◌≡◌, ◌≢◌, ℕ, ◌+◌, ◌≤◌, true, false, IsTrue, List, length}
-use Rattle.std.proofs.Common.{Option, Some, IsSome, Result, Ok, Err, refl, sym, subst, ◌∙◌}
+use Rattle.std.proofs.Common.{Option, Some, IsSome, Result, Ok, Err, refl, sym, ◌∙◌}
 use Rattle.std.specs.Prelude.{OnOk}
 use Rattle.std.proofs.lemmas.Bool.{and_parts}
 use Rattle.disk_model.specs.Disk.{Rose}

@@ -84,7 +84,7 @@ inside_send κ T g s =
               (
                 search sendable depth 20,
                 (
-                  held.the_send κ,
+                  held.the_field_send κ,
                   (
                     marks_send,
                     (

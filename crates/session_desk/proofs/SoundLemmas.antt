@@ -2,7 +2,6 @@
 use Rattle.std.proofs.Common.{◌≡◌, ℕ, ◌≤◌, max, Bool, false, IsTrue, List, [], ◌∷◌, length}
 use Rattle.std.proofs.Common.{◌++◌, replicate, Option, Some, Result, Ok, Err, refl, sym, ap}
 use Rattle.std.proofs.Common.{subst, ◌∙◌, append_assoc, arith}
-use Rattle.std.specs.Prelude.{OnErr, OnOk}
 use Rattle.std.specs.List.{Contains}
 use Rattle.std.proofs.lemmas.List.{append-nil}
 use Rattle.disk_model.specs.Work.{EachImage, LeavesOnly, OnlyLooks, SameDisk}
@@ -17,7 +16,6 @@ use Rattle.gate_journal.specs.declared.entry.Entry.{Entry as JournalEntry}
 use Rattle.line_words.specs.declared.request.Request.{Request}
 use Rattle.story_run.specs.declared.story.Story.{Story}
 use Rattle.story_run.specs.World.{WorldState}
-use Rattle.session_core.specs.declared.entry.Entry.{Entry}
 use Rattle.session_core.specs.History.{game_of, world_of}
 use Rattle.snap_store.specs.Store.{IsImageOf, Snapshots, store_area}
 use Rattle.snap_store.specs.declared.side.Side.{Side}

@@ -1,7 +1,7 @@
 -- What a session will answer, by the checks that hold.
 use Rattle.std.proofs.Common.{◌≡◌, ◌==◌, Bool, true, false, ◌&&◌, ◌||◌, not, nat_le, List, ℕ}
-use Rattle.std.proofs.Common.{Option, Some, None, is_none, refl, sym}
-use Rattle.std.specs.Option.{option_map}
+use Rattle.std.proofs.Common.{Bor, Option, Some, None, is_none, refl}
+use Rattle.std.specs.Option.{option_copied}
 use Rattle.gate_journal.specs.declared.command.Command.{Command}
 use Rattle.gate_journal.specs.declared.command.Command.TheVariants as commands
 use Rattle.line_words.specs.declared.request.Request.{Request}
@@ -14,7 +14,7 @@ use Rattle.session_core.specs.History.{command_count, game_of, is_in_use, has_ke
 use Rattle.session_core.specs.Checks.{command_of, opening_command, is_absent, is_fresh, outline}
 use Rattle.session_core.specs.Answer.{accepted_by, first_refusal, plain_checks, refusal_in}
 use Rattle.session_core.proofs.RepeatLemmas.{all_fail}
-use Rattle.session_desk.specs.declared.verdict.Verdict.TheVariants.{Refuse, Again, Fresh, Cold}
+use Rattle.session_desk.specs.declared.verdict.Verdict.TheVariants.{Refuse, Again, Fresh}
 use Rattle.session_desk.specs.Verdict.{is_close_request, needs_world, verdict_in}
 
 -- ---- what a new request asks for
@@ -103,20 +103,10 @@ free_gives stories game (Watch s word from) none free = refl
 
 -- ---- the verdict, by the refusal
 
--- what isn't lacking, as the call tests it
-pub not_lacking : {A B : Type 0} (f : A → B) (o : Option A) (needs : Bool)
-    → (is_none o && needs) ≡ false → (needs && is_none (option_map f o)) ≡ false
-not_lacking f None true e = absurd cc
-not_lacking f None false e = refl
-not_lacking f (Some x) true e = refl
-not_lacking f (Some x) false e = refl
-
-pub told-cold : {A : Type 0} (view : A → WorldState) (stories : List Story)
-    (commands : List Command) (found : Option A) (request : Request)
-    → is_none found ≡ true → needs_world stories (game_of commands) request ≡ true
-    → Cold ≡ verdict_in stories commands (option_map view found) request
-told-cold view stories commands None request none needs = rw needs refl
-told-cold view stories commands (Some x) request none needs = absurd cc
+-- a world that is lent is there where it is held
+pub none_copied : {T : Type 0} (lent : Option (Bor T)) → is_none (option_copied lent) ≡ is_none lent
+none_copied None = refl
+none_copied (Some x) = refl
 
 module _ (stories : List Story) (commands : List Command) (now : Option WorldState)
     (request : Request)

@@ -23,19 +23,15 @@ pub record DeskState : Type 0 where
   pub commands : List Command
   pub held : Held
 
--- the desk of these fields
-abbrev pub desk_of : ℕ → List Story → ℕ → List Command → Held → DeskState
-desk_of session stories budget commands held = record {
+-- a desk with these commands that holds no world
+abbrev pub cold_desk : ℕ → List Story → ℕ → List Command → DeskState
+cold_desk session stories budget commands = record {
   session = session;
   stories = stories;
   budget = budget;
   commands = commands;
-  held = held;
+  held = Nothing;
 }
-
--- a desk with these commands that holds no world
-abbrev pub cold_desk : ℕ → List Story → ℕ → List Command → DeskState
-cold_desk session stories budget commands = desk_of session stories budget commands Nothing
 
 -- the session's last OPEN and the commands since
 abbrev pub game : DeskState → List Command

@@ -10,13 +10,12 @@ ghost use Rattle.gate_journal.specs.Rows.{commands_of};
 ghost use Rattle.story_run.specs.World.{WorldState};
 ghost use Rattle.session_core.specs.Answer.{shown_number};
 ghost use Rattle.session_core.specs.Checks.{is_other_story};
-ghost use Rattle.session_core.specs.History.{last_of, world_of};
+ghost use Rattle.session_core.specs.History.{last_of};
 ghost use Rattle.session_core.specs.Turning.{commands_in};
 ghost use Rattle.snap_store.specs.File.{area_given, newest_area};
 ghost use Rattle.session_saves.specs.Agreement.{last_row};
 ghost use Rattle.session_saves.specs.Game.{inputs_of, turns_after};
 ghost use Rattle.session_saves.specs.Keeping.{MayStandMeanwhile};
-ghost use Rattle.session_saves.specs.Saves.{IsKeptUp};
 ghost use Rattle.session_saves.specs.Warming.{count_in};
 ghost use Rattle.session_desk.specs.Desk.{desk_emptied, game, HoldsOwnWorld, is_cold, is_to_run};
 ghost use Rattle.session_desk.specs.Desk.{last_show, ran};
@@ -43,7 +42,7 @@ use std::marker::Model;
 use std::mem;
 use std::snapshot::Snapshot;
 use std::sync::ledger::Ledger;
-use story_run::{Steps, Story, World};
+use story_run::{Steps, Story};
 use turn_cell::{Pass, Told};
 
 mod commit;
@@ -231,7 +230,8 @@ impl<'i, D: Disk + Drop> Desk<'i, D> {
     {
         let held = mem::replace(&mut self.held, Held::Nothing);
         let game = game_at(&self.commands, self.begins);
-        self.held = ran(alloc, self.stories, game, held)?;
+        let now = ran(alloc, self.stories, game, held)?;
+        self.held = now;
         Ok(())
     }
 

@@ -1,6 +1,6 @@
 //! What a desk says of a request (own).
 
-ghost use Rattle.std.specs.Prelude.{◌≡◌, ◌≤◌, length};
+ghost use Rattle.std.specs.Prelude.{◌≡◌, ◌≤◌, ◌&&◌, is_none, length};
 ghost use Rattle.std.specs.Option.{option_copied};
 ghost use Rattle.session_core.specs.History.{game_of};
 ghost use Rattle.session_desk.specs.Verdict.{needs_world, verdict_in};
@@ -35,6 +35,16 @@ fn needs_world(stories: &[Story], game: &[Command], request: &Request) -> bool
         && !matches!(request, Request::Close { .. })
 }
 
+/// The answer needs the world, and it isn't held.
+#[tactic(auto, using(crate::proofs::VerdictLemmas::none_copied))]
+fn lacks_world(stories: &[Story], game: &[Command], now: Option<&World>, request: &Request) -> bool
+    requires { length game.now ≤ 8192 }
+    ensures { result ≡ (needs_world stories.now game.now request.now
+        && is_none (option_copied now.entry)) }
+{
+    now.is_none() && needs_world(stories, game, request)
+}
+
 /// What is said of a request to a session with these commands, whose last game this is, by the
 /// world that is held of it. It takes no memory.
 pub(crate) fn verdict_of(
@@ -49,7 +59,7 @@ pub(crate) fn verdict_of(
     requires within { length game.now ≤ 8192 }
     ensures { result ≡ verdict_in stories.now commands.now (option_copied now.entry) request.now }
 {
-    if now.is_none() && needs_world(stories, game, request) {
+    if lacks_world(stories, game, now, request) {
         return Verdict::Cold;
     }
     if let Some(why) = refusal_in(alloc, stories, commands, game, now, request) {

@@ -2,7 +2,6 @@
 
 ghost use Rattle.std.specs.Prelude.{◌≡◌, ◌<◌, ◌++◌, ◌∷◌, [], IsTrue, IsSome, IfErr, IfOk, OnOk};
 ghost use Rattle.std.specs.Prelude.{OnErr, Some, false, length, vec_len, vec_capacity};
-ghost use Rattle.disk_model.specs.declared.disk.Disk.{Ghosts as DiskWords};
 ghost use Rattle.turn_cell.specs.Passes.{IsOf, seen};
 ghost use Rattle.gate_journal.specs.Command.{HasDigest, IsCommand};
 ghost use Rattle.gate_journal.specs.Log.{rows_of};

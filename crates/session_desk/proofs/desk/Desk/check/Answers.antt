@@ -8,7 +8,7 @@ pub returns : goal.returns
 returns g c =
     let desk = (state_of c.self.inside).desk in
     let said : c.verdict_of.result ≡ verdict desk c.args.request.now =
-    rw c.now-now.ensures at c.verdict_of.ensures in
+    rw (c.as_slice-commands.ensures.value, c.now-now.ensures) at c.verdict_of.ensures in
     rw (← c.self.view_is)
     (record {
       value = said;

@@ -8,7 +8,7 @@ invariant_of-self g c = (
   whole-kept g.D.Disk c.self.inside.marks.items c.self.inside.place _
       c.keep.new.self c.self.invariant.2 c.keep.ensures.kept c.keep.ensures.counts
       c.keep.ensures.reach c.in-Some-Current.place c.inputs_at-count.result
-      c.in-Some-Current.world.now c.in-Some-Current.is c.inputs_at-count.ensures
-      c.in-Some-Current.is-2 c.keep.ensures.kept_up c.keep.ensures.agreed c.keep.ensures.crash
+      c.in-Some-Current.world c.in-Some-Current.is-0 (rw c.deref.ensures.value at c.inputs_at-count.ensures)
+      c.in-Some-Current.is-1 c.keep.ensures.kept_up c.keep.ensures.agreed c.keep.ensures.crash
       c.keep.ensures.newest,
 )

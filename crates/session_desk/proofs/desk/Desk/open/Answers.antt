@@ -1,14 +1,12 @@
-use Rattle.std.proofs.Common.{◌≡◌, ◌≤◌, ◌∙◌, ap, subst, sym, ℕ, List, length, replicate, arith, rules}
+use Rattle.std.proofs.Common.{◌≡◌, ◌≤◌, ◌∙◌, ap, subst, sym, ℕ, List, length, replicate, arith}
 use Rattle.gate_journal.specs.declared.command.Command.{Command}
 use Rattle.session_desk.specs.declared.desk.mark.Mark.TheVariants as marks
-use Rattle.session_desk.specs.Desk.{BeginsAt, cold_desk}
+use Rattle.session_desk.specs.Desk.{cold_desk}
 use Rattle.session_desk.proofs.SoundLemmas.{whole-open}
 use Rattle.session_desk.proofs.desk.Desk.open.Goals as goal
 
 pub invariant_of-result : goal.invariant_of-result
 invariant_of-result g c =
-    let begun : BeginsAt c.begins_of-begins.result c.in_ok-commands.commands.items =
-    search rules in
     let all : c.in_ok-marks.marks.items
     ≡ replicate (length c.in_ok-commands.commands.items) (marks.Accepted 0) =
     c.in_ok-marks.ensures.items_if_clones_equal (λ y is. is)
@@ -20,7 +18,7 @@ invariant_of-result g c =
             c.requires.within;
         in_use = tt;
       },
-      begun,
+      rw c.deref.ensures.value at c.begins_of-begins.ensures,
       (whole-open g.D.Disk g.met.D.Disk.only_now c.in_ok-marks.marks.items c.last_open-place.result
           (cold_desk c.args.session c.args.stories.now c.args.budget
           c.in_ok-commands.commands.items)

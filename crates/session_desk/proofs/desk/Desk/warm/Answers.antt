@@ -38,14 +38,15 @@ unwrap-requires g c =
     (g.D.Disk.faults c.warm.new.self.store.disk)
     old.desk.stories old.desk.commands c.in_ok-world.world c.args.steps.now c.warm.new.steps
     (cold_used old.desk cold) other
-    (rw c.game_at-game.ensures.value at c.in_ok-world.ensures.found)
+    (rw (c.game_at-game.ensures.value, c.deref.ensures.value) at c.in_ok-world.ensures.found)
 
 pub invariant_of-self-2 : goal.invariant_of-self-2
 invariant_of-self-2 g c =
     let old = state_of c.self.inside in
     let cold : is_cold old.desk ≡ true = rw (← c.self.view_is) at c.requires.cold in
     let other : is_other_story old.desk.stories (game old.desk) ≡ false =
-    rw (← c.self.view_is) at c.requires.story in (
+    rw (← c.self.view_is) at c.requires.story in
+    let played = rw c.deref.ensures.value at c.game_at-game.ensures.value in (
       record {
         numbered = c.self.invariant.0.numbered;
         within = c.self.invariant.0.within;
@@ -58,7 +59,7 @@ invariant_of-self-2 g c =
           c.in_ok-world.ensures.areas c.in_ok-world.ensures.slots
           (warm_own g.D.Disk c.self.inside.marks.items c.self.inside.place old
           c.game_at-game.result.now c.unwrap-place.result c.in_ok-world.world c.unwrap.result
-          c.self.invariant.2 c.unwrap-place.ensures c.game_at-game.ensures.value
+          c.self.invariant.2 c.unwrap-place.ensures played
           c.unwrap.ensures other c.in_ok-world.ensures.value),
     )
 
@@ -67,23 +68,25 @@ returns g c =
     let old = state_of c.self.inside in
     let other : is_other_story old.desk.stories (game old.desk) ≡ false =
     rw (← c.self.view_is) at c.requires.story in
+    let played = rw c.deref.ensures.value at c.game_at-game.ensures.value in
     rw (← c.self.view_is)
     (record {
       found =
           warms_held g.D.Disk c.self.inside.marks.items c.self.inside.place old
           c.warm.new.self c.game_at-game.result.now c.unwrap-place.result c.in_ok-world.world
           c.unwrap.result c.args.steps.now c.warm.new.steps c.self.invariant.2
-          c.unwrap-place.ensures c.game_at-game.ensures.value c.unwrap.ensures
-          c.in_ok-world.ensures.found;
+          c.unwrap-place.ensures played
+          c.unwrap.ensures c.in_ok-world.ensures.found;
       own =
           warm_own g.D.Disk c.self.inside.marks.items c.self.inside.place old
           c.game_at-game.result.now c.unwrap-place.result c.in_ok-world.world c.unwrap.result
-          c.self.invariant.2 c.unwrap-place.ensures c.game_at-game.ensures.value
+          c.self.invariant.2 c.unwrap-place.ensures played
           c.unwrap.ensures other c.in_ok-world.ensures.value;
       cost =
           warm_cost g.D.Disk c.self.inside.marks.items c.self.inside.place old c.warm.new.self
           c.game_at-game.result.now c.unwrap-place.result c.args.steps.now
-          c.warm.new.steps c.self.invariant.2 c.unwrap-place.ensures c.game_at-game.ensures.value
+          c.warm.new.steps c.self.invariant.2 c.unwrap-place.ensures
+          played
           other c.in_ok-world.ensures.cost;
       err = tt;
       rests = record { desk = refl; history = refl; pass = refl; tag = refl };
