@@ -32,7 +32,7 @@ use Rattle.session_desk.specs.Turn.{history_in}
 use Rattle.session_desk.proofs.FileLemmas.{first_rows}
 use Rattle.session_desk.proofs.HistoryLemmas.{commands_in-history}
 use Rattle.session_desk.proofs.OpensLemmas.{opens_of-since, rows_of-append}
-use Rattle.session_desk.proofs.SharedLemmas.{commands_in-unnumbered, history_in-since, kept-since}
+use Rattle.session_desk.proofs.SharedLemmas.{commands_in-unnumbered, commands_of-since, history_in-since}
 use Rattle.host_serve.specs.declared.host.Host.{Host}
 use Rattle.host_serve.specs.declared.host.Passes.{Passes}
 use Rattle.host_serve.specs.Ending.{AreAgreedDisks, EndsAt, EndsWith, GivesBack, IsAgreedDisk}
@@ -363,7 +363,7 @@ module _ {D : Type 0} (words : DiskWords D) (host : Host D) (passes : Passes D)
       (IsAgreedFile host.stories.now x.0 (game_of x.1)))
       (λ i. (
         sym (opens_of-since s log.entries r.seen rows since') i,
-        sym (kept-since s log.entries r.seen (commands_of (rows_of r.seen) s) rows since' refl) i,
+        sym (commands_of-since s log.entries r.seen rows since') i,
       ))
       (r.agreed (sound s store.0 store.1))
 
